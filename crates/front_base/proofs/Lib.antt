@@ -1,0 +1,3 @@
+mod CivilLemmas
+mod Padding
+mod YearLemmas

@@ -1,0 +1,30 @@
+//! The plain types that all layers share: texts, users, request information, moments, audit IDs and audit lines.
+//!
+//! The main contracts are those of `audit_id_text` and `moment_text`, which give the text of every audit ID and of
+//! every moment exactly. The types that hold text or bytes are seen by contracts as lists, so that a clause compares
+//! them by `≡`.
+//!
+//! Nothing here is promised about what a text or a user means: the crates above read and write them.
+#![tactic(auto)]
+
+mod address;
+mod audit_id;
+mod info;
+mod level;
+mod line;
+mod memory;
+mod moment;
+mod stage;
+mod text;
+mod user;
+
+pub use address::Address;
+pub use audit_id::{AuditId, audit_id_text};
+pub use info::Info;
+pub use level::Level;
+pub use line::{Line, MOST_LINE_BYTES};
+pub use memory::NoMemory;
+pub use moment::{MOMENT_END, Moment, moment_text};
+pub use stage::Stage;
+pub use text::{Bytes, Text, Texts};
+pub use user::User;

@@ -1,0 +1,124 @@
+ghost use Rattle.std.specs.Prelude.{◌≡◌, string_bytes};
+
+use std::marker::Model;
+
+/// A text in UTF-8, which contracts see as the list of its bytes.
+#[derive(Debug, Drop)]
+pub struct Text(String);
+
+impl Model for Text {
+    ghost use Rattle.std.specs.Prelude.{ℕ, List, string_bytes};
+
+    ghost Value = { List ℕ };
+
+    ghost view = { λ t. string_bytes t.0 };
+}
+
+impl Text {
+    pub fn new(text: String) -> Text
+        ensures { result ≡ string_bytes text }
+    {
+        Text(text)
+    }
+
+    pub fn as_str(&self) -> &str
+        ensures { result.now ≡ self.now }
+    {
+        self.0.as_str()
+    }
+
+    pub fn into_string(self) -> String
+        ensures { string_bytes result ≡ self }
+    {
+        let Text(text) = self;
+        text
+    }
+}
+
+/// Bytes of any kind, which contracts see as a list.
+#[derive(Debug, Drop)]
+pub struct Bytes(Vec<u8>);
+
+impl Model for Bytes {
+    ghost use Rattle.std.specs.Prelude.{ℕ, List};
+
+    ghost Value = { List ℕ };
+
+    ghost view = { λ b. b.0.items };
+}
+
+impl Bytes {
+    pub fn new(bytes: Vec<u8>) -> Bytes
+        ensures { result ≡ bytes.items }
+    {
+        Bytes(bytes)
+    }
+
+    pub fn as_slice(&self) -> &[u8]
+        ensures { result.now ≡ self.now }
+    {
+        self.0.as_slice()
+    }
+
+    pub fn into_vec(self) -> Vec<u8>
+        ensures { result.items ≡ self }
+    {
+        let Bytes(bytes) = self;
+        bytes
+    }
+}
+
+/// Texts in order, which contracts see as a list of lists of bytes.
+#[derive(Debug, Drop)]
+pub struct Texts(Vec<Text>);
+
+impl Model for Texts {
+    ghost use Rattle.std.specs.Prelude.{ℕ, List};
+
+    ghost Value = { List (List ℕ) };
+
+    ghost view = { λ t. t.0.items };
+}
+
+impl Texts {
+    pub fn new(texts: Vec<Text>) -> Texts
+        ensures { result ≡ texts.items }
+    {
+        Texts(texts)
+    }
+
+    pub fn as_slice(&self) -> &[Text]
+        ensures { result.now ≡ self.now }
+    {
+        self.0.as_slice()
+    }
+
+    pub fn into_vec(self) -> Vec<Text>
+        ensures { result.items ≡ self }
+    {
+        let Texts(texts) = self;
+        texts
+    }
+}
+
+#[cfg(test)]
+mod tests {
+    use super::*;
+    use std::test::Fail;
+
+    #[test]
+    fn gives_back_what_it_was_made_of(rt: HostRuntime) -> Result<(), Fail> {
+        let alloc = rt.alloc();
+        let text = Text::new(String::from_str(alloc, "pods")?);
+        assert_eq!(rt; text.as_str(), "pods");
+        let texts = Texts::new(vec![in alloc; text]?);
+        assert_eq!(rt; texts.as_slice().len(), 1);
+        for text in texts.into_vec() {
+            assert_eq!(rt; text.into_string().as_str(), "pods");
+        }
+        let bytes = Bytes::new(vec![in alloc; 0, 255]?);
+        assert_eq!(rt; bytes.as_slice(), [0, 255].as_slice());
+        assert_eq!(rt; bytes.into_vec().as_slice(), [0, 255].as_slice());
+        Ok(())
+    }
+}
