@@ -1,0 +1,5 @@
+pub mod Cause
+pub mod FileMap
+pub mod Memory
+pub mod Side
+pub mod Written

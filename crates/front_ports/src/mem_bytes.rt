@@ -1,0 +1,66 @@
+ghost use Rattle.std.specs.Prelude.{◌≡◌, ◌≤◌, [], IfOk, vec_len, vec_capacity};
+
+use crate::stream::{ByteSink, PortFault};
+use front_base::NoMemory;
+use std::alloc::Global;
+
+/// A sink in memory, which keeps what was written and tells it. It writes into room that was reserved when it was made.
+#[derive(Debug, Drop)]
+pub struct MemBytes {
+    bytes: Vec<u8>,
+    room: usize,
+    fails: Vec<u64>,
+    calls: u64,
+    faults: u64,
+    ghost reserved: { room ≤ vec_capacity bytes },
+    ghost within: { vec_len bytes ≤ room },
+}
+
+impl MemBytes {
+    ghost use Rattle.front_ports.specs.Memory.{bytes_written, bytes_faults};
+
+    /// A sink with room for so many bytes, whose writes of these numbers fail, counted from 1. A write that would pass the
+    /// room fails too.
+    pub fn new(alloc: Global, room: u64, write_fails: Vec<u64>) -> Result<MemBytes, NoMemory>
+        ensures empty { IfOk result (λ sink. bytes_written sink ≡ []) }
+        ensures fresh { IfOk result (λ sink. bytes_faults sink ≡ 0) }
+    {
+        let room = room as usize;
+        Ok(MemBytes {
+            bytes: Vec::with_capacity(alloc, room)?,
+            room,
+            fails: write_fails,
+            calls: 0,
+            faults: 0,
+        })
+    }
+
+    /// What was written.
+    pub fn bytes(&self) -> &[u8]
+        ensures { result.now ≡ bytes_written self.now }
+    {
+        self.bytes.as_slice()
+    }
+}
+
+impl ByteSink for MemBytes {
+    ghost use Rattle.std.specs.Prelude.{Some, None, []};
+
+    ghost written = { λ m. Some m.bytes.items };
+
+    ghost write_faults = { λ m. m.faults };
+
+    ghost inward = { λ m. record { told = None; faults = 0; mark = [] } };
+
+    fn write(&mut self, piece: &[u8]) -> Result<usize, PortFault> {
+        self.calls = self.calls.saturating_add(1);
+        if self.fails.contains(&self.calls) || self.room - self.bytes.len() < piece.len() {
+            self.faults = self.faults.saturating_add(1);
+            return Err(PortFault);
+        }
+        match self.bytes.extend_from_slice(piece) {
+            Ok(()) => Ok(piece.len()),
+            Err(_) => unreachable!(),
+        }
+    }
+}

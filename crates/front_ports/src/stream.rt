@@ -1,0 +1,81 @@
+ghost use Rattle.std.specs.Prelude.{◌≡◌, ◌<◌, List, ℕ, Option, IfOk, OnOk, OnErr, length};
+ghost use Rattle.std.specs.Io.{ReadsAtMost, WritesAtMost};
+ghost use Rattle.std.specs.Io.KnownBytes.{Appends, ReadConsumes, WriteAppends};
+ghost use Rattle.front_ports.specs.Cause.{HasCause};
+ghost use Rattle.front_ports.specs.Side.{Side};
+ghost use Rattle.front_ports.specs.Written.{AppendsFront};
+
+/// A call on the outside failed.
+#[derive(Clone, Copy, Debug, PartialEq, Eq)]
+pub struct PortFault;
+
+/// Where bytes come from.
+pub trait Source {
+    /// The bytes that it will still give, where it tells them.
+    ghost left: { Self → Option (List ℕ) };
+
+    /// How often a read failed. It never falls.
+    ghost read_faults: { Self → ℕ };
+
+    /// The other side of the same object, which no read changes.
+    ghost outward: { Self → Side };
+
+    /// Puts the next bytes at the front of the buffer, and answers how many there are. `Ok(0)` is the end of the input.
+    fn read(&mut self, buf: &mut [u8]) -> Result<usize, PortFault>
+        requires { 0 < length buf.old }
+        ensures bound { ReadsAtMost result buf.new }
+        ensures bytes { ReadConsumes (left self.old) (left self.new) result buf.new }
+        ensures cause { HasCause (read_faults self.old) (read_faults self.new) result }
+        ensures aside { outward self.new ≡ outward self.old };
+}
+
+/// Where bytes go.
+pub trait ByteSink {
+    /// The bytes that were written, where it tells them.
+    ghost written: { Self → Option (List ℕ) };
+
+    /// How often a write failed. It never falls.
+    ghost write_faults: { Self → ℕ };
+
+    /// The other side of the same object, which no write changes.
+    ghost inward: { Self → Side };
+
+    /// Takes bytes from the front of the piece, one at least, and answers how many. A write of nothing is a fault.
+    fn write(&mut self, piece: &[u8]) -> Result<usize, PortFault>
+        requires { 0 < length piece.now }
+        ensures bound { WritesAtMost result piece.now }
+        ensures some { IfOk result (λ n. 0 < n) }
+        ensures bytes { WriteAppends (written self.old) (written self.new) result piece.now }
+        ensures cause { HasCause (write_faults self.old) (write_faults self.new) result }
+        ensures aside { inward self.new ≡ inward self.old };
+}
+
+/// A connection that was accepted.
+pub trait Conn: Source + ByteSink {
+    /// The IPv4 address of the peer, which no call changes.
+    ghost from: { Self → List ℕ };
+
+    fn peer(&self) -> [u8; 4]
+        ensures { result ≡ from self.now };
+
+    /// What a read leaves is the output, and what a write leaves is the input.
+    ghost outward_is: { (c : Self) →
+        Self.outward c ≡ record { told = Self.written c; faults = Self.write_faults c; mark = from c } };
+
+    ghost inward_is: { (c : Self) →
+        Self.inward c ≡ record { told = Self.left c; faults = Self.read_faults c; mark = from c } };
+}
+
+/// Writes all of a text, in as many writes as the sink wants. On a fault, a front of it was written.
+pub fn write_all<O: ByteSink>(out: &mut O, text: &[u8]) -> Result<(), PortFault>
+    ensures ok { OnOk result (Appends (O.written out.old) (O.written out.new) text.now) }
+    ensures err { OnErr result (AppendsFront (O.written out.old) (O.written out.new) text.now) }
+    ensures cause { HasCause (O.write_faults out.old) (O.write_faults out.new) result }
+    ensures aside { O.inward out.new ≡ O.inward out.old }
+{
+    let mut at = 0;
+    while at < text.len() {
+        at += out.write(&text[at..])?;
+    }
+    Ok(())
+}
