@@ -1,0 +1,5 @@
+mod BlockLemmas
+mod FrontLemmas
+mod HeadLemmas
+mod LineLemmas
+mod RequestLemmas

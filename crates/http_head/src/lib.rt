@@ -1,0 +1,20 @@
+//! Heads of HTTP/1.1 messages (RFC 9112): where a head ends in a stream, and what it says.
+//!
+//! The main contract is that of `read_request`: its answer is the one that the table of answers states, whatever the
+//! bytes are. A head is what the grammar of the crate `httparse` reads in its default configuration.
+//!
+//! Nothing is promised of what a head means: that is for the crates above.
+#![tactic(auto)]
+
+mod answer;
+mod block;
+mod header;
+mod request;
+
+pub use answer::HeadAnswer;
+pub use block::{MOST_HEAD_BYTES, MOST_LINES, blocks_are_bounded};
+pub use header::{Header, Headers};
+pub use request::{Head, MOST_HEADERS, one_head, read_request};
+
+#[cfg(test)]
+mod tests;
