@@ -1,0 +1,5 @@
+mod DeskLemmas
+mod ExplainLemmas
+mod InputLemmas
+mod LineLemmas
+mod PartsLemmas
