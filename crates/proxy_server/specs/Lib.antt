@@ -1,3 +1,4 @@
+pub mod Adapters
 pub mod Desk
 pub mod EventLine
 pub mod Explain

@@ -12,7 +12,12 @@ pub struct ReaderSource<R> {
 }
 
 impl<R: Read> ReaderSource<R> {
-    pub fn new(reader: R) -> Self {
+    ghost use Rattle.proxy_server.specs.Adapters.{source_reader, source_faults};
+
+    pub fn new(reader: R) -> Self
+        ensures reader { source_reader result ≡ reader }
+        ensures fresh { source_faults result ≡ 0 }
+    {
         ReaderSource { reader, faults: 0 }
     }
 }
@@ -43,7 +48,12 @@ pub struct WriterSink<W> {
 }
 
 impl<W: Write> WriterSink<W> {
-    pub fn new(writer: W) -> Self {
+    ghost use Rattle.proxy_server.specs.Adapters.{sink_writer, sink_faults};
+
+    pub fn new(writer: W) -> Self
+        ensures writer { sink_writer result ≡ writer }
+        ensures fresh { sink_faults result ≡ 0 }
+    {
         WriterSink { writer, faults: 0 }
     }
 }
