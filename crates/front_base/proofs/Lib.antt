@@ -1,3 +1,5 @@
 mod CivilLemmas
+mod NumberLemmas
 mod Padding
+mod VersionLemmas
 mod YearLemmas

@@ -1,6 +1,9 @@
+pub mod Address
 pub mod AuditId
 pub mod Civil
 pub mod Level
 pub mod Line
 pub mod Moment
+pub mod Number
 pub mod Stage
+pub mod Version

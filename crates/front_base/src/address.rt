@@ -1,7 +1,122 @@
+ghost use Rattle.std.specs.Prelude.{◌≡◌, ◌<◌, option_map};
+ghost use Rattle.front_base.specs.Address as spec;
+ghost use Rattle.front_base.specs.Number.{plain_number_of};
+
+use crate::number::plain_number_of;
+
 /// An IPv4 address and a TCP port.
 #[derive(Clone, Copy, Debug, PartialEq, Eq, Hash)]
 pub struct Address {
     /// The four bytes in the order in which they are written, `127.0.0.1` being 127, 0, 0, 1.
     pub ip: [u8; 4],
     pub port: u16,
+}
+
+// What stands before and after the first byte of that kind.
+fn cut(text: &str, at: char) -> Option<(&str, &str)>
+    requires { at < 128 }
+    ensures { option_map (λ parts. (parts.0.now, parts.1.now)) result ≡ spec.cut at text.now }
+{
+    text.split_once(at)
+}
+
+fn byte_of(text: &str) -> Option<u8>
+    ensures { result ≡ plain_number_of 255 text.now }
+{
+    match plain_number_of(255, text.as_bytes()) {
+        Some(number) => Some(number as u8),
+        None => None,
+    }
+}
+
+#[tactic(auto, unfolding(crate::specs::Address::port_of))]
+fn port_of(text: &str) -> Option<u16>
+    ensures { result ≡ spec.port_of text.now }
+{
+    match plain_number_of(65535, text.as_bytes()) {
+        Some(0) => None,
+        Some(number) => Some(number as u16),
+        None => None,
+    }
+}
+
+#[tactic(auto, unfolding(crate::specs::Address::dotted_of))]
+fn dotted_of(text: &str) -> Option<[u8; 4]>
+    ensures { result ≡ spec.dotted_of text.now }
+{
+    let (first, rest) = cut(text, '.')?;
+    let (second, rest) = cut(rest, '.')?;
+    let (third, fourth) = cut(rest, '.')?;
+    Some([
+        byte_of(first)?,
+        byte_of(second)?,
+        byte_of(third)?,
+        byte_of(fourth)?,
+    ])
+}
+
+#[tactic(auto, unfolding(crate::specs::Address::host_of))]
+fn host_of(text: &str) -> Option<[u8; 4]>
+    ensures { result ≡ spec.host_of text.now }
+{
+    if text == "localhost" {
+        Some([127, 0, 0, 1])
+    } else {
+        dotted_of(text)
+    }
+}
+
+/// The address that a text spells: `a.b.c.d:port` or `localhost:port`, which is 127.0.0.1. Each of a to d is 0 to 255
+/// and port is 1 to 65535, in decimal without leading zeros. Every other text is none.
+#[tactic(auto, unfolding(crate::specs::Address::address_of))]
+pub fn read_address(text: &str) -> Option<Address>
+    ensures { result ≡ spec.address_of text.now }
+{
+    let (host, port) = cut(text, ':')?;
+    let ip = host_of(host)?;
+    let port = port_of(port)?;
+    Some(Address { ip, port })
+}
+
+#[cfg(test)]
+mod tests {
+    use super::*;
+
+    #[test]
+    fn reads_dotted_and_local_addresses(rt: HostRuntime) {
+        let cases = [
+            ("127.0.0.1:8001", [127, 0, 0, 1], 8001),
+            ("localhost:1", [127, 0, 0, 1], 1),
+            ("0.10.255.9:65535", [0, 10, 255, 9], 65535),
+        ];
+        for (text, ip, port) in cases {
+            assert_eq!(rt; read_address(text), Some(Address { ip, port }));
+        }
+    }
+
+    #[test]
+    fn refuses_every_other_text(rt: HostRuntime) {
+        let cases = [
+            "",
+            "localhost",
+            "localhost:",
+            "localhost:0",
+            "127.0.0.1",
+            "127.0.0.1:0",
+            "127.0.0.01:80",
+            "127.0.0.1:080",
+            "256.0.0.1:80",
+            "1.2.3:80",
+            "1.2.3.4.5:80",
+            "1.2.3.4:65536",
+            "1.2.3.4:+80",
+            " 1.2.3.4:80",
+            "1..3.4:80",
+            "::1:80",
+            "Localhost:80",
+        ];
+        for text in cases {
+            assert_eq!(rt; read_address(text), None);
+        }
+    }
 }
