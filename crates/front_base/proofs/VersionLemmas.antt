@@ -31,8 +31,9 @@ same_texts a b e = (bytes_eq-Decides a b).0 (sym (is_eq-slice_cmp a b) ∙ ap is
 
 pub equal_versions : (a b : List ℕ) → version_order a b ≡ Equal ↔ a ≡ b
 equal_versions a b = (
-    (λ e. same_texts a b (last_equal
-        (nat_cmp (rank (key_of a).maturity) (rank (key_of b).maturity))
-        (nat_cmp (key_of b).major (key_of a).major) (nat_cmp (key_of b).minor (key_of a).minor)
-        (slice_cmp nat_cmp a b) e)),
-    (λ e. subst (λ y. version_order a y ≡ Equal) e (tied_itself version_total a)))
+  (λ e. same_texts a b (last_equal
+      (nat_cmp (rank (key_of a).maturity) (rank (key_of b).maturity))
+      (nat_cmp (key_of b).major (key_of a).major) (nat_cmp (key_of b).minor (key_of a).minor)
+      (slice_cmp nat_cmp a b) e)),
+  (λ e. subst (λ y. version_order a y ≡ Equal) e (tied_itself version_total a)),
+)

@@ -42,6 +42,13 @@ impl Moment {
         }
     }
 
+    /// The start of 1970.
+    pub fn epoch() -> Moment
+        ensures { result ≡ 0 }
+    {
+        Moment(0)
+    }
+
     pub fn micros(self) -> u64
         ensures value { result ≡ self }
         ensures bound { result < MOMENT_END }
@@ -134,6 +141,7 @@ mod tests {
             assert_eq!(rt; moment_text(rt.alloc(), moment)?.as_str(), text);
         }
         assert_eq!(rt; Moment::new(MOMENT_END), None);
+        assert_eq!(rt; Moment::epoch().micros(), 0);
         Ok(())
     }
 }

@@ -1,5 +1,7 @@
-ghost use Rattle.std.specs.Prelude.{◌≡◌, string_bytes};
+ghost use Rattle.std.specs.Prelude.{◌≡◌, IfOk, string_bytes};
 
+use crate::memory::NoMemory;
+use std::alloc::Global;
 use std::marker::Model;
 
 /// A text in UTF-8, which contracts see as the list of its bytes.
@@ -32,6 +34,20 @@ impl Text {
     {
         let Text(text) = self;
         text
+    }
+
+    /// A text of these bytes of its own.
+    pub fn copy_of(alloc: Global, text: &str) -> Result<Text, NoMemory>
+        ensures { IfOk result (λ t. t ≡ text.now) }
+    {
+        Ok(Text(String::from_str(alloc, text)?))
+    }
+
+    /// An equal text.
+    pub fn copy(&self, alloc: Global) -> Result<Text, NoMemory>
+        ensures { IfOk result (λ t. t ≡ self.now) }
+    {
+        Text::copy_of(alloc, self.as_str())
     }
 }
 
@@ -66,6 +82,13 @@ impl Bytes {
         let Bytes(bytes) = self;
         bytes
     }
+
+    /// Equal bytes.
+    pub fn copy(&self, alloc: Global) -> Result<Bytes, NoMemory>
+        ensures { IfOk result (λ b. b ≡ self.now) }
+    {
+        Ok(Bytes(self.as_slice().to_vec(alloc)?))
+    }
 }
 
 /// Texts in order, which contracts see as a list of lists of bytes.
@@ -99,6 +122,17 @@ impl Texts {
         let Texts(texts) = self;
         texts
     }
+
+    /// Equal texts.
+    pub fn copy(&self, alloc: Global) -> Result<Texts, NoMemory>
+        ensures { IfOk result (λ t. t ≡ self.now) }
+    {
+        let mut texts = Vec::new(alloc);
+        for text in self.as_slice() {
+            texts.push(text.copy(alloc)?)?;
+        }
+        Ok(Texts(texts))
+    }
 }
 
 #[cfg(test)]
@@ -111,13 +145,13 @@ mod tests {
         let alloc = rt.alloc();
         let text = Text::new(String::from_str(alloc, "pods")?);
         assert_eq!(rt; text.as_str(), "pods");
-        let texts = Texts::new(vec![in alloc; text]?);
+        let texts = Texts::new(vec![in alloc; text.copy(alloc)?]?).copy(alloc)?;
         assert_eq!(rt; texts.as_slice().len(), 1);
         for text in texts.into_vec() {
             assert_eq!(rt; text.into_string().as_str(), "pods");
         }
         let bytes = Bytes::new(vec![in alloc; 0, 255]?);
-        assert_eq!(rt; bytes.as_slice(), [0, 255].as_slice());
+        assert_eq!(rt; bytes.copy(alloc)?.as_slice(), [0, 255].as_slice());
         assert_eq!(rt; bytes.into_vec().as_slice(), [0, 255].as_slice());
         Ok(())
     }

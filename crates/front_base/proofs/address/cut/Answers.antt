@@ -14,8 +14,8 @@ lt_is a b h = grind (arith, nat_tests, h)
 
 cut_is : (at : ℕ) (text : List ℕ) (r : Option (Bor (List ℕ) × Bor (List ℕ)))
     → MatchOption r (position_or_len (λ b. b == at) text ≡ length text)
-        (λ x. (position_or_len (λ b. b == at) text < length text) × (x.0.now ≡ before_first (λ b. b == at) text)
-            × (x.1.now ≡ after_first (λ b. b == at) text))
+    (λ x. (position_or_len (λ b. b == at) text < length text) × (x.0.now ≡ before_first (λ b. b == at) text)
+    × (x.1.now ≡ after_first (λ b. b == at) text))
     → option_map (λ parts. (parts.0.now, parts.1.now)) r ≡ spec.cut at text
 unfolding spec.cut
 cut_is at text None h = rw (lt_not _ _ h) refl
