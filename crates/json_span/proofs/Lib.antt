@@ -1,0 +1,10 @@
+pub mod CompleteLemmas
+pub mod FlatLemmas
+pub mod NestingLemmas
+pub mod NumberLemmas
+pub mod RunLemmas
+pub mod SoundLemmas
+pub mod StringLemmas
+pub mod TextLemmas
+pub mod TokenLemmas
+pub mod UniqueLemmas
