@@ -3,11 +3,11 @@ use Rattle.std.proofs.Common.{◌≡◌, ℕ, ◌∷◌, [], ◌++◌, List, Boo
 use Rattle.std.proofs.lemmas.List.{append-nil}
 use Rattle.json_span.specs.Value.{Value, token, array, object, Items, no_items, item, Members, no_members, member, flat, flat_items, flat_members, comma_if, Padded, Spells, SpellsItems, SpellsMembers, StandsFor}
 
-bare : (P : List ℕ → Type 0) (t : List ℕ) → P t → Padded P t
+pub bare : (P : List ℕ → Type 0) (t : List ℕ) → P t → Padded P t
 bare P t h = ([], t, [], tt, h, tt, sym (append-nil t))
 
 mutual
-  flat_spells : (v : Value) (t : List ℕ) → Spells v t → Spells v (flat v)
+  pub flat_spells : (v : Value) (t : List ℕ) → Spells v t → Spells v (flat v)
   flat_spells (token s) t h = (h.0, refl)
   flat_spells (array vs) t h = (flat_items false vs, items_spell vs h.0 h.1, refl)
   flat_spells (object ms) t h = (flat_members false ms, members_spell ms h.0 h.1, refl)
@@ -16,7 +16,7 @@ mutual
   items_spell no_items t h = ([], tt, refl)
   items_spell (item v vs) t h = (flat v, flat_items true vs, bare (Spells v) (flat v) (flat_spells v h.2.1 h.2.4), more_spell vs h.1 h.3, refl)
 
-  more_spell : (vs : Items) (t : List ℕ) → SpellsItems true vs t → SpellsItems true vs (flat_items true vs)
+  pub more_spell : (vs : Items) (t : List ℕ) → SpellsItems true vs t → SpellsItems true vs (flat_items true vs)
   more_spell no_items t h = refl
   more_spell (item v vs) t h = (flat v, flat_items true vs, bare (Spells v) (flat v) (flat_spells v h.2.1 h.2.4), more_spell vs h.1 h.3, refl)
 

@@ -4,6 +4,7 @@ pub mod NestingLemmas
 pub mod NumberLemmas
 pub mod RunLemmas
 pub mod SoundLemmas
+pub mod SpanLemmas
 pub mod StringLemmas
 pub mod TextLemmas
 pub mod TokenLemmas

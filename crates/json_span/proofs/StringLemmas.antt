@@ -14,7 +14,7 @@ Takes = Accepts string_step string_ends
 abbrev Then : Option Inside → List ℕ → Type 0
 Then o bs = MatchOption o ⊥ (λ n. Takes n bs)
 
-abbrev joined : List (List ℕ) → List ℕ
+abbrev pub joined : List (List ℕ) → List ℕ
 joined = flat_map (λ (p : List ℕ). p)
 
 -- ---- what is taken, the grammar has

@@ -208,7 +208,7 @@ no_member n i j blanks name more x y are is string p at e =
 not_array : (t x y : List ℕ) → Begins t → t ++ x ≡ 91 ∷ y → ⊥
 not_array t x y h e = true≢false (subst NotOpen e (token_not_open t x h)).0
 
-not_object : (t x y : List ℕ) → Begins t → t ++ x ≡ 123 ∷ y → ⊥
+pub not_object : (t x y : List ℕ) → Begins t → t ++ x ≡ 123 ∷ y → ⊥
 not_object t x y h e = true≢false (subst NotOpen e (token_not_open t x h)).1
 
 behind : (a : List ℕ) (b : ℕ) (i x : List ℕ) → a ≡ b ∷ i → a ++ x ≡ b ∷ (i ++ x)

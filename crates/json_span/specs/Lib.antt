@@ -1,7 +1,9 @@
 pub mod Fault
 pub mod Machine
+pub mod Member
 pub mod Nesting
 pub mod Number
 pub mod Quote
+pub mod Span
 pub mod Strings
 pub mod Value

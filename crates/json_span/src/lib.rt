@@ -12,6 +12,7 @@ mod fault;
 mod joined;
 mod laws;
 mod literal;
+mod members;
 mod nesting;
 mod number;
 mod place;
@@ -23,5 +24,9 @@ mod token;
 pub use fault::{JsonError, JsonFault};
 pub use joined::compact;
 pub use laws::{compact_keeps_the_value, one_fault, one_value};
+pub use members::member;
 pub use quoted::quote;
 pub use text::check;
+
+#[cfg(test)]
+mod tests;
