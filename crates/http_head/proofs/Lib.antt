@@ -1,4 +1,5 @@
 mod BlockLemmas
+mod FramingLemmas
 mod FrontLemmas
 mod HeadLemmas
 mod LineLemmas

@@ -1,5 +1,7 @@
 pub mod Answer
 pub mod Block
+pub mod Connection
+pub mod Framing
 pub mod Name
 pub mod Request
 pub mod Texts

@@ -8,13 +8,19 @@
 
 mod answer;
 mod block;
+mod body;
+mod connection;
 mod header;
 mod request;
+mod transfer;
 
 pub use answer::HeadAnswer;
 pub use block::{MOST_HEAD_BYTES, MOST_LINES, blocks_are_bounded};
+pub use body::Framing;
+pub use connection::asks_to_close;
 pub use header::{Header, Headers};
 pub use request::{Head, MOST_HEADERS, one_head, read_request};
+pub use transfer::framing;
 
 #[cfg(test)]
 mod tests;

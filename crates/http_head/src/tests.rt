@@ -1,4 +1,4 @@
-use crate::{HeadAnswer, MOST_HEAD_BYTES, read_request};
+use crate::{Framing, HeadAnswer, MOST_HEAD_BYTES, asks_to_close, framing, read_request};
 use std::alloc::{AllocError, Global};
 use std::test::Fail;
 
@@ -125,5 +125,136 @@ fn heads_have_limits(rt: HostRuntime) -> Result<(), Fail> {
         letter(alloc, long_head(alloc, MOST_HEAD_BYTES, false)?.as_bytes())?,
         'T'
     );
+    Ok(())
+}
+
+// The header lines as a head, and how they frame a body in that version.
+fn framing_of(alloc: Global, lines: &str, minor: u8) -> Result<Option<Framing>, Fail> {
+    let text = format!(in alloc; "POST / HTTP/1.{minor}\r\n{lines}\r\n")?;
+    match read_request(alloc, text.as_bytes())? {
+        HeadAnswer::Whole { head, .. } => Ok(Some(framing(&head.headers, head.minor))),
+        _ => Ok(None),
+    }
+}
+
+#[test]
+fn framings_of_the_standard(rt: HostRuntime) -> Result<(), Fail> {
+    use Framing::{Bad, Chunked, Length, NoBody};
+    let cases = [
+        // RFC 9112, section 6.3, item 7: neither header, no body. Names compare whole.
+        ("", 1, NoBody),
+        ("Host: a\r\n", 1, NoBody),
+        ("", 0, NoBody),
+        ("Content-Lengths: 3\r\nX-Content-Length: 3\r\n", 1, NoBody),
+        ("Content-Type: a\r\nTE: chunked\r\n", 1, NoBody),
+        ("Trailer: X\r\nConnection: close\r\n", 1, NoBody),
+        // Section 6.2: a length is digits.
+        ("Content-Length: 0\r\n", 1, Length(0)),
+        ("Content-Length: 42\r\n", 1, Length(42)),
+        ("Content-Length: 42\r\n", 0, Length(42)),
+        ("content-length:42\r\n", 1, Length(42)),
+        ("CONTENT-LENGTH: \t42 \t\r\n", 1, Length(42)),
+        ("Content-Length: 007\r\n", 1, Length(7)),
+        (
+            "Content-Length: 9223372036854775807\r\n",
+            1,
+            Length(9223372036854775807),
+        ),
+        ("Content-Length: 0000000000000000042\r\n", 1, Length(42)),
+        ("Content-Length: 9223372036854775808\r\n", 1, Bad),
+        ("Content-Length: 9999999999999999999\r\n", 1, Bad),
+        ("Content-Length: 18446744073709551616\r\n", 1, Bad),
+        ("Content-Length: 00000000000000000042\r\n", 1, Bad),
+        ("Content-Length:\r\n", 1, Bad),
+        ("Content-Length: +42\r\n", 1, Bad),
+        ("Content-Length: -42\r\n", 1, Bad),
+        ("Content-Length: 4 2\r\n", 1, Bad),
+        ("Content-Length: 4_2\r\n", 1, Bad),
+        ("Content-Length: 0x2a\r\n", 1, Bad),
+        ("Content-Length: 42;\r\n", 1, Bad),
+        ("Content-Length: 42.0\r\n", 1, Bad),
+        ("Content-Length: many\r\n", 1, Bad),
+        // Section 6.3, item 5: several lengths, in one header or in more, alike or not.
+        ("Content-Length: 42, 42\r\n", 1, Bad),
+        ("Content-Length: 42,\r\n", 1, Bad),
+        ("Content-Length: 42\r\nContent-Length: 42\r\n", 1, Bad),
+        (
+            "Content-Length: 42\r\nX: y\r\ncontent-length: 43\r\n",
+            1,
+            Bad,
+        ),
+        // Section 6.1: the one coding is `chunked`, in version 1.1.
+        ("Transfer-Encoding: chunked\r\n", 1, Chunked),
+        ("transfer-encoding:CHUNKED \r\n", 1, Chunked),
+        ("Transfer-Encoding: Chunked\r\nHost: a\r\n", 1, Chunked),
+        ("Transfer-Encoding: chunked\r\n", 0, Bad),
+        ("Transfer-Encoding:\r\n", 1, Bad),
+        ("Transfer-Encoding: identity\r\n", 1, Bad),
+        ("Transfer-Encoding: gzip\r\n", 1, Bad),
+        ("Transfer-Encoding: gzip, chunked\r\n", 1, Bad),
+        ("Transfer-Encoding: chunked, chunked\r\n", 1, Bad),
+        ("Transfer-Encoding: chunked;q=1\r\n", 1, Bad),
+        ("Transfer-Encoding: xchunked\r\n", 1, Bad),
+        ("Transfer-Encoding: \"chunked\"\r\n", 1, Bad),
+        (
+            "Transfer-Encoding: chunked\r\nTransfer-Encoding: chunked\r\n",
+            1,
+            Bad,
+        ),
+        // Section 6.3, item 3, and section 11.2: both headers are how requests are smuggled.
+        (
+            "Transfer-Encoding: chunked\r\nContent-Length: 42\r\n",
+            1,
+            Bad,
+        ),
+        (
+            "Content-Length: 42\r\nTransfer-Encoding: chunked\r\n",
+            1,
+            Bad,
+        ),
+        (
+            "Content-Length: 42\r\nTransfer-Encoding: identity\r\n",
+            1,
+            Bad,
+        ),
+        (
+            "Content-Length: 0\r\nTransfer-Encoding: chunked\r\n",
+            0,
+            Bad,
+        ),
+    ];
+    for (lines, minor, framing) in cases {
+        assert_eq!(rt;
+            framing_of(rt.alloc(), lines, minor)?,
+            Some(framing),
+            "{lines:?}"
+        );
+    }
+    Ok(())
+}
+
+#[test]
+fn a_close_is_found_in_a_list(rt: HostRuntime) -> Result<(), Fail> {
+    let cases = [
+        ("Connection: close\r\n", true),
+        ("connection:Close\r\n", true),
+        ("Connection: keep-alive, close\r\n", true),
+        ("Connection: close\t,x\r\n", true),
+        ("Connection: x, \tCLOSE \t, y\r\n", true),
+        ("Connection: ,,close,\r\n", true),
+        ("Connection: x\r\nConnection: close\r\n", true),
+        ("", false),
+        ("Connection:\r\n", false),
+        ("Connection: keep-alive\r\n", false),
+        ("Connection: close-notify, closed, x close\r\n", false),
+        ("Connection: clos\r\nProxy-Connection: close\r\n", false),
+    ];
+    for (lines, close) in cases {
+        let text = format!(in rt.alloc(); "GET / HTTP/1.1\r\n{lines}\r\n")?;
+        let HeadAnswer::Whole { head, .. } = read_request(rt.alloc(), text.as_bytes())? else {
+            panic!(rt; "no whole head at {lines:?}");
+        };
+        assert_eq!(rt; asks_to_close(&head.headers), close, "{lines:?}");
+    }
     Ok(())
 }
