@@ -4,3 +4,4 @@ mod FrontLemmas
 mod HeadLemmas
 mod LineLemmas
 mod RequestLemmas
+mod StreamLemmas

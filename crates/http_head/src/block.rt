@@ -1,5 +1,5 @@
 // Where a head ends in a stream.
-ghost use Rattle.std.specs.Prelude.{◌≡◌, ◌+◌, ◌<◌, ◌≤◌, ℕ, List, Some, length, take, drop, IfSome};
+ghost use Rattle.std.specs.Prelude.{◌≡◌, ◌+◌, ◌<◌, ◌≤◌, ◌++◌, ℕ, List, Some, None, length, take, drop, IfSome};
 ghost use Rattle.http_head.specs.Block as spec;
 
 /// The most bytes that a head's block may have.
@@ -63,13 +63,92 @@ fn block_len(bytes: &[u8]) -> Option<usize>
     end_from(bytes, run_len(bytes))
 }
 
+// The bytes that a head may have.
+fn head_bytes(bytes: &[u8]) -> &[u8]
+    ensures front { result.now ≡ take MOST_HEAD_BYTES bytes.now }
+    ensures few { length result.now ≤ MOST_HEAD_BYTES }
+    ensures within { length result.now ≤ length bytes.now }
+{
+    &bytes[..bytes.len().min(MOST_HEAD_BYTES)]
+}
+
 // The length of the head's block, where it ends within the bytes that a head may have.
 pub fn block_in(bytes: &[u8]) -> Option<usize>
     ensures value { result ≡ spec.block_in bytes.now }
     ensures within { IfSome result (λ len. len ≤ length bytes.now) }
 {
-    block_len(&bytes[..bytes.len().min(MOST_HEAD_BYTES)])
+    block_len(head_bytes(bytes))
 }
+
+/// How far a stream was searched for the end of a head's block, so that the search goes on as more bytes come: the length
+/// of the leading run of CR and LF, and how many bytes were searched.
+#[derive(Clone, Copy, Debug, PartialEq, Eq)]
+pub struct Search {
+    run: usize,
+    at: usize,
+}
+
+impl Search {
+    /// Nothing was searched.
+    pub fn new() -> Search
+        ensures { (bytes : List ℕ) → spec.IsSearched bytes result }
+    {
+        Search { run: 0, at: 0 }
+    }
+}
+
+// The length of the leading run, where the bytes were searched so far.
+fn run_on(bytes: &[u8], search: &Search) -> usize
+    requires { spec.IsSearched bytes.now search.now }
+    ensures value { result ≡ spec.run_len bytes.now }
+    ensures within { result ≤ length bytes.now }
+{
+    if search.run < search.at {
+        return search.run;
+    }
+    search.at + run_len(&bytes[search.at..])
+}
+
+// The length of the block that the bytes begin with, where they were searched so far.
+fn block_len_on(bytes: &[u8], search: &mut Search) -> Option<usize>
+    requires searched { spec.IsSearched bytes.now search.old }
+    requires few { length bytes.now ≤ MOST_HEAD_BYTES }
+    ensures value { result ≡ spec.block_len bytes.now }
+    ensures within { IfSome result (λ len. len ≤ length bytes.now) }
+    ensures searched { result ≡ None → spec.IsSearched bytes.now search.new }
+{
+    let run = run_on(bytes, search);
+    let end = end_from(bytes, search.at.saturating_sub(2).max(run));
+    search.run = run;
+    search.at = bytes.len();
+    end
+}
+
+// What `block_in` gives, where the bytes were searched so far.
+pub fn block_on(bytes: &[u8], search: &mut Search) -> Option<usize>
+    requires { spec.IsSearched bytes.now search.old }
+    ensures value { result ≡ spec.block_in bytes.now }
+    ensures within { IfSome result (λ len. len ≤ length bytes.now) }
+    ensures searched { result ≡ None → spec.IsSearched bytes.now search.new }
+{
+    block_len_on(head_bytes(bytes), search)
+}
+
+/// What was searched stays searched as more bytes come.
+pub fn searches_go_on()
+    ensures { (bytes more : List ℕ) (search : Search) → spec.IsSearched bytes search
+        → spec.IsSearched (bytes ++ more) search }
+{}
+
+/// A head's block stays where it is as more bytes come, and where none ends within the bytes that a head may have, none
+/// comes.
+pub fn blocks_stay()
+    ensures found { (bytes more : List ℕ) (len : ℕ) → spec.block_in bytes ≡ Some len
+        → spec.block_in (bytes ++ more) ≡ Some len }
+    ensures none { (bytes more : List ℕ) → MOST_HEAD_BYTES ≤ length bytes → spec.block_in bytes ≡ None
+        → spec.block_in (bytes ++ more) ≡ None }
+    ensures blank { (bytes : List ℕ) → spec.run_len bytes ≡ length bytes → spec.block_in bytes ≡ None }
+{}
 
 /// A head's block ends within the bytes, and within those that a head may have.
 pub fn blocks_are_bounded()

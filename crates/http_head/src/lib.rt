@@ -15,11 +15,11 @@ mod request;
 mod transfer;
 
 pub use answer::HeadAnswer;
-pub use block::{MOST_HEAD_BYTES, MOST_LINES, blocks_are_bounded};
+pub use block::{MOST_HEAD_BYTES, MOST_LINES, Search, blocks_are_bounded, blocks_stay, searches_go_on};
 pub use body::Framing;
 pub use connection::asks_to_close;
 pub use header::{Header, Headers};
-pub use request::{Head, MOST_HEADERS, one_head, read_request};
+pub use request::{Head, MOST_HEADERS, one_head, read_request, read_request_on};
 pub use transfer::framing;
 
 #[cfg(test)]

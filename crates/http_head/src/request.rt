@@ -3,12 +3,12 @@ ghost use Rattle.std.specs.Prelude.{◌≡◌, ◌≤◌, ℕ, List, length, tak
 ghost use Rattle.httparse.specs.Grammar.{RequestHead};
 ghost use Rattle.httparse.specs.Spans.{IsWithin, IsHeaderWithin, IsRequestAt, IsRequestWithin, span_bytes, header_bytes};
 ghost use Rattle.http_head.specs.Answer.{EndsWithin};
-ghost use Rattle.http_head.specs.Block.{line_count};
+ghost use Rattle.http_head.specs.Block.{IsSearched, block_in, line_count};
 ghost use Rattle.http_head.specs.Request as spec;
 ghost use Rattle.http_head.specs.Texts.{HasTextName, HasTexts};
 
 use crate::answer::HeadAnswer;
-use crate::block::{MOST_HEAD_BYTES, MOST_LINES, block_in, line_count};
+use crate::block::{MOST_HEAD_BYTES, MOST_LINES, Search, block_in, block_on, line_count};
 use crate::header::{Header, Headers};
 use front_base::{Bytes, NoMemory, Text};
 use httparse::Status;
@@ -109,12 +109,13 @@ fn head_of(alloc: Global, block: &[u8]) -> Result<Option<Head>, AllocError>
     }))
 }
 
-/// Reads the head of a request from the front of a stream. `More` asks for more bytes; the other answers are final.
-pub fn read_request(alloc: Global, bytes: &[u8]) -> Result<HeadAnswer<Head>, NoMemory>
+fn answer_at(alloc: Global, bytes: &[u8], block: Option<usize>) -> Result<HeadAnswer<Head>, NoMemory>
+    requires value { block ≡ block_in bytes.now }
+    requires within { IfSome block (λ len. len ≤ length bytes.now) }
     ensures answer { IfOk result (spec.IsRequestAnswer bytes.now) }
     ensures within { IfOk result (EndsWithin bytes.now) }
 {
-    let Some(length) = block_in(bytes) else {
+    let Some(length) = block else {
         return if bytes.len() < MOST_HEAD_BYTES {
             Ok(HeadAnswer::More)
         } else {
@@ -129,6 +130,26 @@ pub fn read_request(alloc: Global, bytes: &[u8]) -> Result<HeadAnswer<Head>, NoM
         Some(head) => Ok(HeadAnswer::Whole { head, length }),
         None => Ok(HeadAnswer::BadHead),
     }
+}
+
+/// Reads the head of a request from the front of a stream. `More` asks for more bytes; the other answers are final.
+pub fn read_request(alloc: Global, bytes: &[u8]) -> Result<HeadAnswer<Head>, NoMemory>
+    ensures answer { IfOk result (spec.IsRequestAnswer bytes.now) }
+    ensures within { IfOk result (EndsWithin bytes.now) }
+{
+    answer_at(alloc, bytes, block_in(bytes))
+}
+
+/// The same, where the bytes were searched so far. After `More` the search goes on with more bytes behind these, so that
+/// the work on a head is linear however it comes; after another answer a new search begins.
+pub fn read_request_on(alloc: Global, bytes: &[u8], search: &mut Search) -> Result<HeadAnswer<Head>, NoMemory>
+    requires { IsSearched bytes.now search.old }
+    ensures answer { IfOk result (spec.IsRequestAnswer bytes.now) }
+    ensures within { IfOk result (EndsWithin bytes.now) }
+    ensures searched { result ≡ Ok HeadAnswer.More → IsSearched bytes.now search.new }
+{
+    let block = block_on(bytes, search);
+    answer_at(alloc, bytes, block)
 }
 
 /// A block is one head at most.
