@@ -146,7 +146,7 @@ pub fn read_request_on(alloc: Global, bytes: &[u8], search: &mut Search) -> Resu
     requires { IsSearched bytes.now search.old }
     ensures answer { IfOk result (spec.IsRequestAnswer bytes.now) }
     ensures within { IfOk result (EndsWithin bytes.now) }
-    ensures searched { result ≡ Ok HeadAnswer.More → IsSearched bytes.now search.new }
+    ensures searched { IfOk result (λ answer. answer ≡ HeadAnswer.More → IsSearched bytes.now search.new) }
 {
     let block = block_on(bytes, search);
     answer_at(alloc, bytes, block)

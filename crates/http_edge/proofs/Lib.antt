@@ -1,0 +1,4 @@
+pub mod SoFar
+pub mod RunLemmas
+pub mod More
+pub mod One
