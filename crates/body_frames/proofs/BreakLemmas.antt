@@ -1,14 +1,18 @@
 -- Where a chunked body breaks.
-use Rattle.std.proofs.Common.{◌≡◌, ℕ, ◌+◌, ◌-◌, ◌^◌, ◌<◌, ◌≤◌, ◌⊎◌, inl, inr, ◌∷◌, [], ◌++◌, List, length, min, Bool, true, false, Some, None, ◌==◌, cond, refl, sym, ap, ◌∙◌, subst, arith}
+use Rattle.std.proofs.Common.{◌≡◌, ℕ, ◌+◌, ◌-◌, ◌^◌, ◌<◌, ◌≤◌, ◌⊎◌, inl, inr, ◌∷◌, [], ◌++◌, List, length, min, Bool}
+use Rattle.std.proofs.Common.{true, false, Some, None, ◌==◌, cond, refl, sym, ap, ◌∙◌, subst, arith}
 use Rattle.std.specs.Prelude.{IsTrue, nat_lt, nat_le}
 use Rattle.std.proofs.lemmas.Bool.Decides.{nat_tests}
 use Rattle.body_frames.specs.declared.frame.BodyFault.{BodyFault}
 use Rattle.body_frames.specs.declared.frame.BodyFault.TheVariants.{BadChunk, TooLarge}
 use Rattle.body_frames.specs.declared.frame.Frame.TheVariants.{Chunked}
 use Rattle.body_frames.specs.declared.place.Mode.{Mode}
-use Rattle.body_frames.specs.declared.place.Mode.TheVariants.{Whole, Open, Digits, Blank, Extension, LineFeed, Data, DataReturn, DataFeed, LastReturn, LastFeed, Done, Past, Broken}
+use Rattle.body_frames.specs.declared.place.Mode.TheVariants.{Whole, Open, Digits, Blank, Extension, LineFeed, Data}
+use Rattle.body_frames.specs.declared.place.Mode.TheVariants.{DataReturn, DataFeed, LastReturn, LastFeed, Done, Past}
+use Rattle.body_frames.specs.declared.place.Mode.TheVariants.{Broken}
 use Rattle.body_frames.specs.declared.place.Place.{Place}
-use Rattle.body_frames.specs.Machine.{start, step, run, is_data_mode, next_mode, fault_of, fault_mode, is_done, is_done_mode, is_open, is_open_mode, is_sound, is_sound_mode}
+use Rattle.body_frames.specs.Machine.{start, step, run, is_data_mode, next_mode, fault_of, fault_mode, is_done}
+use Rattle.body_frames.specs.Machine.{is_done_mode, is_open, is_open_mode, is_sound, is_sound_mode}
 use Rattle.body_frames.specs.Chunks.{IsChunked, Begins, BreaksAt}
 use Rattle.body_frames.proofs.MachineLemmas.{run-append, broken_run, sound_step}
 use Rattle.body_frames.proofs.ChunkLemmas.{takes_chunked}
@@ -16,12 +20,14 @@ use Rattle.body_frames.proofs.ChunkSound.{either, begins_open}
 
 -- ---- the bytes are counted
 
-framed_run : (xs : List ℕ) (p : Place) → p.framed ≤ 2 ^ 64 - 1 → (run p xs).framed ≡ min (p.framed + length xs) (2 ^ 64 - 1)
+framed_run : (xs : List ℕ) (p : Place) → p.framed ≤ 2 ^ 64 - 1
+    → (run p xs).framed ≡ min (p.framed + length xs) (2 ^ 64 - 1)
 unfolding run
 framed_run [] p h = omega (arith, h)
 framed_run (b ∷ xs) p h = let e = framed_run xs (step p b) (omega arith) in omega (arith, e)
 
-bad_at : (framed room : ℕ) (m : Mode) (b at : ℕ) → is_open_mode m ≡ true → fault_mode (next_mode framed room m b) ≡ Some (BadChunk at) → at ≡ framed
+bad_at : (framed room : ℕ) (m : Mode) (b at : ℕ) → is_open_mode m ≡ true
+    → fault_mode (next_mode framed room m b) ≡ Some (BadChunk at) → at ≡ framed
 bad_at framed room (Whole n) b at o e = grind (arith, nat_tests)
 bad_at framed room Open b at o e = grind (arith, nat_tests)
 bad_at framed room (Digits l s) b at o e = grind (arith, nat_tests)
@@ -49,7 +55,8 @@ record FirstBreak (p : Place) (xs : List ℕ) (f : BodyFault) : Type 0 where
   fault : fault_of (step (run p front) byte) ≡ Some f
 
 -- nothing breaks behind an end
-none_past : (xs : List ℕ) (p : Place) (f : BodyFault) → is_open p ≡ false → fault_of p ≡ None → fault_of (run p xs) ≡ None
+none_past : (xs : List ℕ) (p : Place) (f : BodyFault) → is_open p ≡ false → fault_of p ≡ None
+    → fault_of (run p xs) ≡ None
 unfolding run
 none_past [] p f o e = e
 none_past (b ∷ xs) p f o e = let n = by_mode p.framed p.room p.mode o e in none_past xs (step p b) f n.0 n.1
@@ -86,22 +93,35 @@ open_whole _ f o e = absurd (cc e)
 some_same : (f g : BodyFault) → Some g ≡ Some f → g ≡ f
 some_same f g e = cc e
 
-first_break : (xs : List ℕ) (p : Place) (f : BodyFault) → IsTrue (is_sound p) → is_open p ≡ true → fault_of (run p xs) ≡ Some f → FirstBreak p xs f
+first_break : (xs : List ℕ) (p : Place) (f : BodyFault) → IsTrue (is_sound p) → is_open p ≡ true
+    → fault_of (run p xs) ≡ Some f → FirstBreak p xs f
 unfolding run
 first_break [] p f s o e = absurd (open_whole p.mode f o e)
-first_break (b ∷ xs) p f s o e = by_next (either (is_open (step p b))) (λ more. first_break xs (step p b) f (sound_step p b s o) more e)
+first_break (b ∷ xs) p f s o e =
+    by_next (either (is_open (step p b))) (λ more. first_break xs (step p b) f (sound_step p b s o) more e)
   where
-    by_fault : is_open (step p b) ≡ false → ((g : BodyFault) × (fault_of (step p b) ≡ Some g)) ⊎ (fault_of (step p b) ≡ None) → FirstBreak p (b ∷ xs) f
+    by_fault : is_open (step p b) ≡ false
+        → ((g : BodyFault) × (fault_of (step p b) ≡ Some g)) ⊎ (fault_of (step p b) ≡ None) → FirstBreak p (b ∷ xs) f
     by_fault closed (inr none) = absurd (cc (none_past xs (step p b) f closed none, e))
     by_fault closed (inl g) =
         let same = some_same f g.0 (sym (broken_run xs (step p b) g.0 g.1) ∙ e) in
         record { front = []; byte = b; rest = xs; split = refl; sound = s; awaits = o; fault = g.1 ∙ ap Some same }
 
-    by_next : (is_open (step p b) ≡ true) ⊎ (is_open (step p b) ≡ false) → (is_open (step p b) ≡ true → FirstBreak (step p b) xs f) → FirstBreak p (b ∷ xs) f
+    by_next : (is_open (step p b) ≡ true) ⊎ (is_open (step p b) ≡ false)
+        → (is_open (step p b) ≡ true → FirstBreak (step p b) xs f) → FirstBreak p (b ∷ xs) f
     by_next (inr closed) next = by_fault closed (fault_or (step p b))
     by_next (inl more) next =
         let n = next more in
-        record { front = b ∷ n.front; byte = n.byte; rest = n.rest; split = ap (λ l. b ∷ l) n.split; sound = n.sound; awaits = n.awaits; fault = n.fault }
+        record {
+          front = b ∷ n.front;
+          byte = n.byte;
+          rest = n.rest;
+          split = ap (λ l. b ∷ l) n.split;
+          sound =
+              n.sound;
+          awaits = n.awaits;
+          fault = n.fault;
+        }
 
 -- ---- more room changes no mode before the body is too large
 
@@ -131,7 +151,8 @@ more_room framed r s (LineFeed n) b h = by_some (either (nat_le n r))
         inl (rw (more, k) refl, refl)
     by_some (inr k) = by_last (either (b == 10)) (either (n == 0))
       where
-        by_last : ((b == 10) ≡ true) ⊎ ((b == 10) ≡ false) → ((n == 0) ≡ true) ⊎ ((n == 0) ≡ false) → MoreRoom framed r s (LineFeed n) b
+        by_last : ((b == 10) ≡ true) ⊎ ((b == 10) ≡ false) → ((n == 0) ≡ true) ⊎ ((n == 0) ≡ false)
+            → MoreRoom framed r s (LineFeed n) b
         by_last (inr e) _ = inl (rw e refl, refl)
         by_last (inl e) (inl f) = inl (rw (e, f) refl, refl)
         by_last (inl e) (inr f) = inr (rw (e, f, k) refl)
@@ -149,14 +170,16 @@ broken_alike : (xs : List ℕ) (p q : Place) (at : ℕ) → q.mode ≡ p.mode �
 unfolding run MoreRoom
 broken_alike [] p q at m f r e = ap fault_mode m ∙ e
 broken_alike (b ∷ xs) p q at m f r e =
-    by_room (more_room p.framed p.room q.room p.mode b r) (λ mode framed room. broken_alike xs (step p b) (step q b) at mode framed room e)
+    by_room (more_room p.framed p.room q.room p.mode b r)
+    (λ mode framed room. broken_alike xs (step p b) (step q b) at mode framed room e)
   where
     less : (t : Bool) (x y : ℕ) → x ≤ y → cond t (x - 1) x ≤ cond t (y - 1) y
     less true x y h = omega (arith, h)
     less false x y h = h
 
     by_room : MoreRoom p.framed p.room q.room p.mode b
-        → ((step q b).mode ≡ (step p b).mode → (step q b).framed ≡ (step p b).framed → (step p b).room ≤ (step q b).room → fault_of (run (step q b) xs) ≡ Some (BadChunk at))
+        → ((step q b).mode ≡ (step p b).mode → (step q b).framed ≡ (step p b).framed
+        → (step p b).room ≤ (step q b).room → fault_of (run (step q b) xs) ≡ Some (BadChunk at))
         → fault_of (run (step q b) xs) ≡ Some (BadChunk at)
     by_room (inr k) next = absurd (cc (broken_run xs (step p b) TooLarge k, e))
     by_room (inl k) next =
@@ -173,14 +196,16 @@ lost : (text rest body : List ℕ) (limit at : ℕ) → fault_of (run (start Chu
     → IsChunked (text ++ rest) body → length body ≤ limit → ⊥
 lost text rest body limit at e h fits =
     let done = (takes_chunked (start Chunked limit) (text ++ rest) body refl h fits).0 in
-    let broken = ap fault_of (run-append (start Chunked limit) text rest) ∙ broken_run rest (run (start Chunked limit) text) (BadChunk at) e in
+    let broken = ap fault_of (run-append (start Chunked limit) text rest)
+    ∙ broken_run rest (run (start Chunked limit) text) (BadChunk at) e in
     not_both (run (start Chunked limit) (text ++ rest)).mode done broken
   where
     not_both : (m : Mode) → is_done_mode m ≡ true → fault_mode m ≡ Some (BadChunk at) → ⊥
     not_both Done d f = absurd (cc f)
     not_both _ d f = absurd (cc d)
 
-no_more : (text : List ℕ) (limit at : ℕ) → fault_of (run (start Chunked limit) text) ≡ Some (BadChunk at) → Begins text → ⊥
+no_more : (text : List ℕ) (limit at : ℕ) → fault_of (run (start Chunked limit) text) ≡ Some (BadChunk at)
+    → Begins text → ⊥
 no_more text limit at e (rest, body, h) = by_size (either (nat_le (length body) limit))
   where
     by_size : (nat_le (length body) limit ≡ true) ⊎ (nat_le (length body) limit ≡ false) → ⊥
@@ -209,21 +234,25 @@ unfolding run
 sound_run [] p s o = s
 sound_run (b ∷ xs) p s o = by_open (either (is_open p)) (λ k. sound_run xs (step p b) (sound_step p b s k) o)
   where
-    by_open : (is_open p ≡ true) ⊎ (is_open p ≡ false) → (is_open p ≡ true → IsTrue (is_sound (run (step p b) xs))) → IsTrue (is_sound (run (step p b) xs))
+    by_open : (is_open p ≡ true) ⊎ (is_open p ≡ false) → (is_open p ≡ true → IsTrue (is_sound (run (step p b) xs)))
+        → IsTrue (is_sound (run (step p b) xs))
     by_open (inl k) next = next k
     by_open (inr k) next = absurd (cc (closed_stays (b ∷ xs) p k, o))
 
 pub awaits_begins : (limit : ℕ) (text : List ℕ) → is_open (run (start Chunked limit) text) ≡ true → Begins text
-awaits_begins limit text o = begins_open (start Chunked limit) text refl (sound_run text (start Chunked limit) (start_sound limit) o) o
+awaits_begins limit text o =
+    begins_open (start Chunked limit) text refl (sound_run text (start Chunked limit) (start_sound limit) o) o
 
-pub breaks_at : (limit at : ℕ) (text : List ℕ) → fault_of (run (start Chunked limit) text) ≡ Some (BadChunk at) → BreaksAt text at
+pub breaks_at : (limit at : ℕ) (text : List ℕ) → fault_of (run (start Chunked limit) text) ≡ Some (BadChunk at)
+    → BreaksAt text at
 unfolding run
 breaks_at limit at text e =
     let p = start Chunked limit in
     let n = first_break text p (BadChunk at) (start_sound limit) refl e in
     let here = bad_at (run p n.front).framed (run p n.front).room (run p n.front).mode n.byte at n.awaits n.fault in
     let count = framed_run n.front p (omega arith) in
-    let one : fault_of (run p (n.front ++ n.byte ∷ [])) ≡ Some (BadChunk at) = ap fault_of (run-append p n.front (n.byte ∷ [])) ∙ n.fault in
+    let one : fault_of (run p (n.front ++ n.byte ∷ [])) ≡ Some (BadChunk at) =
+    ap fault_of (run-append p n.front (n.byte ∷ [])) ∙ n.fault in
     record {
       front = n.front;
       byte = n.byte;

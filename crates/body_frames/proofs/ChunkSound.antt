@@ -1,14 +1,21 @@
 -- What the machine takes to its end is a text of the grammar.
-use Rattle.std.proofs.Common.{suc, zero, ◌≡◌, ℕ, ◌+◌, ◌-◌, ◌*◌, ◌^◌, ◌<◌, ◌≤◌, ◌⊎◌, inl, inr, ◌==◌, ◌∷◌, [], ◌++◌, List, length, Bool, true, false, not, ◌&&◌, nat_lt, refl, sym, ap, ◌∙◌, subst, arith, append_assoc, append-nil, cond}
+use Rattle.std.proofs.Common.{suc, zero, ◌≡◌, ℕ, ◌+◌, ◌-◌, ◌*◌, ◌^◌, ◌<◌, ◌≤◌, ◌⊎◌, inl, inr, ◌==◌, ◌∷◌, [], ◌++◌}
+use Rattle.std.proofs.Common.{List, length, Bool, true, false, not, ◌&&◌, nat_lt, refl, sym, ap, ◌∙◌, subst, arith}
+use Rattle.std.proofs.Common.{append_assoc, append-nil, cond}
 use Rattle.std.specs.Prelude.{IsTrue, nat_le}
 use Rattle.std.specs.List.{list_all, flat_map}
 use Rattle.std.proofs.lemmas.Bool.Decides.{nat_tests}
 use Rattle.body_frames.specs.declared.frame.BodyFault.TheVariants.{BadChunk, TooLarge}
 use Rattle.body_frames.specs.declared.place.Mode.{Mode}
-use Rattle.body_frames.specs.declared.place.Mode.TheVariants.{Whole, Open, Digits, Blank, Extension, LineFeed, Data, DataReturn, DataFeed, LastReturn, LastFeed, Done, Past, Broken}
+use Rattle.body_frames.specs.declared.place.Mode.TheVariants.{Whole, Open, Digits, Blank, Extension, LineFeed, Data}
+use Rattle.body_frames.specs.declared.place.Mode.TheVariants.{DataReturn, DataFeed, LastReturn, LastFeed, Done, Past}
+use Rattle.body_frames.specs.declared.place.Mode.TheVariants.{Broken}
 use Rattle.body_frames.specs.declared.place.Place.{Place}
-use Rattle.body_frames.specs.Machine.{step, run, emitted, is_data, is_data_mode, next_mode, after_digits, after_line, digit_value, is_blank, is_done, is_done_mode, is_open, is_open_mode, is_sound, is_sound_mode}
-use Rattle.body_frames.specs.Chunks.{is_hex, value_of, is_extension_byte, IsExtension, Line, print_line, IsLine, Chunk, print_chunk, AreChunks, IsChunked, Begins, last_text}
+use Rattle.body_frames.specs.Machine.{step, run, emitted, is_data, is_data_mode, next_mode, after_digits, after_line}
+use Rattle.body_frames.specs.Machine.{digit_value, is_blank, is_done, is_done_mode, is_open, is_open_mode, is_sound}
+use Rattle.body_frames.specs.Machine.{is_sound_mode}
+use Rattle.body_frames.specs.Chunks.{is_hex, value_of, is_extension_byte, IsExtension, Line, print_line, IsLine}
+use Rattle.body_frames.specs.Chunks.{Chunk, print_chunk, AreChunks, IsChunked, Begins, last_text}
 use Rattle.body_frames.proofs.MachineLemmas.{run_nothing, emitted_nothing, sound_step}
 
 record GoodData (n : ℕ) (xs body : List ℕ) : Type 0 where
@@ -65,7 +72,8 @@ Good (Whole n) xs body = Unit {0}
 Good Open xs body = Unit {0}
 Good _ xs body = ⊥
 
-which : (t : Bool) (m n : Mode) (xs body : List ℕ) → Good (cond t m n) xs body → ((t ≡ true) × Good m xs body) ⊎ ((t ≡ false) × Good n xs body)
+which : (t : Bool) (m n : Mode) (xs body : List ℕ) → Good (cond t m n) xs body
+    → ((t ≡ true) × Good m xs body) ⊎ ((t ≡ false) × Good n xs body)
 which true m n xs body h = inl (refl, h)
 which false m n xs body h = inr (refl, h)
 
@@ -85,7 +93,8 @@ record GoodLine (size : ℕ) (xs : List ℕ) (rest : List ℕ) : Type 0 where
   is : IsLine line size
   split : xs ≡ print_line line ++ rest
 
-line_of : (xs body : List ℕ) → GoodDigits 0 0 xs body → (size : ℕ) × (rest : List ℕ) × GoodLine size xs rest × GoodAfter size rest body
+line_of : (xs body : List ℕ) → GoodDigits 0 0 xs body
+    → (size : ℕ) × (rest : List ℕ) × GoodLine size xs rest × GoodAfter size rest body
 line_of xs body h =
     let l : Line = record { digits = h.digits; blanks = h.tail.blanks; extension = h.tail.extension } in (
       value_of 0 h.digits,
@@ -101,7 +110,8 @@ line_of xs body h =
           short = omega (arith, h.tail.short);
           value = refl;
         };
-        split = h.split ∙ ap (λ r. h.digits ++ r) h.tail.split ∙ regroup h.digits h.tail.blanks h.tail.extension h.tail.rest;
+        split = h.split ∙ ap (λ r. h.digits ++ r) h.tail.split
+            ∙ regroup h.digits h.tail.blanks h.tail.extension h.tail.rest;
       },
       h.tail.good,
     )
@@ -130,25 +140,31 @@ chunked_of xs body h = by_after (line_of xs body h)
         record {
           chunks = c ∷ d.chunked.chunks;
           last = d.chunked.last;
-          each = (subst (λ n. IsLine g.line n) (sym d.size) g.is, subst (λ n. 0 < n) (sym d.size) a.0, d.chunked.each);
+          each =
+              (subst (λ n. IsLine g.line n) (sym d.size) g.is, subst (λ n. 0 < n) (sym d.size) a.0, d.chunked.each);
           end = d.chunked.end;
-          text_is = g.split ∙ ap (λ r. print_line g.line ++ r) (d.split ∙ ap (λ r. d.bytes ++ 13 ∷ 10 ∷ r) d.chunked.text_is)
-              ∙ regroup (print_line g.line) d.bytes (flat_map print_chunk d.chunked.chunks) (print_line d.chunked.last ++ 13 ∷ 10 ∷ []);
+          text_is = g.split
+              ∙ ap (λ r. print_line g.line ++ r) (d.split ∙ ap (λ r. d.bytes ++ 13 ∷ 10 ∷ r) d.chunked.text_is)
+              ∙ regroup (print_line g.line) d.bytes (flat_map print_chunk d.chunked.chunks)
+              (print_line d.chunked.last ++ 13 ∷ 10 ∷ []);
           body_is = d.body_is ∙ ap (λ r. d.bytes ++ r) d.chunked.body_is;
         }
 
 -- ---- one byte back
 
-back_line : (size b : ℕ) (xs body : List ℕ) → b ≡ 13 → Good (LineFeed size) xs body → (rest : List ℕ) × (b ∷ xs ≡ 13 ∷ 10 ∷ rest) × GoodAfter size rest body
+back_line : (size b : ℕ) (xs body : List ℕ) → b ≡ 13 → Good (LineFeed size) xs body
+    → (rest : List ℕ) × (b ∷ xs ≡ 13 ∷ 10 ∷ rest) × GoodAfter size rest body
 back_line size b xs body e h = (h.0, cons b 13 xs (10 ∷ h.0) e h.1, h.2)
   where
     cons : (a c : ℕ) (k l : List ℕ) → a ≡ c → k ≡ l → a ∷ k ≡ c ∷ l
     cons a c k l e f = cc
 
-back_tail : (framed line size b : ℕ) (xs body : List ℕ) → line ≤ 254 → Good (after_digits framed line size b) xs body → GoodTail line size (b ∷ xs) body
+back_tail : (framed line size b : ℕ) (xs body : List ℕ) → line ≤ 254 → Good (after_digits framed line size b) xs body
+    → GoodTail line size (b ∷ xs) body
 back_tail framed line size b xs body short h = by_first (which (b == 13) (LineFeed size) _ xs body h)
   where
-    by_third : (((b == 59 && nat_lt line 254) ≡ true) × GoodExtension (line + 1) size xs body) ⊎ (((b == 59 && nat_lt line 254) ≡ false) × ⊥) → GoodTail line size (b ∷ xs) body
+    by_third : (((b == 59 && nat_lt line 254) ≡ true) × GoodExtension (line + 1) size xs body)
+        ⊎ (((b == 59 && nat_lt line 254) ≡ false) × ⊥) → GoodTail line size (b ∷ xs) body
     by_third (inr k) = absurd k.1
     by_third (inl k) =
         let e = both_true (b == 59) (nat_lt line 254) k.0 in record {
@@ -162,7 +178,11 @@ back_tail framed line size b xs body short h = by_first (which (b == 13) (LineFe
           good = k.1.good;
         }
 
-    by_second : (((is_blank b && nat_lt line 254) ≡ true) × GoodTail (line + 1) size xs body) ⊎ (((is_blank b && nat_lt line 254) ≡ false) × Good (cond (b == 59 && nat_lt line 254) (Extension (line + 1) size) (Broken (BadChunk framed))) xs body) → GoodTail line size (b ∷ xs) body
+    by_second : (((is_blank b && nat_lt line 254) ≡ true) × GoodTail (line + 1) size xs body)
+        ⊎
+        (((is_blank b && nat_lt line 254) ≡ false)
+        × Good (cond (b == 59 && nat_lt line 254) (Extension (line + 1) size) (Broken (BadChunk framed))) xs body)
+        → GoodTail line size (b ∷ xs) body
     by_second (inl k) =
         let e = both_true (is_blank b) (nat_lt line 254) k.0 in record {
           blanks = b ∷ k.1.blanks;
@@ -174,26 +194,60 @@ back_tail framed line size b xs body short h = by_first (which (b == 13) (LineFe
           split = ap (λ l. b ∷ l) k.1.split;
           good = k.1.good;
         }
-    by_second (inr k) = by_third (which (b == 59 && nat_lt line 254) (Extension (line + 1) size) (Broken (BadChunk framed)) xs body k.1)
+    by_second (inr k) =
+        by_third
+        (which (b == 59 && nat_lt line 254) (Extension (line + 1) size) (Broken (BadChunk framed)) xs body k.1)
 
-    by_first : ((b == 13 ≡ true) × Good (LineFeed size) xs body) ⊎ ((b == 13 ≡ false) × Good (cond (is_blank b && nat_lt line 254) (Blank (line + 1) size) (cond (b == 59 && nat_lt line 254) (Extension (line + 1) size) (Broken (BadChunk framed)))) xs body) → GoodTail line size (b ∷ xs) body
+    by_first : ((b == 13 ≡ true) × Good (LineFeed size) xs body)
+        ⊎
+        ((b == 13 ≡ false)
+        × Good
+        (cond (is_blank b && nat_lt line 254) (Blank (line + 1) size)
+        (cond (b == 59 && nat_lt line 254) (Extension (line + 1) size) (Broken (BadChunk framed)))) xs body)
+        → GoodTail line size (b ∷ xs) body
     by_first (inl k) =
         let r = back_line size b xs body (same_byte b 13 k.0) k.1 in
-        record { blanks = []; extension = []; rest = r.0; gap = refl; ext = tt; short = omega arith; split = r.1; good = r.2 }
+        record {
+          blanks = [];
+          extension = [];
+          rest = r.0;
+          gap = refl;
+          ext = tt;
+          short = omega arith;
+          split =
+              r.1;
+          good = r.2;
+        }
     by_first (inr k) = by_second (which (is_blank b && nat_lt line 254) (Blank (line + 1) size) _ xs body k.1)
 
-back_digits : (framed room line size b : ℕ) (xs body : List ℕ) → line ≤ 16 → Good (next_mode framed room (Digits line size) b) xs body → GoodDigits line size (b ∷ xs) body
-back_digits framed room line size b xs body short h = by_first (which (is_hex b && nat_lt line 16) (Digits (line + 1) (size * 16 + digit_value b)) _ xs body h)
+back_digits : (framed room line size b : ℕ) (xs body : List ℕ) → line ≤ 16
+    → Good (next_mode framed room (Digits line size) b) xs body → GoodDigits line size (b ∷ xs) body
+back_digits framed room line size b xs body short h =
+    by_first (which (is_hex b && nat_lt line 16) (Digits (line + 1) (size * 16 + digit_value b)) _ xs body h)
   where
-    by_second : ((line == 0 ≡ true) × ⊥) ⊎ ((line == 0 ≡ false) × Good (after_digits framed line size b) xs body) → GoodDigits line size (b ∷ xs) body
+    by_second : ((line == 0 ≡ true) × ⊥) ⊎ ((line == 0 ≡ false) × Good (after_digits framed line size b) xs body)
+        → GoodDigits line size (b ∷ xs) body
     by_second (inl k) = absurd k.1
     by_second (inr k) =
         let some : 0 < line = grind (arith, nat_tests, k.0) in
         let t : GoodTail line size (b ∷ xs) body = back_tail framed line size b xs body (omega arith) k.1 in
         let same : line + 0 ≡ line = omega arith in
-        record { digits = []; after = b ∷ xs; some = omega arith; few = omega arith; hex = refl; split = refl; tail = subst (λ n. GoodTail n size (b ∷ xs) body) (sym same) t }
+        record {
+          digits = [];
+          after = b ∷ xs;
+          some = omega arith;
+          few = omega arith;
+          hex = refl;
+          split = refl;
+          tail =
+              subst (λ n. GoodTail n size (b ∷ xs) body) (sym same) t;
+        }
 
-    by_first : (((is_hex b && nat_lt line 16) ≡ true) × GoodDigits (line + 1) (size * 16 + digit_value b) xs body) ⊎ (((is_hex b && nat_lt line 16) ≡ false) × Good (cond (line == 0) (Broken (BadChunk framed)) (after_digits framed line size b)) xs body) → GoodDigits line size (b ∷ xs) body
+    by_first : (((is_hex b && nat_lt line 16) ≡ true) × GoodDigits (line + 1) (size * 16 + digit_value b) xs body)
+        ⊎
+        (((is_hex b && nat_lt line 16) ≡ false)
+        × Good (cond (line == 0) (Broken (BadChunk framed)) (after_digits framed line size b)) xs body)
+        → GoodDigits line size (b ∷ xs) body
     by_first (inl k) =
         let e = both_true (is_hex b) (nat_lt line 16) k.0 in
         let g = k.1 in
@@ -207,12 +261,16 @@ back_digits framed room line size b xs body short h = by_first (which (is_hex b 
           split = ap (λ l. b ∷ l) g.split;
           tail = subst (λ n. GoodTail n (value_of (size * 16 + digit_value b) g.digits) g.after body) same g.tail;
         }
-    by_first (inr k) = by_second (which (line == 0) (Broken (BadChunk framed)) (after_digits framed line size b) xs body k.1)
+    by_first (inr k) =
+        by_second (which (line == 0) (Broken (BadChunk framed)) (after_digits framed line size b) xs body k.1)
 
-back_extension : (framed room line size b : ℕ) (xs body : List ℕ) → line ≤ 254 → Good (next_mode framed room (Extension line size) b) xs body → GoodExtension line size (b ∷ xs) body
+back_extension : (framed room line size b : ℕ) (xs body : List ℕ) → line ≤ 254
+    → Good (next_mode framed room (Extension line size) b) xs body → GoodExtension line size (b ∷ xs) body
 back_extension framed room line size b xs body short h = by_first (which (b == 13) (LineFeed size) _ xs body h)
   where
-    by_second : (b == 13 ≡ false) → (((not (b == 10) && nat_lt line 254) ≡ true) × GoodExtension (line + 1) size xs body) ⊎ (((not (b == 10) && nat_lt line 254) ≡ false) × ⊥) → GoodExtension line size (b ∷ xs) body
+    by_second : (b == 13 ≡ false)
+        → (((not (b == 10) && nat_lt line 254) ≡ true) × GoodExtension (line + 1) size xs body)
+        ⊎ (((not (b == 10) && nat_lt line 254) ≡ false) × ⊥) → GoodExtension line size (b ∷ xs) body
     by_second f (inr k) = absurd k.1
     by_second f (inl k) =
         let e = both_true (not (b == 10)) (nat_lt line 254) k.0 in record {
@@ -224,44 +282,61 @@ back_extension framed room line size b xs body short h = by_first (which (b == 1
           good = k.1.good;
         }
 
-    by_first : ((b == 13 ≡ true) × Good (LineFeed size) xs body) ⊎ ((b == 13 ≡ false) × Good (cond (not (b == 10) && nat_lt line 254) (Extension (line + 1) size) (Broken (BadChunk framed))) xs body) → GoodExtension line size (b ∷ xs) body
+    by_first : ((b == 13 ≡ true) × Good (LineFeed size) xs body)
+        ⊎
+        ((b == 13 ≡ false)
+        × Good
+        (cond (not (b == 10) && nat_lt line 254) (Extension (line + 1) size) (Broken (BadChunk framed))) xs body)
+        → GoodExtension line size (b ∷ xs) body
     by_first (inl k) =
         let r = back_line size b xs body (same_byte b 13 k.0) k.1 in
         record { bytes = []; rest = r.0; ok = refl; short = omega arith; split = r.1; good = r.2 }
-    by_first (inr k) = by_second k.0 (which (not (b == 10) && nat_lt line 254) (Extension (line + 1) size) (Broken (BadChunk framed)) xs body k.1)
+    by_first (inr k) =
+        by_second k.0
+        (which (not (b == 10) && nat_lt line 254) (Extension (line + 1) size) (Broken (BadChunk framed)) xs body k.1)
 
 back_after : (room size : ℕ) (xs body : List ℕ) → Good (after_line room size) xs body → GoodAfter size xs body
 back_after room size xs body h = by_first (which (size == 0) LastReturn _ xs body h)
   where
-    by_second : (size == 0 ≡ false) → ((nat_le size room ≡ true) × GoodData size xs body) ⊎ ((nat_le size room ≡ false) × ⊥) → GoodAfter size xs body
+    by_second : (size == 0 ≡ false)
+        → ((nat_le size room ≡ true) × GoodData size xs body) ⊎ ((nat_le size room ≡ false) × ⊥)
+        → GoodAfter size xs body
     by_second f (inl k) = let some : 0 < size = grind (arith, nat_tests, f) in inr (some, k.1)
     by_second f (inr k) = absurd k.1
 
-    by_first : ((size == 0 ≡ true) × Good LastReturn xs body) ⊎ ((size == 0 ≡ false) × Good (cond (nat_le size room) (Data size) (Broken TooLarge)) xs body) → GoodAfter size xs body
+    by_first : ((size == 0 ≡ true) × Good LastReturn xs body)
+        ⊎ ((size == 0 ≡ false) × Good (cond (nat_le size room) (Data size) (Broken TooLarge)) xs body)
+        → GoodAfter size xs body
     by_first (inl k) = inl (same_byte size 0 k.0, k.1.0, k.1.1)
     by_first (inr k) = by_second k.0 (which (nat_le size room) (Data size) (Broken TooLarge) xs body k.1)
 
 -- a byte that had to come
-back_expect : (framed wanted b : ℕ) (next : Mode) (xs body : List ℕ) → Good (cond (b == wanted) next (Broken (BadChunk framed))) xs body → (b ≡ wanted) × Good next xs body
+back_expect : (framed wanted b : ℕ) (next : Mode) (xs body : List ℕ)
+    → Good (cond (b == wanted) next (Broken (BadChunk framed))) xs body → (b ≡ wanted) × Good next xs body
 back_expect framed wanted b next xs body h = by_first (which (b == wanted) next (Broken (BadChunk framed)) xs body h)
   where
-    by_first : ((b == wanted ≡ true) × Good next xs body) ⊎ ((b == wanted ≡ false) × ⊥) → (b ≡ wanted) × Good next xs body
+    by_first : ((b == wanted ≡ true) × Good next xs body) ⊎ ((b == wanted ≡ false) × ⊥)
+        → (b ≡ wanted) × Good next xs body
     by_first (inl k) = (same_byte b wanted k.0, k.1)
     by_first (inr k) = absurd k.1
 
 cons_same : (a c : ℕ) (k l : List ℕ) → a ≡ c → k ≡ l → a ∷ k ≡ c ∷ l
 cons_same a c k l e f = cc
 
-back : (framed room : ℕ) (m : Mode) (b : ℕ) (xs out : List ℕ) → IsTrue (is_sound_mode room m) → Good (next_mode framed room m b) xs out → Good m (b ∷ xs) ((cond (is_data_mode room m) (b ∷ []) []) ++ out)
-back framed room (Digits line size) b xs out s h = back_digits framed room line size b xs out (grind (arith, nat_tests)) h
+back : (framed room : ℕ) (m : Mode) (b : ℕ) (xs out : List ℕ) → IsTrue (is_sound_mode room m)
+    → Good (next_mode framed room m b) xs out → Good m (b ∷ xs) ((cond (is_data_mode room m) (b ∷ []) []) ++ out)
+back framed room (Digits line size) b xs out s h =
+    back_digits framed room line size b xs out (grind (arith, nat_tests)) h
 back framed room (Blank line size) b xs out s h = back_tail framed line size b xs out (grind (arith, nat_tests)) h
-back framed room (Extension line size) b xs out s h = back_extension framed room line size b xs out (grind (arith, nat_tests)) h
+back framed room (Extension line size) b xs out s h =
+    back_extension framed room line size b xs out (grind (arith, nat_tests)) h
 back framed room (LineFeed size) b xs out s h =
     let k = back_expect framed 10 b (after_line room size) xs out h in
     (xs, cons_same b 10 xs xs k.0 refl, back_after room size xs out k.1)
 back framed room (Data n) b xs out s h = by_first (which (nat_lt 1 n) (Data (n - 1)) DataReturn xs out h)
   where
-    by_first : ((nat_lt 1 n ≡ true) × GoodData (n - 1) xs out) ⊎ ((nat_lt 1 n ≡ false) × Good DataReturn xs out) → GoodData n (b ∷ xs) ((b ∷ []) ++ out)
+    by_first : ((nat_lt 1 n ≡ true) × GoodData (n - 1) xs out) ⊎ ((nat_lt 1 n ≡ false) × Good DataReturn xs out)
+        → GoodData n (b ∷ xs) ((b ∷ []) ++ out)
     by_first (inl k) =
         let more : 1 < n = lower 1 n k.0 in
         record {
@@ -275,7 +350,16 @@ back framed room (Data n) b xs out s h = by_first (which (nat_lt 1 n) (Data (n -
         }
     by_first (inr k) =
         let one : 1 ≡ n = grind (arith, nat_tests, k.0) in
-        record { bytes = b ∷ []; more = k.1.0; after = out; size = one; split = ap (λ l. b ∷ l) k.1.1; body_is = refl; chunked = k.1.2 }
+        record {
+          bytes = b ∷ [];
+          more = k.1.0;
+          after = out;
+          size = one;
+          split = ap (λ l. b ∷ l) k.1.1;
+          body_is =
+              refl;
+          chunked = k.1.2;
+        }
 back framed room DataReturn b xs out s h =
     let k = back_expect framed 13 b DataFeed xs out h in
     (k.1.0, cons_same b 13 xs (10 ∷ k.1.0) k.0 k.1.1, k.1.2)
@@ -328,24 +412,29 @@ either true = inl refl
 either false = inr refl
 
 -- what may follow behind some bytes, and the bytes, may follow before them
-good_before : (xs : List ℕ) (p : Place) (rest out : List ℕ) → IsTrue (is_sound p) → Good (run p xs).mode rest out → Good p.mode (xs ++ rest) (emitted p xs ++ out)
+good_before : (xs : List ℕ) (p : Place) (rest out : List ℕ) → IsTrue (is_sound p) → Good (run p xs).mode rest out
+    → Good p.mode (xs ++ rest) (emitted p xs ++ out)
 unfolding run emitted
 good_before [] p rest out s h = h
 good_before (b ∷ xs) p rest out s h = by_open (either (is_open p)) (λ t. good_before xs (step p b) rest out t h)
   where
     by_open : (is_open p ≡ true) ⊎ (is_open p ≡ false)
-        → (IsTrue (is_sound (step p b)) → Good (next_mode p.framed p.room p.mode b) (xs ++ rest) (emitted (step p b) xs ++ out))
+        → (IsTrue (is_sound (step p b))
+        → Good (next_mode p.framed p.room p.mode b) (xs ++ rest) (emitted (step p b) xs ++ out))
         → Good p.mode (b ∷ (xs ++ rest)) (((cond (is_data p) (b ∷ []) []) ++ emitted (step p b) xs) ++ out)
     by_open (inl o) next =
-        subst (λ l. Good p.mode (b ∷ (xs ++ rest)) l) (sym (append_assoc (cond (is_data p) (b ∷ []) []) (emitted (step p b) xs) out))
+        subst (λ l. Good p.mode (b ∷ (xs ++ rest)) l)
+        (sym (append_assoc (cond (is_data p) (b ∷ []) []) (emitted (step p b) xs) out))
         (back p.framed p.room p.mode b (xs ++ rest) (emitted (step p b) xs ++ out) s (next (sound_step p b s o)))
     by_open (inr o) next = absurd (lost xs (step p b) rest out (dead_after p.framed p.room b p.mode o) h)
 
 -- the text of a chunked body, from its begin
-chunked_before : (p : Place) (text rest out : List ℕ) → p.mode ≡ Digits 0 0 → Good (run p text).mode rest out → IsChunked (text ++ rest) (emitted p text ++ out)
+chunked_before : (p : Place) (text rest out : List ℕ) → p.mode ≡ Digits 0 0 → Good (run p text).mode rest out
+    → IsChunked (text ++ rest) (emitted p text ++ out)
 chunked_before p text rest out m h =
     let s : IsTrue (is_sound p) = subst (λ k. IsTrue (is_sound_mode p.room k)) (sym m) (start_sound p.room) in
-    chunked_of (text ++ rest) (emitted p text ++ out) (subst (λ k. Good k (text ++ rest) (emitted p text ++ out)) m (good_before text p rest out s h))
+    chunked_of (text ++ rest) (emitted p text ++ out)
+    (subst (λ k. Good k (text ++ rest) (emitted p text ++ out)) m (good_before text p rest out s h))
   where
     start_sound : (room : ℕ) → IsTrue (is_sound_mode room (Digits 0 0))
     start_sound room = grind (arith, nat_tests)
@@ -354,10 +443,12 @@ at_end : (m : Mode) → is_done_mode m ≡ true → Good m [] []
 at_end Done e = (refl, refl)
 at_end _ e = absurd (cc e)
 
-pub only_chunked : (p : Place) (text : List ℕ) → p.mode ≡ Digits 0 0 → is_done (run p text) ≡ true → IsChunked text (emitted p text)
+pub only_chunked : (p : Place) (text : List ℕ) → p.mode ≡ Digits 0 0 → is_done (run p text) ≡ true
+    → IsChunked text (emitted p text)
 only_chunked p text m e =
     subst (λ l. IsChunked l (emitted p text)) (append-nil text)
-    (subst (λ l. IsChunked (text ++ []) l) (append-nil (emitted p text)) (chunked_before p text [] [] m (at_end (run p text).mode e)))
+    (subst (λ l. IsChunked (text ++ []) l) (append-nil (emitted p text))
+    (chunked_before p text [] [] m (at_end (run p text).mode e)))
 
 -- ---- what ends a body from a mode in which bytes are awaited
 
@@ -376,7 +467,17 @@ no_chunk = record {
   chunks = [];
   last = record { digits = 48 ∷ []; blanks = []; extension = [] };
   each = tt;
-  end = record { some = omega arith; few = omega arith; hex = refl; gap = refl; extension = tt; short = omega arith; value = refl };
+  end =
+      record {
+        some = omega arith;
+        few = omega arith;
+        hex = refl;
+        gap = refl;
+        extension = tt;
+        short =
+            omega arith;
+        value = refl;
+      };
   text_is = refl;
   body_is = refl;
 }
@@ -385,7 +486,17 @@ data_ends : (n : ℕ) → Ends (Data n)
 data_ends n = let l = zeros n in record {
   rest = l.0 ++ 13 ∷ 10 ∷ last_text;
   out = l.0 ++ [];
-  good = record { bytes = l.0; more = last_text; after = []; size = l.1; split = refl; body_is = refl; chunked = no_chunk };
+  good =
+      record {
+        bytes = l.0;
+        more = last_text;
+        after = [];
+        size = l.1;
+        split = refl;
+        body_is = refl;
+        chunked =
+            no_chunk;
+      };
 }
 
 record AfterEnds (size : ℕ) : Type 0 where
@@ -395,35 +506,81 @@ record AfterEnds (size : ℕ) : Type 0 where
 
 after_ends : (size : ℕ) → AfterEnds size
 after_ends zero = record { rest = 13 ∷ 10 ∷ []; out = []; good = inl (refl, refl, refl) }
-after_ends (suc n) = let d = data_ends (suc n) in record { rest = d.rest; out = d.out; good = inr (omega arith, d.good) }
+after_ends (suc n) = let d = data_ends (suc n) in
+    record { rest = d.rest; out = d.out; good = inr (omega arith, d.good) }
 
 tail_ends : (line size : ℕ) → line ≤ 254 → (rest : List ℕ) × (out : List ℕ) × GoodTail line size rest out
 tail_ends line size h = let a = after_ends size in (
   13 ∷ 10 ∷ a.rest,
   a.out,
-  record { blanks = []; extension = []; rest = a.rest; gap = refl; ext = tt; short = omega (arith, h); split = refl; good = a.good },
+  record {
+    blanks = [];
+    extension = [];
+    rest = a.rest;
+    gap = refl;
+    ext = tt;
+    short = omega (arith, h);
+    split =
+        refl;
+    good = a.good;
+  },
 )
 
 digits_end : (line size : ℕ) → line ≤ 16 → Ends (Digits line size)
 unfolding digit_value
 digits_end zero size h =
     let t = tail_ends 1 (size * 16 + 0) (omega arith) in
-    record { rest = 48 ∷ t.0; out = t.1; good = record { digits = 48 ∷ []; after = t.0; some = omega arith; few = omega arith; hex = refl; split = refl; tail = t.2 } }
+    record {
+      rest = 48 ∷ t.0;
+      out = t.1;
+      good =
+          record {
+            digits = 48 ∷ [];
+            after = t.0;
+            some = omega arith;
+            few = omega arith;
+            hex = refl;
+            split =
+                refl;
+            tail = t.2;
+          };
+    }
 digits_end (suc line) size h =
     let t = tail_ends (suc line) size (omega (arith, h)) in
     let same : suc line + 0 ≡ suc line = omega arith in
-    record { rest = t.0; out = t.1; good = record { digits = []; after = t.0; some = omega arith; few = omega (arith, h); hex = refl; split = refl; tail = subst (λ n. GoodTail n size t.0 t.1) (sym same) t.2 } }
+    record {
+      rest = t.0;
+      out = t.1;
+      good =
+          record {
+            digits = [];
+            after = t.0;
+            some = omega arith;
+            few = omega (arith, h);
+            hex = refl;
+            split =
+                refl;
+            tail = subst (λ n. GoodTail n size t.0 t.1) (sym same) t.2;
+          };
+    }
 
 ends : (room : ℕ) (m : Mode) → IsTrue (is_sound_mode room m) → is_open_mode m ≡ true → Ends m
 ends room (Whole n) s o = record { rest = []; out = []; good = tt }
 ends room Open s o = record { rest = []; out = []; good = tt }
 ends room (Digits l n) s o = digits_end l n (grind (arith, nat_tests))
-ends room (Blank l n) s o = let t = tail_ends l n (grind (arith, nat_tests)) in record { rest = t.0; out = t.1; good = t.2 }
+ends room (Blank l n) s o = let t = tail_ends l n (grind (arith, nat_tests)) in
+    record { rest = t.0; out = t.1; good = t.2 }
 ends room (Extension l n) s o =
     let short : l ≤ 254 = grind (arith, nat_tests) in
     let a = after_ends n in
-    record { rest = 13 ∷ 10 ∷ a.rest; out = a.out; good = record { bytes = []; rest = a.rest; ok = refl; short = omega (arith, short); split = refl; good = a.good } }
-ends room (LineFeed n) s o = let a = after_ends n in record { rest = 10 ∷ a.rest; out = a.out; good = (a.rest, refl, a.good) }
+    record {
+      rest = 13 ∷ 10 ∷ a.rest;
+      out = a.out;
+      good =
+          record { bytes = []; rest = a.rest; ok = refl; short = omega (arith, short); split = refl; good = a.good };
+    }
+ends room (LineFeed n) s o = let a = after_ends n in
+    record { rest = 10 ∷ a.rest; out = a.out; good = (a.rest, refl, a.good) }
 ends room (Data n) s o = data_ends n
 ends room DataReturn s o = record { rest = 13 ∷ 10 ∷ last_text; out = []; good = (last_text, refl, no_chunk) }
 ends room DataFeed s o = record { rest = 10 ∷ last_text; out = []; good = (last_text, refl, no_chunk) }
@@ -434,7 +591,8 @@ ends room Past s o = absurd (cc o)
 ends room (Broken f) s o = absurd (cc o)
 
 -- where bytes are awaited, some make a text of the grammar
-pub begins_open : (p : Place) (text : List ℕ) → p.mode ≡ Digits 0 0 → IsTrue (is_sound (run p text)) → is_open (run p text) ≡ true → Begins text
+pub begins_open : (p : Place) (text : List ℕ) → p.mode ≡ Digits 0 0 → IsTrue (is_sound (run p text))
+    → is_open (run p text) ≡ true → Begins text
 begins_open p text m s o =
     let e = ends (run p text).room (run p text).mode s o in
     (e.rest, emitted p text ++ e.out, chunked_before p text e.rest e.out m e.good)

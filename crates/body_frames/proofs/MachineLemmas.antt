@@ -1,5 +1,7 @@
 -- What the machine does over bytes one after another.
-use Rattle.std.proofs.Common.{suc, zero, Some, None, not, ◌^◌, lit<, ◌≡◌, ℕ, ◌+◌, ◌-◌, ◌*◌, ◌<◌, ◌≤◌, ◌∷◌, [], ◌++◌, List, length, take, drop, min, Bool, true, false, refl, sym, ap, ◌∙◌, subst, arith, get_or, append_assoc, cond}
+use Rattle.std.proofs.Common.{suc, zero, Some, None, not, ◌^◌, lit<, ◌≡◌, ℕ, ◌+◌, ◌-◌, ◌*◌, ◌<◌, ◌≤◌, ◌∷◌, [], ◌++◌}
+use Rattle.std.proofs.Common.{List, length, take, drop, min, Bool, true, false, refl, sym, ap, ◌∙◌, subst, arith}
+use Rattle.std.proofs.Common.{get_or, append_assoc, cond}
 use Rattle.std.specs.Prelude.{IsTrue, if◌then◌else◌, nat_lt, nat_le, ◌&&◌}
 use Rattle.std.proofs.lemmas.List.{append-nil, take_more, length-take-le}
 use Rattle.std.proofs.lemmas.Bool.Decides.{nat_tests}
@@ -8,9 +10,14 @@ use Rattle.std.proofs.Math.Nat.{pow-le-pow_right}
 use Rattle.std.proofs.Math.Seq.{take-add}
 use Rattle.body_frames.specs.declared.frame.BodyFault.{BodyFault}
 use Rattle.body_frames.specs.declared.place.Mode.{Mode}
-use Rattle.body_frames.specs.declared.place.Mode.TheVariants.{Whole, Open, Digits, Blank, Extension, LineFeed, Data, DataReturn, DataFeed, LastReturn, LastFeed, Done, Past, Broken}
+use Rattle.body_frames.specs.declared.place.Mode.TheVariants.{Whole, Open, Digits, Blank, Extension, LineFeed, Data}
+use Rattle.body_frames.specs.declared.place.Mode.TheVariants.{DataReturn, DataFeed, LastReturn, LastFeed, Done, Past}
+use Rattle.body_frames.specs.declared.place.Mode.TheVariants.{Broken}
 use Rattle.body_frames.specs.declared.place.Place.{Place}
-use Rattle.body_frames.specs.Machine.{step, run, emitted, is_data, is_open, is_open_mode, is_framing, is_sound, is_sound_mode, most_left, framing_left, next_mode, is_data_mode, after_digits, after_line, digit_value, fault_of, fault_mode, is_done, is_done_mode, data_left, data_left_mode, jump, jump_mode}
+use Rattle.body_frames.specs.Machine.{step, run, emitted, is_data, is_open, is_open_mode, is_framing, is_sound}
+use Rattle.body_frames.specs.Machine.{is_sound_mode, most_left, framing_left, next_mode, is_data_mode, after_digits}
+use Rattle.body_frames.specs.Machine.{after_line, digit_value, fault_of, fault_mode, is_done, is_done_mode, data_left}
+use Rattle.body_frames.specs.Machine.{data_left_mode, jump, jump_mode}
 
 pub run-append : (p : Place) (xs ys : List ℕ) → run p (xs ++ ys) ≡ run (run p xs) ys
 unfolding run
@@ -22,7 +29,8 @@ unfolding run emitted
 emitted-append p [] ys = refl
 emitted-append p (b ∷ bs) ys =
     let front = if is_data p then b ∷ [] else [] in
-    ap (λ l. front ++ l) (emitted-append (step p b) bs ys) ∙ sym (append_assoc front (emitted (step p b) bs) (emitted (run (step p b) bs) ys))
+    ap (λ l. front ++ l) (emitted-append (step p b) bs ys)
+    ∙ sym (append_assoc front (emitted (step p b) bs) (emitted (run (step p b) bs) ys))
 
 run_one : (p : Place) (b : ℕ) → run p (b ∷ []) ≡ step p b
 unfolding run
@@ -33,13 +41,18 @@ unfolding emitted
 emitted_one p b = append-nil _
 
 -- one byte more
-pub run_more : (p : Place) (piece : List ℕ) (i : ℕ) → i < length piece → run p (take (i + 1) piece) ≡ step (run p (take i piece)) (get_or piece i 0)
+pub run_more : (p : Place) (piece : List ℕ) (i : ℕ) → i < length piece
+    → run p (take (i + 1) piece) ≡ step (run p (take i piece)) (get_or piece i 0)
 run_more p piece i within =
-    ap (run p) (take_more piece i 0 within) ∙ run-append p (take i piece) (get_or piece i 0 ∷ []) ∙ run_one (run p (take i piece)) (get_or piece i 0)
+    ap (run p) (take_more piece i 0 within) ∙ run-append p (take i piece) (get_or piece i 0 ∷ [])
+    ∙ run_one (run p (take i piece)) (get_or piece i 0)
 
-pub emitted_more : (p : Place) (piece : List ℕ) (i : ℕ) → i < length piece → emitted p (take (i + 1) piece) ≡ emitted p (take i piece) ++ (if is_data (run p (take i piece)) then get_or piece i 0 ∷ [] else [])
+pub emitted_more : (p : Place) (piece : List ℕ) (i : ℕ) → i < length piece
+    → emitted p (take (i + 1) piece) ≡ emitted p (take i piece) ++
+    (if is_data (run p (take i piece)) then get_or piece i 0 ∷ [] else [])
 emitted_more p piece i within =
-    ap (emitted p) (take_more piece i 0 within) ∙ emitted-append p (take i piece) (get_or piece i 0 ∷ []) ∙ ap (λ l. emitted p (take i piece) ++ l) (emitted_one (run p (take i piece)) (get_or piece i 0))
+    ap (emitted p) (take_more piece i 0 within) ∙ emitted-append p (take i piece) (get_or piece i 0 ∷ [])
+    ∙ ap (λ l. emitted p (take i piece) ++ l) (emitted_one (run p (take i piece)) (get_or piece i 0))
 
 -- ---- what a byte keeps
 
@@ -51,22 +64,26 @@ size_more line size d small low =
 pub size_fits : (line : ℕ) → line ≤ 16 → 16 ^ line ≤ 2 ^ 64
 size_fits line small = pow-le-pow_right {n = 16} (lit< tt) small
 
-sound_after : (room framed line size b : ℕ) → line ≤ 254 → IsTrue (is_sound_mode room (after_digits framed line size b))
+sound_after : (room framed line size b : ℕ) → line ≤ 254
+    → IsTrue (is_sound_mode room (after_digits framed line size b))
 sound_after room framed line size b small = grind (arith, nat_tests)
 
 sound_line : (room size : ℕ) → IsTrue (is_sound_mode room (after_line room size))
 sound_line room size = grind (arith, nat_tests)
 
-sound_digits : (room framed line size b : ℕ) → line ≤ 16 → size < 16 ^ line → IsTrue (is_sound_mode room (next_mode framed room (Digits line size) b))
+sound_digits : (room framed line size b : ℕ) → line ≤ 16 → size < 16 ^ line
+    → IsTrue (is_sound_mode room (next_mode framed room (Digits line size) b))
 sound_digits room framed line size b short small =
     let more = size_more line size (digit_value b) small in
     let other = sound_after room framed line size b (omega arith) in
     grind (arith, nat_tests)
 
-pub sound_next : (framed room : ℕ) (mode : Mode) (b : ℕ) → IsTrue (is_sound_mode room mode) → is_open_mode mode ≡ true → IsTrue (is_sound_mode (if is_data_mode room mode then room - 1 else room) (next_mode framed room mode b))
+pub sound_next : (framed room : ℕ) (mode : Mode) (b : ℕ) → IsTrue (is_sound_mode room mode) → is_open_mode mode ≡ true
+    → IsTrue (is_sound_mode (if is_data_mode room mode then room - 1 else room) (next_mode framed room mode b))
 sound_next framed room (Whole n) b h o = grind (arith, nat_tests)
 sound_next framed room Open b h o = grind (arith, nat_tests)
-sound_next framed room (Digits line size) b h o = sound_digits room framed line size b (grind (arith, nat_tests)) (grind (arith, nat_tests))
+sound_next framed room (Digits line size) b h o =
+    sound_digits room framed line size b (grind (arith, nat_tests)) (grind (arith, nat_tests))
 sound_next framed room (Blank line size) b h o = sound_after room framed line size b (grind (arith, nat_tests))
 sound_next framed room (Extension line size) b h o = grind (arith, nat_tests)
 sound_next framed room (LineFeed size) b h o = grind (arith, nat_tests)
@@ -82,13 +99,15 @@ sound_next framed room (Broken fault) b h o = absurd (cc o)
 left_after : (framed line size b : ℕ) → line ≤ 254 → framing_left (after_digits framed line size b) < 300 - line
 left_after framed line size b small = grind (arith, nat_tests)
 
-left_digits : (room framed line size b : ℕ) → line ≤ 16 → framing_left (next_mode framed room (Digits line size) b) < 300 - line
+left_digits : (room framed line size b : ℕ) → line ≤ 16
+    → framing_left (next_mode framed room (Digits line size) b) < 300 - line
 left_digits room framed line size b short =
     let other = left_after framed line size b (omega arith) in
     grind (arith, nat_tests)
 
 pub falls_next : (framed room : ℕ) (mode : Mode) (b : ℕ) → IsTrue (is_sound_mode room mode) → is_open_mode mode ≡ true
-    → (if is_data_mode room mode then room - 1 else room) * 1000 + framing_left (next_mode framed room mode b) < room * 1000 + framing_left mode
+    → (if is_data_mode room mode then room - 1 else room) * 1000 + framing_left
+    (next_mode framed room mode b) < room * 1000 + framing_left mode
 falls_next framed room (Whole n) b h o = grind (arith, nat_tests)
 falls_next framed room Open b h o = grind (arith, nat_tests)
 falls_next framed room (Digits line size) b h o =
@@ -146,18 +165,21 @@ data_open p h = by_mode p.room p.mode h
     by_mode room Past e = absurd (cc e)
     by_mode room (Broken f) e = absurd (cc e)
 
-pub framing_emits : (p : Place) (piece : List ℕ) (i : ℕ) → i < length piece → emitted p (take i piece) ≡ [] → is_framing (run p (take i piece)) ≡ true → emitted p (take (i + 1) piece) ≡ []
+pub framing_emits : (p : Place) (piece : List ℕ) (i : ℕ) → i < length piece → emitted p (take i piece) ≡ []
+    → is_framing (run p (take i piece)) ≡ true → emitted p (take (i + 1) piece) ≡ []
 framing_emits p piece i within nothing framing =
     emitted_more p piece i within ∙ rw (nothing, framing_not_data (run p (take i piece)) framing) refl
 
-pub data_emits : (p : Place) (piece : List ℕ) (i : ℕ) → i < length piece → emitted p (take i piece) ≡ take i piece → is_data (run p (take i piece)) ≡ true → emitted p (take (i + 1) piece) ≡ take (i + 1) piece
+pub data_emits : (p : Place) (piece : List ℕ) (i : ℕ) → i < length piece → emitted p (take i piece) ≡ take i piece
+    → is_data (run p (take i piece)) ≡ true → emitted p (take (i + 1) piece) ≡ take (i + 1) piece
 data_emits p piece i within same is =
     emitted_more p piece i within ∙ rw (same, is) (sym (take_more piece i 0 within))
 
 pub data_whole : (p : Place) (b : ℕ) → is_data p ≡ true → fault_of (step p b) ≡ None
 data_whole p b h = by_mode p.framed p.room p.mode h
   where
-    by_mode : (framed room : ℕ) (m : Mode) → is_data_mode room m ≡ true → fault_mode (next_mode framed room m b) ≡ None
+    by_mode : (framed room : ℕ) (m : Mode) → is_data_mode room m ≡ true
+        → fault_mode (next_mode framed room m b) ≡ None
     by_mode framed room (Whole n) e = grind (arith, nat_tests)
     by_mode framed room Open e = rw (e) refl
     by_mode framed room (Data n) e = grind (arith, nat_tests)
@@ -184,19 +206,25 @@ pub emitted_nothing : (p : Place) → emitted p [] ≡ []
 unfolding emitted
 emitted_nothing p = refl
 
-pub step_run : (p q r : Place) (piece : List ℕ) (i : ℕ) → i < length piece → q ≡ run p (take i piece) → r ≡ step q (get_or piece i 0) → r ≡ run p (take (i + 1) piece)
+pub step_run : (p q r : Place) (piece : List ℕ) (i : ℕ) → i < length piece → q ≡ run p (take i piece)
+    → r ≡ step q (get_or piece i 0) → r ≡ run p (take (i + 1) piece)
 step_run p q r piece i within e f = f ∙ ap (λ s. step s (get_or piece i 0)) e ∙ sym (run_more p piece i within)
 
 -- two parts of a piece, one after the other
-pub run_parts : (p q r : Place) (piece : List ℕ) (n m : ℕ) → q ≡ run p (take n piece) → r ≡ run q (take m (drop n piece)) → r ≡ run p (take (n + m) piece)
+pub run_parts : (p q r : Place) (piece : List ℕ) (n m : ℕ) → q ≡ run p (take n piece)
+    → r ≡ run q (take m (drop n piece)) → r ≡ run p (take (n + m) piece)
 run_parts p q r piece n m e f =
-    f ∙ ap (λ s. run s (take m (drop n piece))) e ∙ sym (run-append p (take n piece) (take m (drop n piece))) ∙ ap (run p) (sym (take-add n m piece))
+    f ∙ ap (λ s. run s (take m (drop n piece))) e ∙ sym (run-append p (take n piece) (take m (drop n piece)))
+    ∙ ap (run p) (sym (take-add n m piece))
 
-pub emitted_parts : (p q : Place) (piece : List ℕ) (n m : ℕ) → q ≡ run p (take n piece) → emitted p (take n piece) ≡ [] → emitted q (take m (drop n piece)) ≡ take m (drop n piece) → emitted p (take (n + m) piece) ≡ take (n + m - n) (drop n piece)
+pub emitted_parts : (p q : Place) (piece : List ℕ) (n m : ℕ) → q ≡ run p (take n piece)
+    → emitted p (take n piece) ≡ [] → emitted q (take m (drop n piece)) ≡ take m (drop n piece)
+    → emitted p (take (n + m) piece) ≡ take (n + m - n) (drop n piece)
 emitted_parts p q piece n m e f g =
     let size : n + m - n ≡ m = omega arith in
     let at : emitted (run p (take n piece)) (take m (drop n piece)) ≡ take m (drop n piece) = rw (← e) g in
-    ap (emitted p) (take-add n m piece) ∙ emitted-append p (take n piece) (take m (drop n piece)) ∙ rw (f, at, size) refl
+    ap (emitted p) (take-add n m piece) ∙ emitted-append p (take n piece) (take m (drop n piece))
+    ∙ rw (f, at, size) refl
 
 none_taken : (p q r : Place) → is_open p ≡ true → q ≡ p → is_framing q ≡ false → r ≡ q → is_data r ≡ false → ⊥
 none_taken p q r awaits e stops f ends =
@@ -205,7 +233,8 @@ none_taken p q r awaits e stops f ends =
     let both : is_framing p ≡ true = rw (awaits, is) refl in
     cc
 
-pub some_taken : (p q r : Place) (piece : List ℕ) (n m : ℕ) → 0 < length piece → is_open p ≡ true → q ≡ run p (take n piece) → (n < length piece → is_framing q ≡ false)
+pub some_taken : (p q r : Place) (piece : List ℕ) (n m : ℕ) → 0 < length piece → is_open p ≡ true
+    → q ≡ run p (take n piece) → (n < length piece → is_framing q ≡ false)
     → r ≡ run q (take m (drop n piece)) → (m < length (drop n piece) → is_data r ≡ false) → 0 < n + m
 some_taken p q r piece (suc n) m more awaits e stops f ends = omega arith
 some_taken p q r piece zero (suc m) more awaits e stops f ends = omega arith
@@ -215,7 +244,8 @@ some_taken p q r piece zero zero more awaits e stops f ends =
 pub open_or_done : (p : Place) → IsTrue (is_sound p) → fault_of p ≡ None → is_open p ≡ not (is_done p)
 open_or_done p h e = by_mode p.room p.mode h e
   where
-    by_mode : (room : ℕ) (m : Mode) → IsTrue (is_sound_mode room m) → fault_mode m ≡ None → is_open_mode m ≡ not (is_done_mode m)
+    by_mode : (room : ℕ) (m : Mode) → IsTrue (is_sound_mode room m) → fault_mode m ≡ None
+        → is_open_mode m ≡ not (is_done_mode m)
     by_mode room (Whole n) h e = refl
     by_mode room Open h e = refl
     by_mode room (Data n) h e = refl
@@ -240,11 +270,13 @@ record OneLess (framed room : ℕ) (m : Mode) (b : ℕ) : Type 0 where
   moved : next_mode framed room m b ≡ jump_mode m 1
 
 one_less : (framed room : ℕ) (m : Mode) (b : ℕ) → 0 < data_left_mode room m → OneLess framed room m b
-one_less framed room (Whole n) b h = record { is = refl; left = grind (arith, nat_tests); moved = grind (arith, nat_tests) }
+one_less framed room (Whole n) b h =
+    record { is = refl; left = grind (arith, nat_tests); moved = grind (arith, nat_tests) }
 one_less framed room Open b h =
     let some : nat_lt 0 room ≡ true = grind (arith, nat_tests) in
     record { is = some; left = rw some refl; moved = rw some refl }
-one_less framed room (Data n) b h = record { is = refl; left = grind (arith, nat_tests); moved = grind (arith, nat_tests) }
+one_less framed room (Data n) b h =
+    record { is = refl; left = grind (arith, nat_tests); moved = grind (arith, nat_tests) }
 one_less framed room (Digits l s) b h = absurd (omega (arith, h))
 one_less framed room (Blank l s) b h = absurd (omega (arith, h))
 one_less framed room (Extension l s) b h = absurd (omega (arith, h))
@@ -257,7 +289,8 @@ one_less framed room Done b h = absurd (omega (arith, h))
 one_less framed room Past b h = absurd (omega (arith, h))
 one_less framed room (Broken f) b h = absurd (omega (arith, h))
 
-jump_more : (room : ℕ) (m : Mode) (k : ℕ) → 0 < k → k + 1 ≤ data_left_mode room m → jump_mode (jump_mode m 1) k ≡ jump_mode m (k + 1)
+jump_more : (room : ℕ) (m : Mode) (k : ℕ) → 0 < k → k + 1 ≤ data_left_mode room m
+    → jump_mode (jump_mode m 1) k ≡ jump_mode m (k + 1)
 jump_more room (Whole n) k h f = grind (arith, nat_tests)
 jump_more room Open k h f = refl
 jump_more room (Data n) k h f = grind (arith, nat_tests)
@@ -316,7 +349,8 @@ pub record Passed (p q : Place) (xs : List ℕ) : Type 0 where
   pub moved : q ≡ run p xs
   pub body : emitted p xs ≡ xs
 
-pub range_passed : (p q : Place) (piece : List ℕ) (n : ℕ) → 0 < n → n ≤ length piece → n ≤ data_left p → q ≡ jump p n → Passed p q (take n piece)
+pub range_passed : (p q : Place) (piece : List ℕ) (n : ℕ) → 0 < n → n ≤ length piece → n ≤ data_left p → q ≡ jump p n
+    → Passed p q (take n piece)
 range_passed p q piece n some within few is =
     let size : length (take n piece) ≡ n = length-take-le n piece within in
     let j = jumps_all (take n piece) p (omega (arith, size, some)) (omega (arith, size, few)) in
@@ -328,7 +362,8 @@ nothing_passed p piece zero e = record { moved = refl; body = refl }
 nothing_passed p piece (suc n) e = absurd (omega (arith, e))
 
 -- where no byte of the framing is awaited, none was passed
-pub none_passed : (p q : Place) (piece : List ℕ) (n : ℕ) → q ≡ run p (take n piece) → (is_framing p ≡ false → n ≡ 0) → is_framing q ≡ true → is_framing p ≡ false → ⊥
+pub none_passed : (p q : Place) (piece : List ℕ) (n : ℕ) → q ≡ run p (take n piece) → (is_framing p ≡ false → n ≡ 0)
+    → is_framing q ≡ true → is_framing p ≡ false → ⊥
 none_passed p q piece n e h is none =
     let same : q ≡ p = e ∙ ap (λ k. run p (take k piece)) (h none) ∙ sym (run_nothing p) in
     cc (is, ap is_framing same, none)
@@ -340,7 +375,8 @@ broken_closed p f e = by_mode p.room p.mode e
     by_mode room (Broken g) e = refl
     by_mode room _ e = absurd (cc e)
 
-pub broken_same : (p q : Place) (piece : List ℕ) (n : ℕ) (f : BodyFault) → fault_of p ≡ Some f → q ≡ run p (take n piece) → (is_framing p ≡ false → n ≡ 0) → q ≡ p
+pub broken_same : (p q : Place) (piece : List ℕ) (n : ℕ) (f : BodyFault) → fault_of p ≡ Some f
+    → q ≡ run p (take n piece) → (is_framing p ≡ false → n ≡ 0) → q ≡ p
 broken_same p q piece n f broken e h =
     e ∙ ap (λ k. run p (take k piece)) (h (broken_closed p f broken)) ∙ sym (run_nothing p)
 

@@ -1,5 +1,7 @@
 -- Chunks that are written are chunks of the grammar.
-use Rattle.std.proofs.Common.{suc, zero, ◌≡◌, ℕ, ◌+◌, ◌*◌, ◌/◌, ◌%◌, ◌^◌, ◌<◌, ◌≤◌, ◌==◌, ◌∷◌, [], ◌++◌, List, length, Bool, true, false, cond, All, refl, sym, ap, ◌∙◌, subst, arith, append_assoc, append-nil}
+use Rattle.std.proofs.Common.{suc, zero, ◌≡◌, ℕ, ◌+◌, ◌*◌, ◌/◌, ◌%◌, ◌^◌, ◌<◌, ◌≤◌, ◌==◌, ◌∷◌, [], ◌++◌, List, length}
+use Rattle.std.proofs.Common.{Bool, true, false, cond, All, refl, sym, ap, ◌∙◌, subst, arith, append_assoc}
+use Rattle.std.proofs.Common.{append-nil}
 use Rattle.std.specs.Prelude.{nat_lt}
 use Rattle.std.specs.List.{list_all, flat_map}
 use Rattle.std.specs.Fmt.{digits, digits_onto, digit_glyph}
@@ -9,7 +11,8 @@ use Rattle.std.proofs.lemmas.Fmt.{digits_is_IsNumeral}
 use Rattle.std.proofs.lemmas.Grind.{pow_more}
 use Rattle.std.proofs.lemmas.Bool.Decides.{nat_tests}
 use Rattle.body_frames.specs.Machine.{digit_value}
-use Rattle.body_frames.specs.Chunks.{is_hex, value_of, Line, print_line, IsLine, Chunk, print_chunk, AreChunks, IsChunked, IsPiece, chunk_text, last_text}
+use Rattle.body_frames.specs.Chunks.{is_hex, value_of, Line, print_line, IsLine, Chunk, print_chunk, AreChunks}
+use Rattle.body_frames.specs.Chunks.{IsChunked, IsPiece, chunk_text, last_text}
 use Rattle.body_frames.proofs.ChunkSound.{no_chunk}
 
 -- a number of so many hexadecimal digits is written in so many
@@ -19,16 +22,22 @@ low_pow m n h =
     let more = pow_more 16 (m + 1) in
     omega (arith, h, same, more)
 
-length_onto : (m k n : ℕ) (acc : List ℕ) → n < 16 ^ (m + 1) → m < k → length (digits_onto k 16 false n acc) ≤ m + 1 + length acc
+length_onto : (m k n : ℕ) (acc : List ℕ) → n < 16 ^ (m + 1) → m < k
+    → length (digits_onto k 16 false n acc) ≤ m + 1 + length acc
 length_onto m zero n acc h f = absurd (omega (arith, f))
 length_onto zero (suc k) n acc h f =
     let none : n / 16 == 0 ≡ true = grind (arith, nat_tests, h) in
     rw none (omega arith)
 length_onto (suc m) (suc k) n acc h f =
-    by_first (n / 16 == 0) (length_onto m k (n / 16) (digit_glyph false (n % 16) ∷ acc) (low_pow m n h) (omega (arith, f)))
+    by_first (n / 16 == 0)
+    (length_onto m k (n / 16) (digit_glyph false (n % 16) ∷ acc) (low_pow m n h) (omega (arith, f)))
   where
-    by_first : (t : Bool) → length (digits_onto k 16 false (n / 16) (digit_glyph false (n % 16) ∷ acc)) ≤ m + 1 + length (digit_glyph false (n % 16) ∷ acc)
-        → length (cond t (digit_glyph false (n % 16) ∷ acc) (digits_onto k 16 false (n / 16) (digit_glyph false (n % 16) ∷ acc))) ≤ suc m + 1 + length acc
+    by_first : (t : Bool)
+        → length (digits_onto k 16 false (n / 16) (digit_glyph false (n % 16) ∷ acc)) ≤ m + 1 + length
+        (digit_glyph false (n % 16) ∷ acc)
+        → length
+        (cond t (digit_glyph false (n % 16) ∷ acc)
+        (digits_onto k 16 false (n / 16) (digit_glyph false (n % 16) ∷ acc))) ≤ suc m + 1 + length acc
     by_first true e = omega arith
     by_first false e = omega (arith, e)
 
@@ -72,22 +81,29 @@ is_line n h =
     wide : (n : ℕ) → n < 2 ^ 64 → n < 16 ^ 64
     wide n h = omega (arith, h)
 
-one_more : (piece text body : List ℕ) → IsPiece piece → IsChunked text body → IsChunked (chunk_text piece ++ text) (piece ++ body)
+one_more : (piece text body : List ℕ) → IsPiece piece → IsChunked text body
+    → IsChunked (chunk_text piece ++ text) (piece ++ body)
 unfolding line_of
 one_more piece text body is h = record {
   chunks = record { line = line_of (length piece); bytes = piece } ∷ h.chunks;
   last = h.last;
   each = (is_line (length piece) is.1, is.0, h.each);
   end = h.end;
-  text_is = ap (λ l. chunk_text piece ++ l) h.text_is ∙ regroup (digits 16 false (length piece)) piece (flat_map print_chunk h.chunks) (print_line h.last ++ 13 ∷ 10 ∷ []);
+  text_is = ap (λ l. chunk_text piece ++ l) h.text_is
+      ∙ regroup (digits 16 false (length piece)) piece (flat_map print_chunk h.chunks)
+      (print_line h.last ++ 13 ∷ 10 ∷ []);
   body_is = ap (λ l. piece ++ l) h.body_is;
 }
   where
-    regroup : (d p t r : List ℕ) → (d ++ (13 ∷ 10 ∷ (p ++ 13 ∷ 10 ∷ []))) ++ (t ++ r) ≡ ((d ++ 13 ∷ 10 ∷ []) ++ (p ++ 13 ∷ 10 ∷ [])) ++ t ++ r
+    regroup : (d p t r : List ℕ)
+        → (d ++ (13 ∷ 10 ∷ (p ++ 13 ∷ 10 ∷ []))) ++ (t ++ r) ≡ ((d ++ 13 ∷ 10 ∷ []) ++ (p ++ 13 ∷ 10 ∷ [])) ++ t ++ r
     regroup d p t r = simp append_assoc
 
-pub written : (pieces : List (List ℕ)) → All IsPiece pieces → IsChunked (flat_map chunk_text pieces ++ last_text) (flat_map (λ piece. piece) pieces)
+pub written : (pieces : List (List ℕ)) → All IsPiece pieces
+    → IsChunked (flat_map chunk_text pieces ++ last_text) (flat_map (λ piece. piece) pieces)
 written [] h = no_chunk
 written (piece ∷ pieces) h =
-    subst (λ l. IsChunked l (piece ++ flat_map (λ p. p) pieces)) (sym (append_assoc (chunk_text piece) (flat_map chunk_text pieces) last_text))
-    (one_more piece (flat_map chunk_text pieces ++ last_text) (flat_map (λ p. p) pieces) (h 0 [] (omega arith)) (written pieces (λ k d low. h (suc k) d (omega (arith, low)))))
+    subst (λ l. IsChunked l (piece ++ flat_map (λ p. p) pieces))
+    (sym (append_assoc (chunk_text piece) (flat_map chunk_text pieces) last_text))
+    (one_more piece (flat_map chunk_text pieces ++ last_text) (flat_map (λ p. p) pieces) (h 0 [] (omega arith))
+    (written pieces (λ k d low. h (suc k) d (omega (arith, low)))))

@@ -97,8 +97,8 @@ impl Decoder {
         ends_here(&self.place)
     }
 
-    /// Takes bytes from the front of the piece: those of the framing that come next, and then those of the body, as many
-    /// as come in one range. After a fault each feed answers that fault again.
+    /// Takes bytes from the front of the piece: those of the framing that come next, and then those of the body, as
+    /// many as come in one range. After a fault each feed answers that fault again.
     pub fn feed(&mut self, piece: &[u8]) -> Result<Fed, BodyFault>
         ensures took { IfOk result (λ fed.
             spec.Took self.old self.new piece.now fed.taken fed.from fed.to) }

@@ -7,15 +7,15 @@ use crate::frame::{BodyFault, Frame};
 
 /// A decoder of a chunked body takes the texts of the grammar to their end, and no others, and gives their bodies.
 pub fn chunked_bodies()
-    ensures only { (limit : ℕ) (text : List ℕ) → is_done (run (start Frame.Chunked limit) text) ≡ true
-        → IsChunked text (emitted (start Frame.Chunked limit) text) }
+    ensures only { (limit : ℕ) (text : List ℕ)
+        → is_done (run (start Frame.Chunked limit) text) ≡ true → IsChunked text (emitted (start Frame.Chunked limit) text) }
     ensures takes { (limit : ℕ) (text body : List ℕ) → IsChunked text body → length body ≤ limit
         → (is_done (run (start Frame.Chunked limit) text) ≡ true)
         × (emitted (start Frame.Chunked limit) text ≡ body) }
 {}
 
-/// A decoder of a chunked body awaits more only where some more makes a text of the grammar, and refuses one as broken at
-/// the first byte behind which nothing does.
+/// A decoder of a chunked body awaits more only where some more makes a text of the grammar, and refuses one as broken
+/// at the first byte behind which nothing does.
 pub fn broken_chunks()
     ensures awaits { (limit : ℕ) (text : List ℕ)
         → is_open (run (start Frame.Chunked limit) text) ≡ true → Begins text }

@@ -1,4 +1,4 @@
-//! Bodies of HTTP/1.1 messages in their frames (RFC 9112, sections 6 and 7): decoded as they come, and written in chunks.
+//! Bodies of HTTP/1.1 messages in their frames (RFC 9112, sections 6 and 7): decoded as they come, written in chunks.
 //!
 //! The main contract is that of `Decoder::feed`. A decoder is a place in a body, and a feed moves it by the bytes taken
 //! and by nothing else, so a body, and the fault of one that breaks, are the same however the bytes are cut. The laws

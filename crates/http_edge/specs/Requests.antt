@@ -1,5 +1,7 @@
 -- The requests of an input (RFC 9112, sections 2 to 7 and 9.6), and what a call over a source of it gives.
-use Rattle.std.specs.Prelude.{◌≡◌, ℕ, ◌+◌, ◌<◌, ◌≤◌, ◌⊎◌, ◌==◌, ◌||◌, ◌&&◌, not, Bool, true, false, if◌then◌else◌, List, [], ◌∷◌, ◌++◌, length, take, drop, Option, Some, None, codes, Result, Ok, Err, IfOk, vec_len}
+use Rattle.std.specs.Prelude.{◌≡◌, ℕ, ◌+◌, ◌<◌, ◌≤◌, ◌⊎◌, ◌==◌, ◌||◌, ◌&&◌, not, Bool, true, false, if◌then◌else◌}
+use Rattle.std.specs.Prelude.{List, [], ◌∷◌, ◌++◌, length, take, drop, Option, Some, None, codes, Result, Ok, Err}
+use Rattle.std.specs.Prelude.{IfOk, vec_len}
 use Rattle.std.specs.Io.KnownBytes.{Consumes, IsAtEnd}
 use Rattle.std.specs.List.{list_all}
 use Rattle.http_head.specs.Block.{block_in, line_count}
@@ -27,7 +29,8 @@ use Rattle.http_edge.specs.declared.heads.HeadStop.TheVariants as head_stop
 use Rattle.http_edge.specs.declared.bodies.BodyStop.{BodyStop}
 use Rattle.http_edge.specs.declared.bodies.BodyStop.TheVariants as body_stop
 use Rattle.http_edge.specs.declared.request.End.{End}
-use Rattle.http_edge.specs.declared.request.End.TheVariants.{Ended, Asked, BadHead, HeadTooLarge, BadFraming, BodyTooLarge, CutShort}
+use Rattle.http_edge.specs.declared.request.End.TheVariants.{Ended, Asked, BadHead, HeadTooLarge, BadFraming}
+use Rattle.http_edge.specs.declared.request.End.TheVariants.{BodyTooLarge, CutShort}
 
 -- the frame of a body, or none where it can't be said
 abbrev pub frame_by : Framing → Option Frame
@@ -202,8 +205,10 @@ AwaitsHead bytes = (block_in bytes ≡ None) × (length bytes < MOST_HEAD_BYTES)
 abbrev pub NoHead : Option (List ℕ) → Option (List ℕ) → List ℕ → List ℕ → Type 0 → HeadStop → Type 0
 NoHead left0 left held0 held rose head_stop.BadHead = Seen left0 left held0 held × StartsWithNoHead held
 NoHead left0 left held0 held rose head_stop.TooLarge = Seen left0 left held0 held × StartsTooLarge held
-NoHead left0 left held0 held rose (head_stop.Input read_stop.AtEnd) = Seen left0 left held0 held × AwaitsHead held × IsAtEnd left
-NoHead left0 left held0 held rose (head_stop.Input read_stop.ReadFault) = Seen left0 left held0 held × AwaitsHead held × rose
+NoHead left0 left held0 held rose (head_stop.Input read_stop.AtEnd) =
+    Seen left0 left held0 held × AwaitsHead held × IsAtEnd left
+NoHead left0 left held0 held rose (head_stop.Input read_stop.ReadFault) =
+    Seen left0 left held0 held × AwaitsHead held × rose
 NoHead left0 left held0 held rose (head_stop.Input read_stop.NoMemory) = Unit {0}
 
 -- bytes held went into a body
@@ -220,7 +225,8 @@ NotFed place held (body_stop.Input read_stop.NoMemory) = Unit {0}
 NotFed place held (body_stop.Input _) = ⊥
 
 -- a body as far as it came
-pub record BodySoFar (left0 left : Option (List ℕ)) (held0 held : List ℕ) (place0 place : Place) (body : List ℕ) : Type 0 where
+pub record BodySoFar (left0 left : Option (List ℕ)) (held0 held : List ℕ) (place0 place : Place)
+    (body : List ℕ) : Type 0 where
   pub taken : List ℕ
   pub front : List ℕ
   pub consumed : Consumes left0 left taken
@@ -234,7 +240,8 @@ pub record GotBody (left0 left : Option (List ℕ)) (held0 held : List ℕ) (pla
   pub starts : StartsWithBody place bytes body held
 
 -- a body in what was seen is refused
-pub record BrokenBody (left0 left : Option (List ℕ)) (held0 : List ℕ) (place : Place) (fault : BodyFault) : Type 0 where
+pub record BrokenBody (left0 left : Option (List ℕ)) (held0 : List ℕ) (place : Place)
+    (fault : BodyFault) : Type 0 where
   pub bytes : List ℕ
   pub seen : Seen left0 left held0 bytes
   pub breaks : BreaksWith place bytes fault
@@ -248,7 +255,8 @@ pub record OpenBody (left0 left : Option (List ℕ)) (held0 : List ℕ) (place :
 -- why no body came
 abbrev pub NoBodyCame : Option (List ℕ) → Option (List ℕ) → List ℕ → Place → Type 0 → BodyStop → Type 0
 NoBodyCame left0 left held0 place rose (body_stop.Fault fault) = BrokenBody left0 left held0 place fault
-NoBodyCame left0 left held0 place rose (body_stop.Input read_stop.AtEnd) = OpenBody left0 left held0 place × IsAtEnd left
+NoBodyCame left0 left held0 place rose (body_stop.Input read_stop.AtEnd) =
+    OpenBody left0 left held0 place × IsAtEnd left
 NoBodyCame left0 left held0 place rose (body_stop.Input read_stop.ReadFault) = OpenBody left0 left held0 place × rose
 NoBodyCame left0 left held0 place rose (body_stop.Input read_stop.NoMemory) = Unit {0}
 
@@ -292,7 +300,8 @@ NoRequest left0 left held0 rose stop.NoMemory = Unit {0}
 abbrev pub stop_of_head : List ℕ → HeadStop → Stop
 stop_of_head held head_stop.BadHead = stop.Refused BadHead
 stop_of_head held head_stop.TooLarge = stop.Refused HeadTooLarge
-stop_of_head held (head_stop.Input read_stop.AtEnd) = if is_blank held then stop.Refused Ended else stop.Refused CutShort
+stop_of_head held (head_stop.Input read_stop.AtEnd) =
+    if is_blank held then stop.Refused Ended else stop.Refused CutShort
 stop_of_head held (head_stop.Input read_stop.ReadFault) = stop.ReadFault
 stop_of_head held (head_stop.Input read_stop.NoMemory) = stop.NoMemory
 

@@ -19,8 +19,12 @@ pub enum BodyStop {
 
 // Feeds what is held once.
 fn feed_into(decoder: &mut Decoder, held: &mut Vec<u8>, body: &mut Vec<u8>) -> Result<(), BodyStop>
-    ensures ok { OnOk result (spec.FedInto decoder.old decoder.new held.old.items held.new.items body.old.items body.new.items) }
-    ensures falls { OnOk result (0 < vec_len held.old → is_open decoder.old ≡ true → most_left decoder.new < most_left decoder.old) }
+    ensures ok { OnOk result (
+        spec.FedInto decoder.old decoder.new held.old.items held.new.items body.old.items
+        body.new.items) }
+    ensures falls { OnOk result (
+        0 < vec_len held.old → is_open decoder.old ≡ true → most_left decoder.new < most_left
+        decoder.old) }
     ensures awaits { OnOk result (is_done decoder.new ≡ true ⊎ is_open decoder.new ≡ true) }
     ensures err { IfErr result (λ stop. spec.NotFed decoder.old held.old.items stop) }
     ensures shorter { vec_len held.new ≤ vec_len held.old }
@@ -39,9 +43,12 @@ fn feed_into(decoder: &mut Decoder, held: &mut Vec<u8>, body: &mut Vec<u8>) -> R
 // Reads where nothing is held.
 fn fill<C: Source>(alloc: Global, conn: &mut C, held: &mut Vec<u8>) -> Result<(), ReadStop>
     requires { vec_len held.old ≤ MOST_HELD_BYTES }
-    ensures ok { OnOk result (spec.Seen (C.left conn.old) (C.left conn.new) held.old.items held.new.items) }
+    ensures ok { OnOk result (
+        spec.Seen (C.left conn.old) (C.left conn.new) held.old.items held.new.items) }
     ensures some { OnOk result (0 < vec_len held.new) }
-    ensures err { IfErr result (λ stop. spec.NotFilled (C.left conn.old) (C.left conn.new) held.old.items (Rose (C.read_faults conn.old) (C.read_faults conn.new)) stop) }
+    ensures err { IfErr result (λ stop.
+        spec.NotFilled (C.left conn.old) (C.left conn.new) held.old.items
+        (Rose (C.read_faults conn.old) (C.read_faults conn.new)) stop) }
     ensures later { C.read_faults conn.old ≤ C.read_faults conn.new }
     ensures aside { C.outward conn.new ≡ C.outward conn.old }
     ensures bounded { vec_len held.new ≤ MOST_HELD_BYTES }
@@ -60,8 +67,12 @@ pub fn read_body<C: Source>(
     frame: Frame,
 ) -> Result<Vec<u8>, BodyStop>
     requires { vec_len held.old ≤ MOST_HELD_BYTES }
-    ensures ok { IfOk result (λ body. spec.GotBody (C.left conn.old) (C.left conn.new) held.old.items held.new.items (spec.body_start frame) body.items) }
-    ensures err { IfErr result (λ stop. spec.NoBodyCame (C.left conn.old) (C.left conn.new) held.old.items (spec.body_start frame) (Rose (C.read_faults conn.old) (C.read_faults conn.new)) stop) }
+    ensures ok { IfOk result (λ body.
+        spec.GotBody (C.left conn.old) (C.left conn.new) held.old.items held.new.items
+        (spec.body_start frame) body.items) }
+    ensures err { IfErr result (λ stop.
+        spec.NoBodyCame (C.left conn.old) (C.left conn.new) held.old.items (spec.body_start frame)
+        (Rose (C.read_faults conn.old) (C.read_faults conn.new)) stop) }
     ensures later { C.read_faults conn.old ≤ C.read_faults conn.new }
     ensures aside { C.outward conn.new ≡ C.outward conn.old }
     ensures bounded { vec_len held.new ≤ MOST_HELD_BYTES }

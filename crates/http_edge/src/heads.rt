@@ -37,8 +37,11 @@ pub fn drop_front(held: &mut Vec<u8>, count: usize)
 // Reads once, and holds what came.
 pub fn refill<C: Source>(alloc: Global, conn: &mut C, held: &mut Vec<u8>) -> Result<(), ReadStop>
     requires { vec_len held.old < MOST_HEAD_BYTES }
-    ensures ok { OnOk result (spec.Refilled (C.left conn.old) (C.left conn.new) held.old.items held.new.items) }
-    ensures err { IfErr result (λ stop. spec.NotRead (C.left conn.old) (C.left conn.new) held.old.items held.new.items (Rose (C.read_faults conn.old) (C.read_faults conn.new)) stop) }
+    ensures ok { OnOk result (
+        spec.Refilled (C.left conn.old) (C.left conn.new) held.old.items held.new.items) }
+    ensures err { IfErr result (λ stop.
+        spec.NotRead (C.left conn.old) (C.left conn.new) held.old.items held.new.items
+        (Rose (C.read_faults conn.old) (C.read_faults conn.new)) stop) }
     ensures later { C.read_faults conn.old ≤ C.read_faults conn.new }
     ensures aside { C.outward conn.new ≡ C.outward conn.old }
     ensures bounded { vec_len held.new ≤ MOST_HELD_BYTES }
@@ -63,8 +66,11 @@ pub fn next_head<C: Source>(
     held: &mut Vec<u8>,
 ) -> Result<Head, HeadStop>
     requires { vec_len held.old ≤ MOST_HELD_BYTES }
-    ensures ok { IfOk result (λ head. spec.GotHead (C.left conn.old) (C.left conn.new) held.old.items held.new.items head) }
-    ensures err { IfErr result (λ stop. spec.NoHead (C.left conn.old) (C.left conn.new) held.old.items held.new.items (Rose (C.read_faults conn.old) (C.read_faults conn.new)) stop) }
+    ensures ok { IfOk result (λ head.
+        spec.GotHead (C.left conn.old) (C.left conn.new) held.old.items held.new.items head) }
+    ensures err { IfErr result (λ stop.
+        spec.NoHead (C.left conn.old) (C.left conn.new) held.old.items held.new.items
+        (Rose (C.read_faults conn.old) (C.read_faults conn.new)) stop) }
     ensures later { C.read_faults conn.old ≤ C.read_faults conn.new }
     ensures aside { C.outward conn.new ≡ C.outward conn.old }
     ensures bounded { vec_len held.new ≤ MOST_HELD_BYTES }

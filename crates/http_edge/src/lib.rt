@@ -1,8 +1,8 @@
 //! The requests of a connection, whatever the sizes of its reads (RFC 9112, sections 2 to 7).
 //!
 //! The main contract is that of `Edge::next_request`: the request that it gives stands first in the bytes that were held
-//! and read, and what is held then stands behind it; where it gives none, those bytes have none, and why is said exactly.
-//! The law `one_list_of_requests` says that an input is one list of requests with one end.
+//! and read, and what is held then stands behind it. Where it gives none, those bytes say why. The law
+//! `one_list_of_requests` says that an input is one list of requests with one end.
 //!
 //! Nothing is promised of how much of an input is read ahead, but that at most `MOST_HELD_BYTES` bytes are held.
 #![tactic(auto)]

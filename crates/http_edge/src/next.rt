@@ -71,8 +71,12 @@ fn stop_of_body(stop: BodyStop) -> Stop
 
 fn next_whole<C: Source>(alloc: Global, conn: &mut C, held: &mut Vec<u8>) -> Result<Request, Stop>
     requires { vec_len held.old ≤ MOST_HELD_BYTES }
-    ensures ok { IfOk result (λ request. spec.GotRequest (C.left conn.old) (C.left conn.new) held.old.items held.new.items request) }
-    ensures err { IfErr result (λ stop. spec.NoRequest (C.left conn.old) (C.left conn.new) held.old.items (Rose (C.read_faults conn.old) (C.read_faults conn.new)) stop) }
+    ensures ok { IfOk result (λ request.
+        spec.GotRequest (C.left conn.old) (C.left conn.new) held.old.items held.new.items
+        request) }
+    ensures err { IfErr result (λ stop.
+        spec.NoRequest (C.left conn.old) (C.left conn.new) held.old.items
+        (Rose (C.read_faults conn.old) (C.read_faults conn.new)) stop) }
     ensures later { C.read_faults conn.old ≤ C.read_faults conn.new }
     ensures aside { C.outward conn.new ≡ C.outward conn.old }
     ensures bounded { vec_len held.new ≤ MOST_HELD_BYTES }
@@ -132,8 +136,11 @@ impl Edge {
 
     /// The next request of the connection. After an `Err` the edge isn't used again.
     pub fn next_request<C: Source>(&mut self, alloc: Global, conn: &mut C) -> Result<Request, Stop>
-        ensures ok { IfOk result (λ request. spec.GotRequest (C.left conn.old) (C.left conn.new) self.old self.new request) }
-        ensures err { IfErr result (λ stop. spec.NoRequest (C.left conn.old) (C.left conn.new) self.old (Rose (C.read_faults conn.old) (C.read_faults conn.new)) stop) }
+        ensures ok { IfOk result (λ request.
+            spec.GotRequest (C.left conn.old) (C.left conn.new) self.old self.new request) }
+        ensures err { IfErr result (λ stop.
+            spec.NoRequest (C.left conn.old) (C.left conn.new) self.old
+            (Rose (C.read_faults conn.old) (C.read_faults conn.new)) stop) }
         ensures later { C.read_faults conn.old ≤ C.read_faults conn.new }
         ensures aside { C.outward conn.new ≡ C.outward conn.old }
     {
@@ -143,8 +150,8 @@ impl Edge {
 
 /// What stands first in the bytes that were taken stands there in all longer inputs: a request, and a refusal.
 pub fn requests_stay()
-    ensures starts { (bytes more after : List ℕ) (request : Request) → spec.StartsWith bytes request after
-        → spec.StartsWith (bytes ++ more) request (after ++ more) }
+    ensures starts { (bytes more after : List ℕ) (request : Request)
+        → spec.StartsWith bytes request after → spec.StartsWith (bytes ++ more) request (after ++ more) }
     ensures refused { (bytes more : List ℕ) (end : End) → spec.IsRefused bytes end
         → spec.IsRefused (bytes ++ more) end }
 {

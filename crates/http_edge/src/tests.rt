@@ -48,7 +48,8 @@ fn an_input_is_one_list_of_requests(rt: HostRuntime) -> Result<(), Fail> {
             End::Ended,
         ),
         (
-            "POST / HTTP/1.1\r\nContent-Length: 3\r\n\r\nabcPOST / HTTP/1.1\r\nTransfer-Encoding: chunked\r\n\r\n2\r\nde\r\n1;x\r\nf\r\n0\r\n\r\n\r\nGET / HTTP/1.1\n\n",
+            "POST / HTTP/1.1\r\nContent-Length: 3\r\n\r\nabcPOST / HTTP/1.1\r\nTransfer-Encoding: chunked\r\n\r\n\
+             2\r\nde\r\n1;x\r\nf\r\n0\r\n\r\n\r\nGET / HTTP/1.1\n\n",
             "abc|def||",
             End::Ended,
         ),

@@ -1,5 +1,6 @@
 -- The number that digits write fits.
-use Rattle.std.proofs.Common.{suc, zero, ◌≡◌, ℕ, ◌+◌, ◌-◌, ◌*◌, ◌^◌, ◌<◌, ◌≤◌, List, [], ◌∷◌, length, take, get_or, Bool, true, false, ◌&&◌, refl, sym, ap, ◌∙◌, subst, arith}
+use Rattle.std.proofs.Common.{suc, zero, ◌≡◌, ℕ, ◌+◌, ◌-◌, ◌*◌, ◌^◌, ◌<◌, ◌≤◌, List, [], ◌∷◌, length, take, get_or}
+use Rattle.std.proofs.Common.{Bool, true, false, ◌&&◌, refl, sym, ap, ◌∙◌, subst, arith}
 use Rattle.std.specs.Prelude.{IsTrue, nat_lt, nat_le}
 use Rattle.http_head.specs.Framing.{is_number}
 use Rattle.std.specs.Char.{is_ascii_digit, digit_value}
@@ -19,12 +20,15 @@ digit_is d e = (grind (arith, nat_tests, e), grind (arith, nat_tests, e))
 
 all_digits : (ds : List ℕ) → list_all is_ascii_digit ds ≡ true → AllDigits 10 ds
 all_digits [] e = tt
-all_digits (d ∷ ds) e = let k = both (is_ascii_digit d) (list_all is_ascii_digit ds) e in ((digit_is d k.0).0, all_digits ds k.1)
+all_digits (d ∷ ds) e = let k = both (is_ascii_digit d) (list_all is_ascii_digit ds) e in
+    ((digit_is d k.0).0, all_digits ds k.1)
 
-digit_at : (ds : List ℕ) (i : ℕ) → list_all is_ascii_digit ds ≡ true → i < length ds → is_ascii_digit (get_or ds i 0) ≡ true
+digit_at : (ds : List ℕ) (i : ℕ) → list_all is_ascii_digit ds ≡ true → i < length ds
+    → is_ascii_digit (get_or ds i 0) ≡ true
 digit_at [] i e h = absurd (omega (arith, h))
 digit_at (d ∷ ds) zero e h = (both (is_ascii_digit d) (list_all is_ascii_digit ds) e).0
-digit_at (d ∷ ds) (suc i) e h = digit_at ds i (both (is_ascii_digit d) (list_all is_ascii_digit ds) e).1 (omega (arith, h))
+digit_at (d ∷ ds) (suc i) e h =
+    digit_at ds i (both (is_ascii_digit d) (list_all is_ascii_digit ds) e).1 (omega (arith, h))
 
 pub few_digits : (ds : List ℕ) → IsTrue (is_number ds) → length ds ≤ 19
 few_digits ds h = grind (arith, nat_tests, h)
@@ -38,7 +42,8 @@ pub record OneDigit (ds : List ℕ) (i n : ℕ) : Type 0 where
   pub value : n * 10 + (get_or ds i 0 - 48) ≡ digits_value 10 (take (i + 1) ds)
   pub fits : n * 10 + (get_or ds i 0 - 48) < 2 ^ 64
 
-pub one_digit : (ds : List ℕ) (i n : ℕ) → list_all is_ascii_digit ds ≡ true → length ds ≤ 19 → i < length ds → n ≡ digits_value 10 (take i ds) → OneDigit ds i n
+pub one_digit : (ds : List ℕ) (i n : ℕ) → list_all is_ascii_digit ds ≡ true → length ds ≤ 19 → i < length ds
+    → n ≡ digits_value 10 (take i ds) → OneDigit ds i n
 one_digit ds i n all few h e =
     let digit = (digit_is (get_or ds i 0) (digit_at ds i all h)).1 in
     let more = digits_value_more 10 ds i h in

@@ -1,7 +1,10 @@
 -- The block of a head stays where it is as more bytes come.
-use Rattle.std.proofs.Common.{◌≡◌, ℕ, ◌+◌, ◌-◌, ◌<◌, ◌≤◌, ◌⊎◌, ◌++◌, ◌==◌, ◌&&◌, not, nat_lt, List, [], ◌∷◌, length, take, drop, max, min, Option, Some, None, Bool, true, false, cond, suc, zero, refl, sym, ap, ◌∙◌, subst, arith, append_assoc, append-nil, inl, inr}
+use Rattle.std.proofs.Common.{◌≡◌, ℕ, ◌+◌, ◌-◌, ◌<◌, ◌≤◌, ◌⊎◌, ◌++◌, ◌==◌, ◌&&◌, not, nat_lt, List, [], ◌∷◌, length}
+use Rattle.std.proofs.Common.{take, drop, max, min, Option, Some, None, Bool, true, false, cond, suc, zero, refl, sym}
+use Rattle.std.proofs.Common.{ap, ◌∙◌, subst, arith, append_assoc, append-nil, inl, inr}
 use Rattle.std.specs.Prelude.{IfSome, nat_le, if◌then◌else◌}
-use Rattle.std.proofs.lemmas.List.{take-append-le, take_all, length-append, length-take, length-take-le, length-drop, drop_all, take-append-drop, drop-take, drop-drop}
+use Rattle.std.proofs.lemmas.List.{take-append-le, take_all, length-append, length-take, length-take-le, length-drop}
+use Rattle.std.proofs.lemmas.List.{drop_all, take-append-drop, drop-take, drop-drop}
 use Rattle.std.proofs.lemmas.Bool.Decides.{nat_tests}
 use Rattle.std.proofs.Math.Seq.{drop-append-le}
 use Rattle.http_head.specs.Block.{is_text, is_lf, run_len, end_size, end_from, block_len, block_in, IsSearched}
@@ -27,7 +30,8 @@ end_size-none xs = by_size (end_size xs)
     by_size (suc n) = inr (omega arith)
 
 -- one step
-end_here : (at b : ℕ) (rest : List ℕ) → is_lf b ≡ true → 0 < end_size rest → end_from at (b ∷ rest) ≡ Some (at + 1 + end_size rest)
+end_here : (at b : ℕ) (rest : List ℕ) → is_lf b ≡ true → 0 < end_size rest
+    → end_from at (b ∷ rest) ≡ Some (at + 1 + end_size rest)
 unfolding end_from
 end_here at b rest lf h =
     let t : nat_lt 0 (end_size rest) ≡ true = grind (arith, nat_tests) in
@@ -41,7 +45,9 @@ end_past : (at b : ℕ) (rest : List ℕ) → end_size rest ≡ 0 → end_from a
 unfolding end_from
 end_past at b rest none = by_lf (is_lf b)
   where
-    by_lf : (t : Bool) → cond (t && nat_lt 0 (end_size rest)) (Some (at + 1 + end_size rest)) (end_from (at + 1) rest) ≡ end_from (at + 1) rest
+    by_lf : (t : Bool)
+        → cond (t && nat_lt 0 (end_size rest)) (Some (at + 1 + end_size rest)) (end_from (at + 1) rest) ≡ end_from
+        (at + 1) rest
     by_lf true = rw none refl
     by_lf false = refl
 
@@ -54,7 +60,8 @@ end_one : (at b : ℕ) → end_from at (b ∷ []) ≡ None
 end_one at b = end_past at b [] refl ∙ end_nil (at + 1)
 
 -- where no end was and one comes later, more bytes make none
-size_stays : (at n : ℕ) (rest more : List ℕ) → end_size rest ≡ 0 → end_from at rest ≡ Some n → end_size (rest ++ more) ≡ 0
+size_stays : (at n : ℕ) (rest more : List ℕ) → end_size rest ≡ 0 → end_from at rest ≡ Some n
+    → end_size (rest ++ more) ≡ 0
 size_stays at n [] more none e = absurd (cc (e, end_nil at))
 size_stays at n (b ∷ []) more none e = absurd (cc (e, end_one at b))
 size_stays at n (b ∷ c ∷ rest) more none e = none
@@ -63,15 +70,19 @@ end_from-more : (at n : ℕ) (xs more : List ℕ) → end_from at xs ≡ Some n 
 end_from-more at n [] more e = absurd (cc (e, end_nil at))
 end_from-more at n (b ∷ rest) more e = by_lf (is_lf b) refl (λ d. end_from-more (at + 1) n rest more d)
   where
-    by_size : is_lf b ≡ true → (end_from (at + 1) rest ≡ Some n → end_from (at + 1) (rest ++ more) ≡ Some n) → (end_size rest ≡ 0) ⊎ (0 < end_size rest) → end_from at (b ∷ (rest ++ more)) ≡ Some n
+    by_size : is_lf b ≡ true → (end_from (at + 1) rest ≡ Some n → end_from (at + 1) (rest ++ more) ≡ Some n)
+        → (end_size rest ≡ 0) ⊎ (0 < end_size rest) → end_from at (b ∷ (rest ++ more)) ≡ Some n
     by_size lf next (inl none) =
         let later : end_from (at + 1) rest ≡ Some n = sym (end_past at b rest none) ∙ e in
         end_past at b (rest ++ more) (size_stays (at + 1) n rest more none later) ∙ next later
     by_size lf next (inr some) =
         let same = end_size-more rest more some in
         let still : 0 < end_size (rest ++ more) = subst (λ k. 0 < k) (sym same) some in
-        end_here at b (rest ++ more) lf still ∙ ap (λ k. Some (at + 1 + k)) same ∙ sym (end_here at b rest lf some) ∙ e
-    by_lf : (t : Bool) → is_lf b ≡ t → (end_from (at + 1) rest ≡ Some n → end_from (at + 1) (rest ++ more) ≡ Some n) → end_from at (b ∷ (rest ++ more)) ≡ Some n
+        end_here at b (rest ++ more) lf still ∙ ap (λ k. Some (at + 1 + k)) same ∙ sym (end_here at b rest lf some)
+        ∙ e
+
+    by_lf : (t : Bool) → is_lf b ≡ t → (end_from (at + 1) rest ≡ Some n → end_from (at + 1) (rest ++ more) ≡ Some n)
+        → end_from at (b ∷ (rest ++ more)) ≡ Some n
     by_lf true lf next = by_size lf next (end_size-none rest)
     by_lf false lf next = end_next at b (rest ++ more) lf ∙ next (sym (end_next at b rest lf) ∙ e)
 
@@ -93,7 +104,8 @@ end_from-within : (at n : ℕ) (xs : List ℕ) → end_from at xs ≡ Some n →
 end_from-within at n [] e = absurd (cc (e, end_nil at))
 end_from-within at n (b ∷ rest) e = by_lf (is_lf b) refl (λ d. end_from-within (at + 1) n rest d)
   where
-    by_size : is_lf b ≡ true → (end_from (at + 1) rest ≡ Some n → n ≤ at + 1 + length rest) → (end_size rest ≡ 0) ⊎ (0 < end_size rest) → n ≤ at + suc (length rest)
+    by_size : is_lf b ≡ true → (end_from (at + 1) rest ≡ Some n → n ≤ at + 1 + length rest)
+        → (end_size rest ≡ 0) ⊎ (0 < end_size rest) → n ≤ at + suc (length rest)
     by_size lf next (inl none) =
         let h = next (sym (end_past at b rest none) ∙ e) in
         omega arith
@@ -101,7 +113,9 @@ end_from-within at n (b ∷ rest) e = by_lf (is_lf b) refl (λ d. end_from-withi
         let same : Some (at + 1 + end_size rest) ≡ Some n = sym (end_here at b rest lf some) ∙ e in
         let num : at + 1 + end_size rest ≡ n = cc in
         omega (arith, end_size-within rest)
-    by_lf : (t : Bool) → is_lf b ≡ t → (end_from (at + 1) rest ≡ Some n → n ≤ at + 1 + length rest) → n ≤ at + suc (length rest)
+
+    by_lf : (t : Bool) → is_lf b ≡ t → (end_from (at + 1) rest ≡ Some n → n ≤ at + 1 + length rest)
+        → n ≤ at + suc (length rest)
     by_lf true lf next = by_size lf next (end_size-none rest)
     by_lf false lf next = let h = next (sym (end_next at b rest lf) ∙ e) in omega arith
 
@@ -128,7 +142,8 @@ run-more : (xs more : List ℕ) → run_len xs < length xs → run_len (xs ++ mo
 run-more [] more h = absurd (omega arith)
 run-more (b ∷ xs) more h = by_text (is_text b) refl (λ d. run-more xs more d)
   where
-    by_text : (t : Bool) → is_text b ≡ t → (run_len xs < length xs → run_len (xs ++ more) ≡ run_len xs) → run_len (b ∷ (xs ++ more)) ≡ run_len (b ∷ xs)
+    by_text : (t : Bool) → is_text b ≡ t → (run_len xs < length xs → run_len (xs ++ more) ≡ run_len xs)
+        → run_len (b ∷ (xs ++ more)) ≡ run_len (b ∷ xs)
     by_text true e next = run_text b (xs ++ more) e ∙ sym (run_text b xs e)
     by_text false e next =
         let low : run_len xs < length xs = omega (arith, run_break b xs e) in
@@ -140,7 +155,8 @@ run_all-take zero xs e = refl
 run_all-take (suc n) [] e = refl
 run_all-take (suc n) (b ∷ xs) e = by_text (is_text b) refl (λ d. run_all-take n xs d)
   where
-    by_text : (t : Bool) → is_text b ≡ t → (run_len xs ≡ length xs → run_len (take n xs) ≡ length (take n xs)) → run_len (b ∷ take n xs) ≡ suc (length (take n xs))
+    by_text : (t : Bool) → is_text b ≡ t → (run_len xs ≡ length xs → run_len (take n xs) ≡ length (take n xs))
+        → run_len (b ∷ take n xs) ≡ suc (length (take n xs))
     by_text true f next = absurd (omega (arith, run_text b xs f))
     by_text false f next =
         let low : run_len xs ≡ length xs = omega (arith, run_break b xs f) in
@@ -163,6 +179,7 @@ has_text xs n e = by_run (run_len xs < length xs) (lt_or xs) (λ h. h) (λ h. ab
     by_run : (P : Type 0) → P ⊎ (run_len xs ≡ length xs) → (P → P) → (run_len xs ≡ length xs → P) → P
     by_run P (inl p) f h = p
     by_run P (inr p) f h = h p
+
     lt_or : (ys : List ℕ) → (run_len ys < length ys) ⊎ (run_len ys ≡ length ys)
     lt_or ys = pick (run_len ys) (length ys) (run_within ys)
       where
@@ -170,7 +187,9 @@ has_text xs n e = by_run (run_len xs < length xs) (lt_or xs) (λ h. h) (λ h. ab
         pick zero zero h = inr refl
         pick zero (suc b) h = inl (omega arith)
         pick (suc a) zero h = absurd (omega arith)
-        pick (suc a) (suc b) h = elim (pick a b (omega arith)) as (λ o. (suc a < suc b) ⊎ (suc a ≡ suc b)) [ inl p ↦ inl (omega arith) | inr p ↦ inr (ap suc p) ]
+        pick (suc a) (suc b) h =
+            elim (pick a b (omega arith)) as
+            (λ o. (suc a < suc b) ⊎ (suc a ≡ suc b)) [ inl p ↦ inl (omega arith) | inr p ↦ inr (ap suc p) ]
 
 drop-more : (n : ℕ) (xs more : List ℕ) → n ≤ length xs → drop n (xs ++ more) ≡ drop n xs ++ more
 drop-more n xs more h = drop-append-le n xs more h
@@ -179,7 +198,8 @@ block_len-more : (xs more : List ℕ) (n : ℕ) → block_len xs ≡ Some n → 
 block_len-more xs more n e =
     let text = has_text xs n e in
     let run = run-more xs more text in
-    ap (λ k. end_from k (drop k (xs ++ more))) run ∙ ap (end_from (run_len xs)) (drop-more (run_len xs) xs more (run_within xs))
+    ap (λ k. end_from k (drop k (xs ++ more))) run
+    ∙ ap (end_from (run_len xs)) (drop-more (run_len xs) xs more (run_within xs))
     ∙ end_from-more (run_len xs) n (drop (run_len xs) xs) more e
 
 block_len-within : (xs : List ℕ) (n : ℕ) → block_len xs ≡ Some n → n ≤ length xs
@@ -208,7 +228,8 @@ block_in-more xs more n e = at_limit MOST_HEAD_BYTES e
     at_limit : (k : ℕ) → block_len (take k xs) ≡ Some n → block_len (take k (xs ++ more)) ≡ Some n
     at_limit k e = let seam = take_seam k xs more in ap block_len seam.1 ∙ block_len-more (take k xs) seam.0 n e
 
-pub no_block_in-more : (xs more : List ℕ) → MOST_HEAD_BYTES ≤ length xs → block_in xs ≡ None → block_in (xs ++ more) ≡ None
+pub no_block_in-more : (xs more : List ℕ) → MOST_HEAD_BYTES ≤ length xs → block_in xs ≡ None
+    → block_in (xs ++ more) ≡ None
 no_block_in-more xs more h e = at_limit MOST_HEAD_BYTES h e
   where
     at_limit : (k : ℕ) → k ≤ length xs → block_len (take k xs) ≡ None → block_len (take k (xs ++ more)) ≡ None
@@ -220,7 +241,8 @@ run_all-more : (xs ys : List ℕ) → run_len xs ≡ length xs → run_len (xs +
 run_all-more [] ys e = omega arith
 run_all-more (b ∷ xs) ys e = by_text (is_text b) refl (λ d. run_all-more xs ys d)
   where
-    by_text : (t : Bool) → is_text b ≡ t → (run_len xs ≡ length xs → run_len (xs ++ ys) ≡ length xs + run_len ys) → run_len (b ∷ (xs ++ ys)) ≡ suc (length xs) + run_len ys
+    by_text : (t : Bool) → is_text b ≡ t → (run_len xs ≡ length xs → run_len (xs ++ ys) ≡ length xs + run_len ys)
+        → run_len (b ∷ (xs ++ ys)) ≡ suc (length xs) + run_len ys
     by_text true f next = absurd (omega (arith, run_text b xs f, e))
     by_text false f next =
         let ih = next (omega (arith, run_break b xs f, e)) in
@@ -237,24 +259,34 @@ size_of_two n xs = by_two (n + 2) (omega arith) xs
     by_two (suc (suc k)) h (b ∷ c ∷ rest) = refl
 
 -- where no block ends in some bytes, the search goes on two bytes before their end
-skip : (n at : ℕ) (xs : List ℕ) → n ≤ length xs → end_from at (take (n + 2) xs) ≡ None → end_from at xs ≡ end_from (at + n) (drop n xs)
+skip : (n at : ℕ) (xs : List ℕ) → n ≤ length xs → end_from at (take (n + 2) xs) ≡ None
+    → end_from at xs ≡ end_from (at + n) (drop n xs)
 skip zero at xs h e = let same : at ≡ at + 0 = omega arith in ap (λ k. end_from k xs) same
 skip (suc n) at [] h e = absurd (omega (arith, h))
 skip (suc n) at (b ∷ rest) h e = by_lf (is_lf b) refl (λ d. skip n (at + 1) rest (omega (arith, h)) d)
   where
     front : take (suc n + 2) (b ∷ rest) ≡ b ∷ take (n + 2) rest
     front = let size : suc n + 2 ≡ suc (n + 2) = omega arith in ap (λ k. take k (b ∷ rest)) size
+
     here : end_from at (b ∷ take (n + 2) rest) ≡ None
     here = ap (end_from at) (sym front) ∙ e
+
     there : end_from (at + 1 + n) (drop n rest) ≡ end_from (at + suc n) (drop n rest)
     there = let place : at + 1 + n ≡ at + suc n = omega arith in ap (λ k. end_from k (drop n rest)) place
-    by_size : is_lf b ≡ true → (end_from (at + 1) (take (n + 2) rest) ≡ None → end_from (at + 1) rest ≡ end_from (at + 1 + n) (drop n rest))
+
+    by_size : is_lf b ≡ true
+        →
+        (end_from (at + 1) (take (n + 2) rest) ≡ None → end_from (at + 1) rest ≡ end_from (at + 1 + n) (drop n rest))
         → (end_size rest ≡ 0) ⊎ (0 < end_size rest) → end_from at (b ∷ rest) ≡ end_from (at + suc n) (drop n rest)
     by_size lf next (inl none) =
-        end_past at b rest none ∙ next (sym (end_past at b (take (n + 2) rest) (size_of_two n rest ∙ none)) ∙ here) ∙ there
+        end_past at b rest none ∙ next (sym (end_past at b (take (n + 2) rest) (size_of_two n rest ∙ none)) ∙ here)
+        ∙ there
     by_size lf next (inr some) =
         absurd (cc (here, end_here at b (take (n + 2) rest) lf (subst (λ k. 0 < k) (sym (size_of_two n rest)) some)))
-    by_lf : (t : Bool) → is_lf b ≡ t → (end_from (at + 1) (take (n + 2) rest) ≡ None → end_from (at + 1) rest ≡ end_from (at + 1 + n) (drop n rest))
+
+    by_lf : (t : Bool) → is_lf b ≡ t
+        →
+        (end_from (at + 1) (take (n + 2) rest) ≡ None → end_from (at + 1) rest ≡ end_from (at + 1 + n) (drop n rest))
         → end_from at (b ∷ rest) ≡ end_from (at + suc n) (drop n rest)
     by_lf true lf next = by_size lf next (end_size-none rest)
     by_lf false lf next =
@@ -267,14 +299,16 @@ run_on xs search s low =
     let more = run-more (take search.at xs) (drop search.at xs) (omega (arith, size, s.run, low)) in
     s.run ∙ sym more ∙ ap run_len (take-append-drop search.at xs)
 
-pub run_goes_on : (xs : List ℕ) (search : Search) → IsSearched xs search → search.at ≤ search.run → search.at + run_len (drop search.at xs) ≡ run_len xs
+pub run_goes_on : (xs : List ℕ) (search : Search) → IsSearched xs search → search.at ≤ search.run
+    → search.at + run_len (drop search.at xs) ≡ run_len xs
 run_goes_on xs search s all =
     let size = length-take-le search.at xs s.within in
     let most = run_within (take search.at xs) in
     let more = run_all-more (take search.at xs) (drop search.at xs) (omega (arith, size, most, s.run, all)) in
     omega (arith, size) ∙ sym more ∙ ap run_len (take-append-drop search.at xs)
 
-pub search_on : (xs : List ℕ) (search : Search) (run start : ℕ) → IsSearched xs search → run ≡ run_len xs → start ≡ max (search.at - 2) run
+pub search_on : (xs : List ℕ) (search : Search) (run start : ℕ) → IsSearched xs search → run ≡ run_len xs
+    → start ≡ max (search.at - 2) run
     → end_from start (drop start xs) ≡ block_len xs
 search_on xs search run start s is e = by_far (nat_lt run (search.at - 2)) refl
   where
@@ -289,6 +323,7 @@ search_on xs search run start s is e = by_far (nat_lt run (search.at - 2)) refl
             let all : search.at ≤ search.run = grind (arith, nat_tests, f) in
             let long = run_goes_on xs search s all in
             absurd (omega (arith, long, is, far))
+
     by_far : (t : Bool) → nat_lt run (search.at - 2) ≡ t → end_from start (drop start xs) ≡ block_len xs
     by_far false f =
         let low : search.at - 2 ≤ run = grind (arith, nat_tests, f) in
@@ -299,16 +334,19 @@ search_on xs search run start s is e = by_far (nat_lt run (search.at - 2)) refl
         let n = search.at - 2 - run in
         let same = far_front far in
         let size : search.at ≡ run + (n + 2) = omega (arith, far) in
-        let cut : drop run (take search.at xs) ≡ take (n + 2) (drop run xs) = ap (λ k. drop run (take k xs)) size ∙ drop-take run (n + 2) xs in
+        let cut : drop run (take search.at xs) ≡ take (n + 2) (drop run xs) = ap (λ k. drop run (take k xs)) size
+        ∙ drop-take run (n + 2) xs in
         let none_there : end_from run (take (n + 2) (drop run xs)) ≡ None =
-            ap (end_from run) (sym cut) ∙ ap (λ k. end_from k (drop k (take search.at xs))) (sym same) ∙ s.none in
+        ap (end_from run) (sym cut) ∙ ap (λ k. end_from k (drop k (take search.at xs))) (sym same) ∙ s.none in
         let within = s.within in
         let jump = skip n run (drop run xs) (omega (arith, far, within, length-drop run xs)) none_there in
         let there : drop n (drop run xs) ≡ drop (run + n) xs = drop-drop n run xs in
         let place : run + n ≡ start = omega (arith, far, e) in
-        sym (ap (λ k. end_from k (drop k xs)) (sym is) ∙ jump ∙ ap (end_from (run + n)) there ∙ ap (λ k. end_from k (drop k xs)) place)
+        sym (ap (λ k. end_from k (drop k xs)) (sym is) ∙ jump ∙ ap (end_from (run + n)) there
+        ∙ ap (λ k. end_from k (drop k xs)) place)
 
-pub searched_more : (bytes more : List ℕ) (search : Search) → IsSearched bytes search → IsSearched (bytes ++ more) search
+pub searched_more : (bytes more : List ℕ) (search : Search) → IsSearched bytes search
+    → IsSearched (bytes ++ more) search
 searched_more bytes more search h =
     let same = take-append-le search.at bytes more h.within in
     let size = length-append bytes more in
@@ -323,9 +361,11 @@ searched_more bytes more search h =
 front_at : (m at : ℕ) (bytes : List ℕ) → at ≤ m → at ≤ length bytes → take at (take m bytes) ≡ take at bytes
 front_at m at bytes h within =
     let size = length-take m bytes in
-    sym (take-append-le at (take m bytes) (drop m bytes) (omega (arith, size, h, within))) ∙ ap (take at) (take-append-drop m bytes)
+    sym (take-append-le at (take m bytes) (drop m bytes) (omega (arith, size, h, within)))
+    ∙ ap (take at) (take-append-drop m bytes)
 
-pub searched_front : (m : ℕ) (bytes : List ℕ) (search : Search) → search.at ≤ m → IsSearched bytes search → IsSearched (take m bytes) search
+pub searched_front : (m : ℕ) (bytes : List ℕ) (search : Search) → search.at ≤ m → IsSearched bytes search
+    → IsSearched (take m bytes) search
 searched_front m bytes search h s =
     let same = front_at m search.at bytes h s.within in
     let size = length-take m bytes in
@@ -336,19 +376,33 @@ searched_front m bytes search h s =
       none = ap block_len same ∙ s.none;
     }
 
-pub searched_back : (m : ℕ) (bytes : List ℕ) (search : Search) → IsSearched (take m bytes) search → IsSearched bytes search
+pub searched_back : (m : ℕ) (bytes : List ℕ) (search : Search) → IsSearched (take m bytes) search
+    → IsSearched bytes search
 searched_back m bytes search s =
     subst (λ l. IsSearched l search) (take-append-drop m bytes) (searched_more (take m bytes) (drop m bytes) search s)
 
-pub searched_all : (bytes : List ℕ) (search : Search) → length bytes ≤ MOST_HEAD_BYTES → search.at ≡ length bytes → search.run ≡ run_len bytes → block_len bytes ≡ None → IsSearched bytes search
+pub searched_all : (bytes : List ℕ) (search : Search) → length bytes ≤ MOST_HEAD_BYTES → search.at ≡ length bytes
+    → search.run ≡ run_len bytes → block_len bytes ≡ None → IsSearched bytes search
 searched_all bytes search few at run none =
     let all : take search.at bytes ≡ bytes = take_all search.at bytes (omega (arith, at)) in
-    record { within = omega (arith, at); limit = omega (arith, at, few); run = run ∙ ap run_len (sym all); none = ap block_len all ∙ none }
+    record {
+      within = omega (arith, at);
+      limit = omega (arith, at, few);
+      run = run ∙ ap run_len (sym all);
+      none =
+          ap block_len all ∙ none;
+    }
 
 pub nothing_searched : (bytes : List ℕ) (search : Search) → search.at ≡ 0 → search.run ≡ 0 → IsSearched bytes search
 nothing_searched bytes search at run =
     let none : take search.at bytes ≡ [] = ap (λ k. take k bytes) at in
-    record { within = omega (arith, at); limit = omega (arith, at); run = run ∙ ap run_len (sym none); none = ap block_len none ∙ end_nil 0 }
+    record {
+      within = omega (arith, at);
+      limit = omega (arith, at);
+      run = run ∙ ap run_len (sym none);
+      none =
+          ap block_len none ∙ end_nil 0;
+    }
 
 -- the first bytes, where there are so many
 pub front_is : (m n : ℕ) (bytes : List ℕ) → n ≡ min (length bytes) m → take n bytes ≡ take m bytes

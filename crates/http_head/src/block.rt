@@ -80,8 +80,8 @@ pub fn block_in(bytes: &[u8]) -> Option<usize>
     block_len(head_bytes(bytes))
 }
 
-/// How far a stream was searched for the end of a head's block, so that the search goes on as more bytes come: the length
-/// of the leading run of CR and LF, and how many bytes were searched.
+/// How far a stream was searched for the end of a head's block, so that the search goes on as more bytes come: the
+/// length of the leading run of CR and LF, and how many bytes were searched.
 #[derive(Clone, Copy, Debug, PartialEq, Eq)]
 pub struct Search {
     run: usize,
@@ -145,8 +145,8 @@ pub fn searches_go_on()
 pub fn blocks_stay()
     ensures found { (bytes more : List ℕ) (len : ℕ) → spec.block_in bytes ≡ Some len
         → spec.block_in (bytes ++ more) ≡ Some len }
-    ensures none { (bytes more : List ℕ) → MOST_HEAD_BYTES ≤ length bytes → spec.block_in bytes ≡ None
-        → spec.block_in (bytes ++ more) ≡ None }
+    ensures none { (bytes more : List ℕ) → MOST_HEAD_BYTES ≤ length bytes
+        → spec.block_in bytes ≡ None → spec.block_in (bytes ++ more) ≡ None }
     ensures blank { (bytes : List ℕ) → spec.run_len bytes ≡ length bytes → spec.block_in bytes ≡ None }
 {}
 

@@ -51,8 +51,8 @@ fn has_element(value: &[u8], name: &str) -> bool
         .any(|part| is_element(part, name))
 }
 
-/// Whether a Connection header has the element `close`. Elements stand between commas, blanks round them don't count, and
-/// ASCII case is ignored.
+/// Whether a Connection header has the element `close`. Elements stand between commas, blanks round them don't count,
+/// and ASCII case is ignored.
 pub fn asks_to_close(headers: &Headers) -> bool
     ensures { result ≡ spec.asks_to_close headers.now }
 {

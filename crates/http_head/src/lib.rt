@@ -1,9 +1,10 @@
-//! Heads of HTTP/1.1 messages (RFC 9112): where a head ends in a stream, and what it says.
+//! Heads of HTTP/1.1 messages (RFC 9112): where a head ends in a stream, what it says, and how it frames its body.
 //!
 //! The main contract is that of `read_request`: its answer is the one that the table of answers states, whatever the
-//! bytes are. A head is what the grammar of the crate `httparse` reads in its default configuration.
+//! bytes are. A head is what the grammar of the crate `httparse` reads in its default configuration. `framing` is a
+//! function of the headers alone.
 //!
-//! Nothing is promised of what a head means: that is for the crates above.
+//! Nothing is promised of what a head means beyond that: it is for the crates above.
 #![tactic(auto)]
 
 mod answer;
@@ -15,7 +16,9 @@ mod request;
 mod transfer;
 
 pub use answer::HeadAnswer;
-pub use block::{MOST_HEAD_BYTES, MOST_LINES, Search, blocks_are_bounded, blocks_stay, searches_go_on};
+pub use block::{
+    MOST_HEAD_BYTES, MOST_LINES, Search, blocks_are_bounded, blocks_stay, searches_go_on,
+};
 pub use body::Framing;
 pub use connection::asks_to_close;
 pub use header::{Header, Headers};

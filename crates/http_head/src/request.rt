@@ -109,7 +109,11 @@ fn head_of(alloc: Global, block: &[u8]) -> Result<Option<Head>, AllocError>
     }))
 }
 
-fn answer_at(alloc: Global, bytes: &[u8], block: Option<usize>) -> Result<HeadAnswer<Head>, NoMemory>
+fn answer_at(
+    alloc: Global,
+    bytes: &[u8],
+    block: Option<usize>,
+) -> Result<HeadAnswer<Head>, NoMemory>
     requires value { block ≡ block_in bytes.now }
     requires within { IfSome block (λ len. len ≤ length bytes.now) }
     ensures answer { IfOk result (spec.IsRequestAnswer bytes.now) }
@@ -140,13 +144,18 @@ pub fn read_request(alloc: Global, bytes: &[u8]) -> Result<HeadAnswer<Head>, NoM
     answer_at(alloc, bytes, block_in(bytes))
 }
 
-/// The same, where the bytes were searched so far. After `More` the search goes on with more bytes behind these, so that
-/// the work on a head is linear however it comes; after another answer a new search begins.
-pub fn read_request_on(alloc: Global, bytes: &[u8], search: &mut Search) -> Result<HeadAnswer<Head>, NoMemory>
+/// The same, where the bytes were searched so far. After `More` the search goes on with more bytes behind these, so
+/// that the work on a head is linear however it comes. After another answer a new search begins.
+pub fn read_request_on(
+    alloc: Global,
+    bytes: &[u8],
+    search: &mut Search,
+) -> Result<HeadAnswer<Head>, NoMemory>
     requires { IsSearched bytes.now search.old }
     ensures answer { IfOk result (spec.IsRequestAnswer bytes.now) }
     ensures within { IfOk result (EndsWithin bytes.now) }
-    ensures searched { IfOk result (λ answer. answer ≡ HeadAnswer.More → IsSearched bytes.now search.new) }
+    ensures searched { IfOk result (λ answer.
+        answer ≡ HeadAnswer.More → IsSearched bytes.now search.new) }
 {
     let block = block_on(bytes, search);
     answer_at(alloc, bytes, block)

@@ -1,7 +1,8 @@
 use Rattle.std.proofs.Common.{◌≡◌, ◌<◌, ◌+◌, length, take, drop, arith, true, sym, subst, ◌∙◌, ap, not, Some}
 use Rattle.std.proofs.lemmas.List.{take_rest}
 use Rattle.body_frames.specs.Machine.{run, emitted, fault_of, fault_mode}
-use Rattle.body_frames.proofs.MachineLemmas.{run_parts, emitted_parts, some_taken, open_or_done, broken_same, broken_run}
+use Rattle.body_frames.proofs.MachineLemmas.{run_parts, emitted_parts, some_taken, open_or_done, broken_same}
+use Rattle.body_frames.proofs.MachineLemmas.{broken_run}
 use Rattle.body_frames.proofs.decoder.feed_place.Goals as goal
 
 pub returns-clause-took : goal.returns-clause-took
@@ -16,8 +17,10 @@ returns-clause-took c =
       within = omega (arith, c.pass_data-size.ensures.within);
       range = omega arith;
       end = omega arith;
-      moved = run_parts p c.pass_framing-from.new.place c.pass_data-size.new.place piece n m c.pass_framing-from.ensures.moved moved;
-      body = emitted_parts p c.pass_framing-from.new.place piece n m c.pass_framing-from.ensures.moved c.pass_framing-from.ensures.nothing body;
+      moved =
+          run_parts p c.pass_framing-from.new.place c.pass_data-size.new.place piece n m c.pass_framing-from.ensures.moved moved;
+      body =
+          emitted_parts p c.pass_framing-from.new.place piece n m c.pass_framing-from.ensures.moved c.pass_framing-from.ensures.nothing body;
     }
 
 pub returns-clause-some : goal.returns-clause-some
@@ -32,7 +35,8 @@ returns-clause-some c = λ more awaits.
 
 pub returns-clause-awaits : goal.returns-clause-awaits
 returns-clause-awaits c =
-    open_or_done c.pass_data-size.new.place c.pass_data-size.ensures.sound c.pass_data-size.ensures.whole ∙ ap not (sym c.is_done.ensures)
+    open_or_done c.pass_data-size.new.place c.pass_data-size.ensures.sound c.pass_data-size.ensures.whole
+    ∙ ap not (sym c.is_done.ensures)
 
 pub returns-in-Broken-clause-again : goal.returns-in-Broken-clause-again
 returns-in-Broken-clause-again c = λ fault broken.

@@ -6,7 +6,8 @@ use Rattle.http_edge.proofs.bodies.read_body.Given as goal
 
 abbrev pub invariant-feeding : goal.invariant-feeding
 invariant-feeding g l = record {
-  so_far : BodySoFar (g.C.Source.left l.fn.conn) (g.C.Source.left l.conn) l.fn.held.items l.held.items (body_start l.fn.frame) l.decoder l.body.items;
+  so_far : BodySoFar (g.C.Source.left l.fn.conn) (g.C.Source.left l.conn) l.fn.held.items l.held.items
+      (body_start l.fn.frame) l.decoder l.body.items;
   awaits : (is_done l.decoder ≡ true) ⊎ (is_open l.decoder ≡ true);
   bounded : vec_len l.held ≤ MOST_HELD_BYTES;
   aside : g.C.Source.outward l.conn ≡ g.C.Source.outward l.fn.conn;

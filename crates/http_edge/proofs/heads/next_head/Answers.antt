@@ -21,4 +21,5 @@ reading-preserved g c = record {
 pub returns-in-Err-refill-clause-err : goal.returns-in-Err-refill-clause-err
 returns-in-Err-refill-clause-err g c =
     let more = answer_at _ _ _ _ c.as_slice.ensures.value c.in-Ok-More.field-0-is c.in-Ok-More.ensures.answer in
-    head_not_read _ _ _ _ _ _ _ _ c.in-Err-refill.stop (rose_earlier _ _ _ c.reading.invariant.later) c.reading.invariant.seen more c.in-Err-refill.ensures.err
+    head_not_read _ _ _ _ _ _ _ _ c.in-Err-refill.stop
+    (rose_earlier _ _ _ c.reading.invariant.later) c.reading.invariant.seen more c.in-Err-refill.ensures.err

@@ -3,10 +3,24 @@ use Rattle.http_edge.proofs.next.requests_stay.Goals as goal
 
 pub returns-clause-starts : goal.returns-clause-starts
 returns-clause-starts c =
-    let laws : HeadLaws = record { bounded = c.blocks_are_bounded.ensures; found = c.blocks_stay.ensures.found; none = c.blocks_stay.ensures.none; blank = c.blocks_stay.ensures.blank } in
+    let laws : HeadLaws =
+    record {
+      bounded = c.blocks_are_bounded.ensures;
+      found = c.blocks_stay.ensures.found;
+      none =
+          c.blocks_stay.ensures.none;
+      blank = c.blocks_stay.ensures.blank;
+    } in
     starts-more laws
 
 pub returns-clause-refused : goal.returns-clause-refused
 returns-clause-refused c =
-    let laws : HeadLaws = record { bounded = c.blocks_are_bounded.ensures; found = c.blocks_stay.ensures.found; none = c.blocks_stay.ensures.none; blank = c.blocks_stay.ensures.blank } in
+    let laws : HeadLaws =
+    record {
+      bounded = c.blocks_are_bounded.ensures;
+      found = c.blocks_stay.ensures.found;
+      none =
+          c.blocks_stay.ensures.none;
+      blank = c.blocks_stay.ensures.blank;
+    } in
     refused-more laws
