@@ -1,0 +1,5 @@
+mod EscapeLemmas
+mod PartsLemmas
+mod RequestLemmas
+mod TargetLemmas
+mod WatchLemmas

@@ -1,0 +1,6 @@
+pub mod Parts
+pub mod Request
+pub mod Resource
+pub mod Running
+pub mod Target
+pub mod Watch

@@ -1,0 +1,24 @@
+//! What a request asks for: verb, resource, name and namespace, out of its method and its target, as the API server's
+//! type RequestInfo has them.
+//!
+//! The main contract is that of `info`: for every method and every target its answer is the one that the definition
+//! `info_of` states, a refusal included. The definition is a table by the parts of the path.
+//!
+//! Nothing is promised about whether such a resource exists, or whether somebody serves it.
+#![tactic(auto)]
+
+mod fault;
+mod parts;
+mod request;
+mod resource;
+mod running;
+mod target;
+mod verb;
+mod watch;
+
+pub use fault::InfoFault;
+pub use request::{audit_info, info};
+pub use running::long_running;
+
+#[cfg(test)]
+mod tests;
