@@ -1,0 +1,83 @@
+use Rattle.std.proofs.Common.{◌≡◌, ℕ, ◌+◌, ◌<◌, length, get_or, Bool, true, false, cond, List, [], ◌∷◌, ◌++◌, take, drop, Some, Bor, sym, ap, subst, ◌∙◌, refl, arith}
+use Rattle.std.proofs.lemmas.List.{append-nil, drop_more, drop_all, take_more}
+use Rattle.std.proofs.lemmas.Map.Text.{is_eq-slice_cmp}
+use Rattle.std.specs.BTreeSet.{contains}
+use Rattle.std.specs.Cmp.Lexicographic.{slice_cmp}
+use Rattle.std.specs.Ordering.{nat_cmp}
+use Rattle.std.specs.Str.{bytes_eq}
+use Rattle.std.specs.declared.cmp.Ordering.{Ordering}
+use Rattle.apiservice_rows.specs.Json.{Fails, fault_of}
+use Rattle.apiservice_rows.specs.Row.{Row}
+use Rattle.apiservice_rows.specs.RowList.{is_among, names_of, repeated, distinct}
+use Rattle.apiservice_rows.specs.declared.fault.RowFault.{RowFault}
+use Rattle.apiservice_rows.specs.declared.fault.RowFault.TheVariants.{Repeated}
+use Rattle.apiservice_rows.proofs.NameLemmas.{among-push, names-push, repeated_more, repeated_here, repeated_end, distinct_stops, distinct_ends, from_not, to_not}
+use Rattle.apiservice_rows.proofs.row_list.check_distinct.Goals as goal
+
+abbrev by_text : Bor (List ℕ) → Bor (List ℕ) → Ordering
+by_text x y = slice_cmp nat_cmp x.now y.now
+
+-- the rows from the i-th on are that one and those behind it
+here : (rows : List Row) (i : ℕ) (x : Row) → i < length rows → x ≡ get_or rows i x → drop i rows ≡ x ∷ drop (i + 1) rows
+here rows i x lt is = drop_more rows i x lt ∙ ap (λ y. y ∷ drop (i + 1) rows) (sym is)
+
+-- the names up to it are those before and its own
+names_upto : (rows : List Row) (i : ℕ) (x : Row) → i < length rows → x ≡ get_or rows i x
+    → names_of (take (i + 1) rows) ≡ names_of (take i rows) ++ x.name ∷ []
+names_upto rows i x lt is =
+    ap names_of (take_more rows i x lt ∙ ap (λ y. take i rows ++ y ∷ []) (sym is)) ∙ names-push (take i rows) x
+
+stops : (f : RowFault) (name : List ℕ) (names : List (List ℕ)) → Fails f (Some (Repeated name)) → repeated [] names ≡ Some name
+    → Fails f (fault_of (distinct names))
+stops f name names fails is = subst (λ due. Fails f due) (sym (distinct_stops names name is)) fails
+
+pub returns-then-not-branch : goal.returns-then-not-branch
+returns-then-not-branch c =
+    let rows = c.args.rows.now in
+    let i = c.loop-row.row-index in
+    let x = c.row-item.result in
+    let before = names_of (take i rows) in
+    let key : c.as_str.result.now ≡ x.name = c.as_str.ensures ∙ ap (λ (r : Row). r.name) c.row.view_is in
+    let is : drop i rows ≡ x ∷ drop (i + 1) rows = here rows i x c.loop-row-test.true c.row-item.is in
+    let old = from_not _ (sym c.in_ok-insert.ensures.added ∙ c.if-not-branch.true) in
+    let among : is_among x.name before ≡ true =
+            ap (λ q. is_among q before) (sym key) ∙ sym (c.loop-row.invariant.held c.as_str.result) ∙ old in
+    let first : repeated before (names_of (drop i rows)) ≡ Some x.name =
+            ap (λ ys. repeated before (names_of ys)) is ∙ repeated_here before x.name (names_of (drop (i + 1) rows)) among in
+    let again : c.as_str-then-not-branch.result.now ≡ x.name =
+            c.as_str-then-not-branch.ensures ∙ ap (λ (r : Row). r.name) c.row.view_is in
+    stops c.repeated.result x.name (names_of rows) (rw again at c.repeated.ensures) (sym c.loop-row.invariant.rest ∙ first)
+
+pub loop-row-preserved : goal.loop-row-preserved
+loop-row-preserved c =
+    let rows = c.args.rows.now in
+    let i = c.loop-row.row-index in
+    let x = c.row-item.result in
+    let before = names_of (take i rows) in
+    let key : c.as_str.result.now ≡ x.name = c.as_str.ensures ∙ ap (λ (r : Row). r.name) c.row.view_is in
+    let is : drop i rows ≡ x ∷ drop (i + 1) rows = here rows i x c.loop-row-test.true c.row-item.is in
+    let upto : names_of (take (i + 1) rows) ≡ before ++ x.name ∷ [] = names_upto rows i x c.loop-row-test.true c.row-item.is in
+    let new = to_not _ (sym c.in_ok-insert.ensures.added ∙ c.if-not-branch.false) in
+    let among : is_among x.name before ≡ false =
+            ap (λ q. is_among q before) (sym key) ∙ sym (c.loop-row.invariant.held c.as_str.result) ∙ new in
+    record {
+        held = λ (q : Bor (List ℕ)).
+            c.in_ok-insert.ensures.updates.0 q
+            ∙ ap (λ b. cond b true (contains by_text c.loop-row.names q)) (is_eq-slice_cmp c.as_str.result.now q.now ∙ ap (λ y. bytes_eq y q.now) key)
+            ∙ ap (λ b. cond (bytes_eq x.name q.now) true b) (c.loop-row.invariant.held q)
+            ∙ sym (among-push q.now x.name before)
+            ∙ ap (λ ys. is_among q.now ys) (sym upto);
+        rest =
+            ap (λ ys. repeated ys (names_of (drop (i + 1) rows))) upto
+            ∙ repeated_more before x.name (names_of (drop (i + 1) rows)) among
+            ∙ ap (λ ys. repeated before (names_of ys)) (sym is)
+            ∙ c.loop-row.invariant.rest
+    }
+
+pub returns : goal.returns
+returns c =
+    let rows = c.args.rows.now in
+    let i = c.loop-row.row-index in
+    let none = drop_all i rows c.loop-row-test.false in
+    distinct_ends (names_of rows)
+        (sym c.loop-row.invariant.rest ∙ ap (λ ys. repeated (names_of (take i rows)) (names_of ys)) none ∙ repeated_end _)

@@ -1,0 +1,4 @@
+pub mod Json
+pub mod Object
+pub mod Row
+pub mod RowList

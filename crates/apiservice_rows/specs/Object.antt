@@ -1,0 +1,224 @@
+-- An APIService object (`apiregistration.k8s.io/v1`) and the row that it gives, or its first fault.
+use Rattle.std.specs.Prelude.{ℕ, ◌+◌, ◌==◌, ◌&&◌, ◌||◌, not, nat_lt, Bool, true, false, if◌then◌else◌, List, [], ◌∷◌, length, Option, Some, None, option_and_then, Result, Ok, Err, codes}
+use Rattle.std.specs.Char.{is_ascii_digit, is_ascii_lowercase}
+use Rattle.std.specs.Str.{bytes_eq}
+use Rattle.serde_json.specs.Data.{Data, null, boolean, number, string, array, object, Items, no_items, item}
+use Rattle.serde_json.specs.Find.{as_str}
+use Rattle.serde_json.specs.Written.{has_float, compact_text}
+use Rattle.apiservice_rows.specs.Json.{◌>>=◌, found_or, present, inner, text_in, whole_in, value_of}
+use Rattle.apiservice_rows.specs.Row.{Row, own_name}
+use Rattle.apiservice_rows.specs.declared.fault.RowFault.{RowFault}
+use Rattle.apiservice_rows.specs.declared.fault.RowFault.TheVariants.{BadField, NameMismatch, Range}
+use Rattle.apiservice_rows.specs.declared.service.FoundService.{FoundService}
+use Rattle.apiservice_rows.specs.declared.service.ServiceRef.{ServiceRef}
+
+-- ---- what it is
+
+-- a text; in a list it may be absent
+abbrev pub is_text : Bool → List ℕ → Option Data → Bool
+is_text optional text None = optional
+is_text optional text (Some null) = false
+is_text optional text (Some (boolean b)) = false
+is_text optional text (Some (number n)) = false
+is_text optional text (Some (string s)) = bytes_eq s text
+is_text optional text (Some (array ds)) = false
+is_text optional text (Some (object ms)) = false
+
+-- an APIService of this version of its API, whose numbers are all whole and fit 64 bits
+unfoldable pub head_of : Bool → Data → Result (Unit {0}) RowFault
+head_of in_list d =
+    if not (is_text in_list (codes "APIService") (present (codes "kind") d)) then Err (BadField (codes "kind"))
+    else if not (is_text in_list (codes "apiregistration.k8s.io/v1") (present (codes "apiVersion") d)) then
+    Err (BadField (codes "apiVersion"))
+    else if has_float d then Err (BadField (codes "number"))
+    else Ok tt
+
+-- ---- whose it is
+
+abbrev pub is_version_byte : ℕ → Bool
+is_version_byte c = is_ascii_lowercase c || is_ascii_digit c || c == 45
+
+abbrev pub is_name_byte : ℕ → Bool
+is_name_byte c = is_version_byte c || c == 46
+
+abbrev pub are_name_bytes : List ℕ → Bool
+are_name_bytes [] = true
+are_name_bytes (c ∷ rest) = is_name_byte c && are_name_bytes rest
+
+abbrev pub are_version_bytes : List ℕ → Bool
+are_version_bytes [] = true
+are_version_bytes (c ∷ rest) = is_version_byte c && are_version_bytes rest
+
+-- at most 253 lower-case letters, digits, `-` and `.`
+abbrev pub is_group : List ℕ → Bool
+is_group text = nat_lt (length text) 254 && are_name_bytes text
+
+abbrev pub begins_with_letter : List ℕ → Bool
+begins_with_letter [] = false
+begins_with_letter (c ∷ rest) = is_ascii_lowercase c
+
+-- 1 to 63 lower-case letters, digits and `-`, the first a letter
+abbrev pub is_version : List ℕ → Bool
+is_version text = nat_lt (length text) 64 && (begins_with_letter text && are_version_bytes text)
+
+abbrev pub kept : (List ℕ → Bool) → Option (List ℕ) → Option (List ℕ)
+kept test None = None
+kept test (Some text) = if test text then Some text else None
+
+abbrev pub is_not_empty : List ℕ → Bool
+is_not_empty text = nat_lt 0 (length text)
+
+unfoldable pub name_of : Data → Result (List ℕ) RowFault
+name_of d =
+    found_or (BadField (codes "name")) (kept is_not_empty (text_in (inner (codes "metadata") (codes "name") d)))
+
+abbrev pub some_group : Data → Result (List ℕ) RowFault
+some_group d = found_or (BadField (codes "group")) (kept is_group (as_str d))
+
+abbrev pub group_in : Option Data → Result (List ℕ) RowFault
+group_in None = Ok []
+group_in (Some d) = some_group d
+
+-- absent is the core group, whose name is empty
+unfoldable pub group_of : Data → Result (List ℕ) RowFault
+group_of d = group_in (inner (codes "spec") (codes "group") d)
+
+unfoldable pub version_of : Data → Result (List ℕ) RowFault
+version_of d =
+    found_or (BadField (codes "version")) (kept is_version (text_in (inner (codes "spec") (codes "version") d)))
+
+unfoldable pub priority_of : List ℕ → Data → Result ℕ RowFault
+priority_of name d = found_or (BadField name) (whole_in (inner (codes "spec") name d))
+
+-- ---- which service answers for it
+
+abbrev pub is_object : Data → Bool
+is_object null = false
+is_object (boolean b) = false
+is_object (number n) = false
+is_object (string s) = false
+is_object (array ds) = false
+is_object (object ms) = true
+
+abbrev pub some_present : Result FoundService RowFault → Result (Option FoundService) RowFault
+some_present (Ok service) = Ok (Some service)
+some_present (Err fault) = Err fault
+
+abbrev pub is_service_name : List ℕ → Bool
+is_service_name text = is_not_empty text && is_group text
+
+unfoldable pub service_text : List ℕ → Data → Result (List ℕ) RowFault
+service_text name d = found_or (BadField name) (kept is_service_name (text_in (present name d)))
+
+abbrev pub port_in : Option Data → Result ℕ RowFault
+port_in None = Ok 443
+port_in (Some d) = found_or (BadField (codes "port")) (whole_in (Some d))
+
+-- the port of HTTPS where none is named, and in any range yet
+unfoldable pub port_of : Data → Result ℕ RowFault
+port_of d = port_in (present (codes "port") d)
+
+unfoldable pub present_service : Data → Result FoundService RowFault
+present_service d = do
+  namespace ← service_text (codes "namespace") d
+  name ← service_text (codes "name") d
+  port ← port_of d
+  Ok (record { namespace = namespace; name = name; port = port })
+
+abbrev pub some_service : Data → Result (Option FoundService) RowFault
+some_service d = if is_object d then some_present (present_service d) else Err (BadField (codes "service"))
+
+abbrev pub service_in : Option Data → Result (Option FoundService) RowFault
+service_in None = Ok None
+service_in (Some d) = some_service d
+
+unfoldable pub service_of : Data → Result (Option FoundService) RowFault
+service_of d = service_in (inner (codes "spec") (codes "service") d)
+
+-- ---- whether it is available
+
+abbrev pub are_objects : Items → Bool
+are_objects no_items = true
+are_objects (item d ds) = is_object d && are_objects ds
+
+-- the first condition of type `Available` has the status `True`, or there is none
+abbrev pub is_available : Items → Bool
+is_available no_items = true
+is_available (item d ds) =
+    if is_text false (codes "Available") (present (codes "type") d) then
+    is_text false (codes "True") (present (codes "status") d)
+    else is_available ds
+
+abbrev pub available_by : Items → Result Bool RowFault
+available_by ds = if are_objects ds then Ok (is_available ds) else Err (BadField (codes "conditions"))
+
+abbrev pub some_conditions : Data → Result Bool RowFault
+some_conditions null = Err (BadField (codes "conditions"))
+some_conditions (boolean b) = Err (BadField (codes "conditions"))
+some_conditions (number n) = Err (BadField (codes "conditions"))
+some_conditions (string s) = Err (BadField (codes "conditions"))
+some_conditions (array ds) = available_by ds
+some_conditions (object ms) = Err (BadField (codes "conditions"))
+
+abbrev pub conditions_in : Option Data → Result Bool RowFault
+conditions_in None = Ok true
+conditions_in (Some d) = some_conditions d
+
+abbrev pub some_status : Data → Result Bool RowFault
+some_status d =
+    if is_object d then conditions_in (present (codes "conditions") d) else Err (BadField (codes "status"))
+
+abbrev pub status_in : Option Data → Result Bool RowFault
+status_in None = Ok true
+status_in (Some d) = some_status d
+
+-- available where nothing is said
+unfoldable pub available_of : Data → Result Bool RowFault
+available_of d = status_in (present (codes "status") d)
+
+-- ---- the whole
+
+unfoldable pub name_check : List ℕ → List ℕ → List ℕ → Result (Unit {0}) RowFault
+name_check name version group = if bytes_eq name (own_name version group) then Ok tt else Err NameMismatch
+
+-- from 1 to most
+unfoldable pub ranged : List ℕ → ℕ → ℕ → Result ℕ RowFault
+ranged name most n = if nat_lt 0 n && nat_lt n (most + 1) then Ok n else Err (Range name)
+
+unfoldable pub ranged_service : Option FoundService → Result (Option ServiceRef) RowFault
+ranged_service None = Ok None
+ranged_service (Some s) = do
+  port ← ranged (codes "port") 65535 s.port
+  Ok (Some (record { namespace = s.namespace; name = s.name; port = port }))
+
+-- the row of an object, or the first of its faults in this order
+unfoldable pub row_of : Bool → Data → Result Row RowFault
+row_of in_list d = do
+  head ← head_of in_list d
+  name ← name_of d
+  group ← group_of d
+  version ← version_of d
+  group_number ← priority_of (codes "groupPriorityMinimum") d
+  version_number ← priority_of (codes "versionPriority") d
+  found ← service_of d
+  available ← available_of d
+  same ← name_check name version group
+  group_priority ← ranged (codes "groupPriorityMinimum") 20000 group_number
+  version_priority ← ranged (codes "versionPriority") 1000 version_number
+  service ← ranged_service found
+  Ok (record {
+    name = name;
+    group = group;
+    version = version;
+    group_priority = group_priority;
+    version_priority = version_priority;
+    service = service;
+    available = available;
+    object = compact_text d;
+  })
+
+-- the row of a text
+unfoldable pub read_row : List ℕ → Result Row RowFault
+read_row bytes = do
+  d ← value_of bytes
+  row_of false d

@@ -1,0 +1,77 @@
+-- A list of APIService objects and its rows, or its first fault.
+use Rattle.std.specs.Prelude.{ℕ, ◌||◌, nat_lt, Bool, true, false, if◌then◌else◌, List, [], ◌∷◌, ◌++◌, map, length, Option, Some, None, Result, Ok, Err, codes}
+use Rattle.std.specs.Str.{bytes_eq}
+use Rattle.serde_json.specs.Data.{Data, null, boolean, number, string, array, object, Items, no_items, item}
+use Rattle.apiservice_rows.specs.Json.{◌>>=◌, value_of, present}
+use Rattle.apiservice_rows.specs.Object.{is_text, row_of}
+use Rattle.apiservice_rows.specs.Row.{Row}
+use Rattle.apiservice_rows.specs.declared.fault.RowFault.{RowFault}
+use Rattle.apiservice_rows.specs.declared.fault.RowFault.TheVariants.{BadField, Repeated, Full}
+use Rattle.apiservice_rows.specs.declared.row_list.TheConstants.{MOST_ROWS}
+
+-- the rows of the items; the first faulty one gives the answer
+unfoldable pub item_rows : Items → Result (List Row) RowFault
+item_rows no_items = Ok []
+item_rows (item d ds) = do
+  first ← row_of true d
+  others ← item_rows ds
+  Ok (first ∷ others)
+
+abbrev pub items_in : Option Data → Result (List Row) RowFault
+items_in None = Err (BadField (codes "items"))
+items_in (Some null) = Err (BadField (codes "items"))
+items_in (Some (boolean b)) = Err (BadField (codes "items"))
+items_in (Some (number n)) = Err (BadField (codes "items"))
+items_in (Some (string s)) = Err (BadField (codes "items"))
+items_in (Some (array ds)) = item_rows ds
+items_in (Some (object ms)) = Err (BadField (codes "items"))
+
+-- a list by its kind, as `kubectl get apiservices -o json` prints one
+abbrev pub is_list : Data → Bool
+is_list d =
+    is_text false (codes "APIServiceList") (present (codes "kind") d)
+    || is_text false (codes "List") (present (codes "kind") d)
+
+abbrev pub is_among : List ℕ → List (List ℕ) → Bool
+is_among name [] = false
+is_among name (own ∷ names) = bytes_eq own name || is_among name names
+
+-- the first name that stood before
+unfoldable pub repeated : List (List ℕ) → List (List ℕ) → Option (List ℕ)
+repeated before [] = None
+repeated before (name ∷ names) =
+    if is_among name before then Some name else repeated (before ++ name ∷ []) names
+
+abbrev pub names_of : List Row → List (List ℕ)
+names_of rows = map (λ (r : Row). r.name) rows
+
+abbrev pub once : Option (List ℕ) → Result (Unit {0}) RowFault
+once None = Ok tt
+once (Some name) = Err (Repeated name)
+
+-- no name comes twice
+unfoldable pub distinct : List (List ℕ) → Result (Unit {0}) RowFault
+distinct names = once (repeated [] names)
+
+-- at most as many rows as a table holds
+unfoldable pub few : List Row → Result (List Row) RowFault
+few rows = if nat_lt MOST_ROWS (length rows) then Err Full else Ok rows
+
+-- the rows of one object
+unfoldable pub one_row : Data → Result (List Row) RowFault
+one_row d = do
+  row ← row_of false d
+  Ok (row ∷ [])
+
+-- the rows of a list
+unfoldable pub list_rows : Data → Result (List Row) RowFault
+list_rows d = do
+  rows ← items_in (present (codes "items") d)
+  each ← distinct (names_of rows)
+  few rows
+
+-- the rows of a text: of one object, or of a list
+unfoldable pub read_rows : List ℕ → Result (List Row) RowFault
+read_rows bytes = do
+  d ← value_of bytes
+  if is_list d then list_rows d else one_row d

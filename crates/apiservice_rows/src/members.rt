@@ -1,0 +1,218 @@
+// The members of an APIService object, one check each.
+ghost use Rattle.std.specs.Prelude.{◌≡◌, Ok, false, IfOk, OnOk};
+ghost use Rattle.serde_json.specs.View.{view, items_view};
+ghost use Rattle.serde_json.specs.Written.{has_float};
+ghost use Rattle.apiservice_rows.specs.Json.{Gives};
+ghost use Rattle.apiservice_rows.specs.Object as spec;
+ghost use Rattle.apiservice_rows.specs.Row.{has_dot};
+
+use crate::fault::{RowFault, bad_field};
+use crate::floats::has_float;
+use crate::json::{inner, is_text, present, text_in, whole_in};
+use crate::service::FoundService;
+use crate::spelling::{is_group, is_service_name, is_version};
+use front_base::Text;
+use serde_json::Value;
+use std::alloc::Global;
+
+// A text of one's own.
+fn owned(alloc: Global, text: &str) -> Result<Text, RowFault>
+    ensures { Gives (λ t. t) result (Ok text.now) }
+{
+    Ok(Text::new(String::from_str(alloc, text)?))
+}
+
+// What the object is: its kind, the version of its API, and that its numbers are whole and fit 64 bits.
+#[tactic(auto, unfolding(crate::specs::Object::head_of))]
+pub fn check_head(alloc: Global, in_list: bool, value: &Value) -> Result<(), RowFault>
+    ensures value { Gives (λ u. u) result (spec.head_of in_list (view value.now)) }
+    ensures whole { OnOk result (has_float (view value.now) ≡ false) }
+{
+    if !is_text(in_list, "APIService", present(value, "kind")) {
+        return Err(bad_field(alloc, "kind"));
+    }
+    if !is_text(
+        in_list,
+        "apiregistration.k8s.io/v1",
+        present(value, "apiVersion"),
+    ) {
+        return Err(bad_field(alloc, "apiVersion"));
+    }
+    if has_float(value) {
+        return Err(bad_field(alloc, "number"));
+    }
+    Ok(())
+}
+
+#[tactic(auto, unfolding(crate::specs::Object::name_of))]
+pub fn name_of(alloc: Global, value: &Value) -> Result<Text, RowFault>
+    ensures { Gives (λ t. t) result (spec.name_of (view value.now)) }
+{
+    match text_in(inner(value, "metadata", "name")) {
+        Some(text) if !text.is_empty() => owned(alloc, text),
+        _ => Err(bad_field(alloc, "name")),
+    }
+}
+
+fn some_group(alloc: Global, found: &Value) -> Result<Text, RowFault>
+    ensures { Gives (λ t. t) result (spec.some_group (view found.now)) }
+{
+    match found.as_str() {
+        Some(text) if is_group(text) => owned(alloc, text),
+        _ => Err(bad_field(alloc, "group")),
+    }
+}
+
+// Absent is the core group, whose name is empty.
+#[tactic(auto, unfolding(crate::specs::Object::group_of))]
+pub fn group_of(alloc: Global, value: &Value) -> Result<Text, RowFault>
+    ensures { Gives (λ t. t) result (spec.group_of (view value.now)) }
+{
+    match inner(value, "spec", "group") {
+        None => Ok(Text::new(String::new(alloc))),
+        Some(found) => some_group(alloc, found),
+    }
+}
+
+#[tactic(auto, unfolding(crate::specs::Object::version_of))]
+pub fn version_of(alloc: Global, value: &Value) -> Result<Text, RowFault>
+    ensures value { Gives (λ t. t) result (spec.version_of (view value.now)) }
+    ensures no_dot { IfOk result (λ t. has_dot t ≡ false) }
+{
+    match text_in(inner(value, "spec", "version")) {
+        Some(text) if is_version(text) => owned(alloc, text),
+        _ => Err(bad_field(alloc, "version")),
+    }
+}
+
+#[tactic(auto, unfolding(crate::specs::Object::priority_of))]
+pub fn priority_of(alloc: Global, name: &str, value: &Value) -> Result<u64, RowFault>
+    ensures { Gives (λ n. n) result (spec.priority_of name.now (view value.now)) }
+{
+    match whole_in(inner(value, "spec", name)) {
+        Some(number) => Ok(number),
+        None => Err(bad_field(alloc, name)),
+    }
+}
+
+#[tactic(auto, unfolding(crate::specs::Object::service_text))]
+fn service_text(alloc: Global, name: &str, service: &Value) -> Result<Text, RowFault>
+    ensures { Gives (λ t. t) result (spec.service_text name.now (view service.now)) }
+{
+    match text_in(present(service, name)) {
+        Some(text) if is_service_name(text) => owned(alloc, text),
+        _ => Err(bad_field(alloc, name)),
+    }
+}
+
+// The port of HTTPS where none is named.
+#[tactic(auto, unfolding(crate::specs::Object::port_of))]
+fn port_of(alloc: Global, service: &Value) -> Result<u64, RowFault>
+    ensures { Gives (λ n. n) result (spec.port_of (view service.now)) }
+{
+    let found = present(service, "port");
+    if found.is_none() {
+        return Ok(443);
+    }
+    match whole_in(found) {
+        Some(port) => Ok(port),
+        None => Err(bad_field(alloc, "port")),
+    }
+}
+
+#[tactic(auto, unfolding(crate::specs::Object::present_service))]
+fn present_service(alloc: Global, service: &Value) -> Result<FoundService, RowFault>
+    ensures { Gives (λ s. s) result (spec.present_service (view service.now)) }
+{
+    let namespace = service_text(alloc, "namespace", service)?;
+    let name = service_text(alloc, "name", service)?;
+    let port = port_of(alloc, service)?;
+    Ok(FoundService {
+        namespace,
+        name,
+        port,
+    })
+}
+
+fn some_service(alloc: Global, found: &Value) -> Result<Option<FoundService>, RowFault>
+    ensures { Gives (λ s. s) result (spec.some_service (view found.now)) }
+{
+    if !found.is_object() {
+        return Err(bad_field(alloc, "service"));
+    }
+    Ok(Some(present_service(alloc, found)?))
+}
+
+#[tactic(auto, unfolding(crate::specs::Object::service_of))]
+pub fn service_of(alloc: Global, value: &Value) -> Result<Option<FoundService>, RowFault>
+    ensures { Gives (λ s. s) result (spec.service_of (view value.now)) }
+{
+    match inner(value, "spec", "service") {
+        None => Ok(None),
+        Some(found) => some_service(alloc, found),
+    }
+}
+
+fn are_objects(items: &Vec<Value>) -> bool
+    ensures { result ≡ spec.are_objects (items_view items.now.items) }
+{
+    for item in items {
+        if !item.is_object() {
+            return false;
+        }
+    }
+    true
+}
+
+// Whether the first condition of type `Available` has the status `True`, or there is none.
+fn is_available(conditions: &Vec<Value>) -> bool
+    ensures { result ≡ spec.is_available (items_view conditions.now.items) }
+{
+    for condition in conditions {
+        if is_text(false, "Available", present(condition, "type")) {
+            return is_text(false, "True", present(condition, "status"));
+        }
+    }
+    true
+}
+
+fn available_by(alloc: Global, conditions: &Vec<Value>) -> Result<bool, RowFault>
+    ensures { Gives (λ b. b) result (spec.available_by (items_view conditions.now.items)) }
+{
+    if !are_objects(conditions) {
+        return Err(bad_field(alloc, "conditions"));
+    }
+    Ok(is_available(conditions))
+}
+
+fn some_conditions(alloc: Global, found: &Value) -> Result<bool, RowFault>
+    ensures { Gives (λ b. b) result (spec.some_conditions (view found.now)) }
+{
+    match found {
+        Value::Array(conditions) => available_by(alloc, conditions),
+        _ => Err(bad_field(alloc, "conditions")),
+    }
+}
+
+fn some_status(alloc: Global, status: &Value) -> Result<bool, RowFault>
+    ensures { Gives (λ b. b) result (spec.some_status (view status.now)) }
+{
+    if !status.is_object() {
+        return Err(bad_field(alloc, "status"));
+    }
+    match present(status, "conditions") {
+        None => Ok(true),
+        Some(found) => some_conditions(alloc, found),
+    }
+}
+
+// Available where no condition says otherwise.
+#[tactic(auto, unfolding(crate::specs::Object::available_of))]
+pub fn available_of(alloc: Global, value: &Value) -> Result<bool, RowFault>
+    ensures { Gives (λ b. b) result (spec.available_of (view value.now)) }
+{
+    match present(value, "status") {
+        None => Ok(true),
+        Some(status) => some_status(alloc, status),
+    }
+}
