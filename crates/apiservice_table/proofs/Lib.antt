@@ -1,0 +1,5 @@
+pub mod ChangeLemmas
+pub mod FindLemmas
+pub mod ManyLemmas
+pub mod OrderLemmas
+pub mod PlaceLemmas

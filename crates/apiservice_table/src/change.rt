@@ -1,0 +1,53 @@
+ghost use Rattle.std.specs.Prelude.{◌≡◌};
+ghost use Rattle.apiservice_table.specs.declared.change.ChangeFault.TheVariants as fault;
+
+use apiservice_rows::Row;
+use front_base::{NoMemory, Text};
+use std::alloc::{AllocError, AllocFailed};
+
+/// A change of the table, as a client of the API asks for it.
+#[derive(Debug, Drop)]
+pub enum Change {
+    /// A row of a new name.
+    Create(Row),
+    /// A row in the place of the one of its name.
+    Replace(Row),
+    /// The row of that name goes.
+    Delete(Text),
+}
+
+/// Why a change was not made.
+#[derive(Clone, Copy, Debug, PartialEq, Eq)]
+pub enum ChangeFault {
+    /// A row of that name is there already.
+    Exists,
+    /// No row of that name is there.
+    Missing,
+    /// The table holds as many rows as it may.
+    Full,
+    NoMemory,
+}
+
+impl From<AllocError> for ChangeFault {
+    ghost from_gives = { λ _ e. e ≡ fault.NoMemory };
+
+    fn from(_: AllocError) -> Self {
+        ChangeFault::NoMemory
+    }
+}
+
+impl<T: Drop> From<AllocFailed<T>> for ChangeFault {
+    ghost from_gives = { λ _ e. e ≡ fault.NoMemory };
+
+    fn from(_: AllocFailed<T>) -> Self {
+        ChangeFault::NoMemory
+    }
+}
+
+impl From<NoMemory> for ChangeFault {
+    ghost from_gives = { λ _ e. e ≡ fault.NoMemory };
+
+    fn from(_: NoMemory) -> Self {
+        ChangeFault::NoMemory
+    }
+}

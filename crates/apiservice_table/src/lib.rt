@@ -1,0 +1,14 @@
+//! The table of APIs by which requests find their way, and its changes.
+//!
+//! The main contracts are those of `RouteTable` and of the trait `Routes`: a look-up gives the row of a group and a
+//! version exactly, and a change is made, or refused by name, exactly as the rows before it say.
+//!
+//! Nothing is promised of who may change the table: that is for the crates above.
+#![tactic(auto)]
+
+mod change;
+mod place;
+mod table;
+
+pub use change::{Change, ChangeFault};
+pub use table::RouteTable;
