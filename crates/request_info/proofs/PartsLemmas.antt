@@ -1,7 +1,9 @@
 -- Empty parts at the ends of a list of parts.
-use Rattle.std.proofs.Common.{◌≡◌, ◌==◌, ℕ, ◌+◌, ◌-◌, ◌<◌, ◌≤◌, true, false, List, [], ◌∷◌, ◌++◌, length, get_or, take, drop, refl, sym, ap, ◌∙◌, Bor, arith, length-drop}
+use Rattle.std.proofs.Common.{◌≡◌, ◌==◌, ℕ, ◌+◌, ◌-◌, ◌<◌, ◌≤◌, Bool, true, false, cond, List, [], ◌∷◌, ◌++◌, length, get_or, take, drop, refl, sym, ap, ◌∙◌, Bor, arith, length-drop}
 use Rattle.std.proofs.lemmas.Bool.{cond-true, cond-false}
 use Rattle.std.proofs.lemmas.List.{drop_all, drop_more, take_all, take_more, map-append}
+use Rattle.std.proofs.lemmas.List.Splits.{length-slice_split}
+use Rattle.std.specs.List.{onto_first, slice_split}
 use Rattle.request_info.specs.Parts.{from_first, to_last, in_front, texts_of}
 
 -- the first part
@@ -57,3 +59,26 @@ to_last_dropped i parts d h f = rw (texts_more i parts d h) (sym (last_dropped (
 pub to_last_of_none : [] ≡ to_last []
 unfolding to_last
 to_last_of_none = refl
+
+-- an empty part at the end, as a slash at the end of a path makes it
+pub both_ends : (parts : List (List ℕ)) → to_last (from_first (parts ++ [] ∷ [])) ≡ to_last (from_first parts)
+unfolding from_first to_last
+both_ends [] = refl
+both_ends (part ∷ parts) = either (length part == 0) (both_ends parts)
+  where
+    either : (b : Bool) → to_last (from_first (parts ++ [] ∷ [])) ≡ to_last (from_first parts)
+        → to_last (cond b (from_first (parts ++ [] ∷ [])) (part ∷ (parts ++ [] ∷ []))) ≡ to_last (cond b (from_first parts) (part ∷ parts))
+    either true rest = rest
+    either false rest = last_dropped (part ∷ parts) [] refl
+
+-- a list that is cut has a part
+cut_once : (b : Bool) (x : ℕ) (parts more : List (List ℕ)) → 0 < length parts → cond b ([] ∷ (parts ++ more)) (onto_first x (parts ++ more)) ≡ cond b ([] ∷ parts) (onto_first x parts) ++ more
+cut_once true x parts more h = refl
+cut_once false x [] more h = absurd (omega (arith, h))
+cut_once false x (part ∷ parts) more h = refl
+
+pub cut_more : (path : List ℕ) → slice_split (λ b. b == 47) (path ++ 47 ∷ []) ≡ slice_split (λ b. b == 47) path ++ [] ∷ []
+cut_more [] = refl
+cut_more (x ∷ path) =
+    ap (λ parts. cond (x == 47) ([] ∷ parts) (onto_first x parts)) (cut_more path)
+    ∙ cut_once (x == 47) x (slice_split (λ b. b == 47) path) ([] ∷ []) (omega (arith, length-slice_split (λ b. b == 47) path))

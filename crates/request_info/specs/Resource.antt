@@ -48,10 +48,14 @@ pub record Named : Type 0 where
   pub name : List ℕ
   pub subresource : List ℕ
 
+-- these four
+abbrev pub names : List ℕ → List ℕ → List ℕ → List ℕ → Named
+names namespace resource name subresource =
+    record { namespace = namespace; resource = resource; name = name; subresource = subresource }
+
 -- `RESOURCE/NAME/SUBRESOURCE`, as far as it goes
 abbrev pub object_in : List ℕ → List (List ℕ) → Named
-object_in namespace parts =
-    record { namespace = namespace; resource = part 0 parts; name = part 1 parts; subresource = part 2 parts }
+object_in namespace parts = names namespace (part 0 parts) (part 1 parts) (part 2 parts)
 
 -- the subresources that a namespace has itself
 abbrev pub is_of_namespaces : List ℕ → Bool

@@ -8,6 +8,7 @@
 #![tactic(auto)]
 
 mod fault;
+mod laws;
 mod parts;
 mod request;
 mod resource;
@@ -17,6 +18,7 @@ mod verb;
 mod watch;
 
 pub use fault::InfoFault;
+pub use laws::{end_slashes_do_not_count, paths_name_resources};
 pub use request::{audit_info, info};
 pub use running::long_running;
 
