@@ -1,0 +1,73 @@
+-- The records of a file, row by row.
+use Rattle.std.proofs.Common.{◌≡◌, ℕ, zero, suc, ◌+◌, ◌≤◌, ◌∷◌, [], ◌++◌, List, length, Bool, true, false, cond, Option, Some, None, Result, Ok, Err, refl, ap, ◌∙◌, append_assoc, arith}
+use Rattle.std.specs.Prelude.{◌==◌}
+use Rattle.csv.specs.Machine.{Read, next_record}
+use Rattle.csv.specs.Reading as csv
+use Rattle.csv.specs.Reading.{default_config, is_bom, records_next, strip_bom}
+use Rattle.csv.specs.declared.parser.Config.{Config}
+use Rattle.csv.specs.declared.parser.State.{State}
+use Rattle.csv.specs.declared.parser.State.TheVariants as st
+use Rattle.token_users.specs.File.{◌>>=◌, record_of, records_from, rows_of, Answers}
+use Rattle.token_users.specs.declared.record.Record.{Record}
+use Rattle.token_users.specs.declared.fault.TokenFault.{TokenFault}
+use Rattle.token_users.specs.declared.fault.TokenFault.TheVariants.{BadRow, NoMemory}
+
+-- the records that were read, and then those of the rows that are left
+abbrev pub with_records : List Record → Result (List Record) TokenFault → Result (List Record) TokenFault
+with_records done left = left >>= (λ rs. Ok (done ++ rs))
+
+with_records-append : (a b : List Record) (r : Result (List Record) TokenFault) → with_records (a ++ b) r ≡ with_records a (r >>= (λ rs. Ok (b ++ rs)))
+with_records-append a b (Ok rs) = ap Ok (append_assoc a b rs)
+with_records-append a b (Err e) = refl
+
+pub records_more : (done : List Record) (i : ℕ) (row : List (List ℕ)) (rows : List (List (List ℕ))) (r : Record) → Ok r ≡ record_of i row → (length r.token == 0) ≡ false
+    → with_records (done ++ r ∷ []) (records_from (i + 1) rows) ≡ with_records done (records_from i (row ∷ rows))
+unfolding records_from
+records_more done i row rows r is kept = with_records-append done (r ∷ []) (records_from (i + 1) rows) ∙ rw (← is, kept) refl
+
+pub records_skip : (done : List Record) (i : ℕ) (row : List (List ℕ)) (rows : List (List (List ℕ))) (r : Record) → Ok r ≡ record_of i row → (length r.token == 0) ≡ true
+    → with_records done (records_from (i + 1) rows) ≡ with_records done (records_from i (row ∷ rows))
+unfolding records_from
+records_skip done i row rows r is empty = rw (← is, empty) (same (records_from (i + 1) rows))
+  where
+    same : (q : Result (List Record) TokenFault) → with_records done q ≡ with_records done (q >>= (λ rs. Ok rs))
+    same (Ok rs) = refl
+    same (Err f) = refl
+
+records_stop : (done : List Record) (i : ℕ) (row : List (List ℕ)) (rows : List (List (List ℕ))) (f : TokenFault) → Err f ≡ record_of i row → Err f ≡ with_records done (records_from i (row ∷ rows))
+unfolding records_from
+records_stop done i row rows f e = rw (← e) refl
+
+pub records_end : (done : List Record) (i : ℕ) → with_records done (records_from i []) ≡ Ok (done ++ [])
+unfolding records_from
+records_end done i = refl
+
+-- the fault of a row is that of the file
+pub fault_stops : (done : List Record) (i : ℕ) (row : List (List ℕ)) (rows : List (List (List ℕ))) (all : Result (List Record) TokenFault) (f : TokenFault)
+    → Answers (Err f) (record_of i row) → with_records done (records_from i (row ∷ rows)) ≡ all → Answers (Err f) all
+fault_stops done i row rows all NoMemory fails is = tt
+fault_stops done i row rows all (BadRow number) fails is = records_stop done i row rows (BadRow number) fails ∙ is
+
+-- there are at most as many rows as bytes, and one
+some_rows : (more : State → List ℕ → List (List (List ℕ))) (n : ℕ) (read : Option Read) → ((s : State) (xs : List ℕ) → length (more s xs) ≤ n) → length (records_next more read) ≤ suc n
+some_rows more n None h = omega arith
+some_rows more n (Some p) h = omega (arith, h p.1 p.2)
+
+at_most : (cfg : Config) (n : ℕ) (s : State) (xs : List ℕ) → length (csv.records_from cfg n s xs) ≤ n
+unfolding csv.records_from
+at_most cfg zero s xs = omega arith
+at_most cfg (suc n) s xs = some_rows (csv.records_from cfg n) n (next_record cfg s [] [] xs) (at_most cfg n)
+
+stripped : (xs : List ℕ) → length (strip_bom xs) ≤ length xs
+unfolding strip_bom
+stripped [] = omega arith
+stripped (a ∷ []) = omega arith
+stripped (a ∷ b ∷ []) = omega arith
+stripped (a ∷ b ∷ c ∷ rest) = either (is_bom a b c)
+  where
+    either : (t : Bool) → length (cond t rest (a ∷ b ∷ c ∷ rest)) ≤ length (a ∷ b ∷ c ∷ rest)
+    either true = omega arith
+    either false = omega arith
+
+pub few_rows : (bytes : List ℕ) → length (rows_of bytes) ≤ length bytes + 1
+few_rows bytes = omega (arith, at_most default_config (length (strip_bom bytes) + 1) st.StartRecord (strip_bom bytes), stripped bytes)

@@ -1,0 +1,5 @@
+mod BearerLemmas
+mod FileLemmas
+mod PlaceLemmas
+mod RecordLemmas
+mod RowLemmas

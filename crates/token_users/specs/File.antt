@@ -1,0 +1,89 @@
+-- The records of a token file (Kubernetes, "Authenticating": static token file).
+use Rattle.std.specs.Prelude.{◌≡◌, ℕ, ◌+◌, ◌==◌, ◌&&◌, List, [], ◌∷◌, length, Bool, not, Option, Some, None, option_and_then, Result, Ok, Err, nat_le, nat_lt, filter, map, if◌then◌else◌}
+use Rattle.std.specs.Borrow.{Bor}
+use Rattle.std.specs.List.{list_all, slice_split}
+use Rattle.std.specs.Str.{is_utf8}
+use Rattle.csv.specs.Reading.{default_config, records, strip_bom}
+use Rattle.csv.specs.Records.{field_at}
+use Rattle.token_users.specs.declared.fault.TokenFault.{TokenFault}
+use Rattle.token_users.specs.declared.fault.TokenFault.TheVariants.{BadRow, NoMemory}
+use Rattle.token_users.specs.declared.record.Record.{Record}
+
+-- the first fault of several readings is that of all
+infixl 10 ◌>>=◌
+abbrev pub ◌>>=◌ : {A B : Type 0} → Result A TokenFault → (A → Result B TokenFault) → Result B TokenFault
+(Ok x) >>= f = f x
+(Err e) >>= f = Err e
+
+-- no byte is a control character of ASCII
+abbrev pub is_plain : List ℕ → Bool
+is_plain = list_all (λ b. nat_le 32 b && not (b == 127))
+
+abbrev pub is_some_text : List ℕ → Bool
+is_some_text text = not (length text == 0)
+
+-- the parts of a field between its commas
+abbrev pub comma_parts : List ℕ → List (List ℕ)
+comma_parts field = slice_split (λ b. b == 44) field
+
+-- the groups in a field: its parts, without the empty ones
+abbrev pub groups_in : List ℕ → List (List ℕ)
+groups_in field = filter is_some_text (comma_parts field)
+
+abbrev pub if_text : List ℕ → Option (List ℕ)
+if_text bytes = if is_utf8 bytes then Some bytes else None
+
+-- the field at a place, where it is there and is text
+abbrev pub text_at : List (List ℕ) → ℕ → Option (List ℕ)
+text_at fields i = option_and_then if_text (field_at fields i)
+
+-- the field of the groups, which may be left out
+abbrev pub groups_at : List (List ℕ) → Option (List ℕ)
+groups_at fields = if nat_lt (length fields) 4 then Some [] else text_at fields 3
+
+abbrev pub found_or : {A : Type 0} → TokenFault → Option A → Result A TokenFault
+found_or fault None = Err fault
+found_or fault (Some a) = Ok a
+
+-- what the fields of the row with this number say: token, user, uid and groups; fields behind the fourth say nothing
+unfoldable pub record_of : ℕ → List (List ℕ) → Result Record TokenFault
+record_of number fields = do
+  token ← found_or (BadRow number) (text_at fields 0)
+  name ← found_or (BadRow number) (text_at fields 1)
+  uid ← found_or (BadRow number) (text_at fields 2)
+  groups ← found_or (BadRow number) (groups_at fields)
+  if is_plain name && is_plain groups then Ok (record { token = token; user = record { name = name; uid = uid; groups = groups_in groups } }) else Err (BadRow number)
+
+-- a record without a token is none
+abbrev pub with_record : Record → List Record → List Record
+with_record first others = if length first.token == 0 then others else first ∷ others
+
+-- the records of rows, of which the first has this number
+unfoldable pub records_from : ℕ → List (List (List ℕ)) → Result (List Record) TokenFault
+records_from number [] = Ok []
+records_from number (row ∷ rows) = do
+  first ← record_of number row
+  others ← records_from (number + 1) rows
+  Ok (with_record first others)
+
+-- the rows of a file, as `csv` reads them without headers and with any number of fields
+abbrev pub rows_of : List ℕ → List (List (List ℕ))
+rows_of bytes = records default_config (strip_bom bytes)
+
+-- the records of a file in their order, or the first fault
+abbrev pub file_records : List ℕ → Result (List Record) TokenFault
+file_records bytes = records_from 0 (rows_of bytes)
+
+-- an answer is this one, unless memory ran out
+abbrev pub Answers : {A : Type 0} → Result A TokenFault → Result A TokenFault → Type 0
+Answers (Err NoMemory) stated = Unit {0}
+Answers answer stated = answer ≡ stated
+
+-- an answer that gives a vector, as one that gives its list
+abbrev pub listed : {A B : Type 0} → (A → B) → Result A TokenFault → Result B TokenFault
+listed items (Ok x) = Ok (items x)
+listed items (Err e) = Err e
+
+-- the texts of borrowed parts
+abbrev pub texts_of : List (Bor (List ℕ)) → List (List ℕ)
+texts_of parts = map (λ part. part.now) parts

@@ -1,0 +1,29 @@
+//! Who asks: the users of a token file, and the one whose bearer token a request carries.
+//!
+//! The main contracts are those of `read_tokens`, which gives the records of a file exactly, or the first row that is
+//! refused, and of `who`, which gives the user of the last record that has the request's token. Contracts see `Tokens`
+//! as the list of its records; the code finds a token by one look-up in an ordered map.
+//!
+//! Nothing is promised about how long a look-up takes: it compares the token with those of the file.
+#![tactic(auto)]
+
+mod asker;
+mod bearer;
+mod copy;
+mod fault;
+mod groups;
+mod record;
+mod rows;
+mod tokens;
+mod user;
+
+pub use asker::Who;
+pub use bearer::who;
+pub use fault::TokenFault;
+pub use record::Record;
+pub use rows::{MOST_FILE_BYTES, read_tokens};
+pub use tokens::Tokens;
+pub use user::user_of;
+
+#[cfg(test)]
+mod tests;
