@@ -3,3 +3,4 @@ pub mod FindLemmas
 pub mod ManyLemmas
 pub mod OrderLemmas
 pub mod PlaceLemmas
+pub mod StoryLemmas

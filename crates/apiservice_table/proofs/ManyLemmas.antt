@@ -55,7 +55,7 @@ named_many q (n ∷ news) rows d =
   where
     by_cases : (b : Bool) → bytes_eq n.name q ≡ b
         → first_of (row_named q news) (if bytes_eq n.name q then Some n else row_named q rows)
-            ≡ first_of (row_named q (n ∷ news)) (row_named q rows)
+        ≡ first_of (row_named q (n ∷ news)) (row_named q rows)
     by_cases true e =
         let none : row_named q news ≡ None = ap (λ y. row_named y news) (sym (equal_texts n.name q e)) ∙ d.0 in
         rw (e, none) refl

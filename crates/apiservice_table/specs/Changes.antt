@@ -44,3 +44,24 @@ abbrev pub IsNamed : Change → Type 0
 IsNamed (Create r) = IsRowName r.name r.version r.group
 IsNamed (Replace r) = IsRowName r.name r.version r.group
 IsNamed (Delete name) = Unit {0}
+
+-- more changes were seen, or none
+abbrev pub IsLater : List Change → List Change → Type 0
+IsLater old new = (more : List Change) × (new ≡ old ++ more)
+
+-- a change was taken: it is the last that was seen, the rows after the others take it, and it stands at its place among
+-- the own ones
+abbrev pub Took : List Row → List Change → List (ℕ × Change) → Change → List Change → List (ℕ × Change) → Type 0
+Took opening seen own change new_seen new_own =
+    (before : List Change) × IsLater seen before × (new_seen ≡ before ++ change ∷ [])
+    × (refusal (after opening before) change ≡ None) × (new_own ≡ own ++ (length before, change) ∷ [])
+
+-- changes with their places, from that one on
+abbrev pub placed : ℕ → List Change → List (ℕ × Change)
+placed at [] = []
+placed at (change ∷ changes) = (at, change) ∷ placed (at + 1) changes
+
+-- what contracts see of routes on one thread: the rows before any change, and the changes
+pub record Story : Type 0 where
+  pub opening : List Row
+  pub seen : List Change

@@ -8,7 +8,14 @@
 
 mod change;
 mod place;
+mod routes;
 mod table;
+mod table_routes;
 
 pub use change::{Change, ChangeFault};
+pub use routes::Routes;
 pub use table::RouteTable;
+pub use table_routes::TableRoutes;
+
+#[cfg(test)]
+mod tests;

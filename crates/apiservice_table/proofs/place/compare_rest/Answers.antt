@@ -15,7 +15,7 @@ all_behind (x ∷ xs) = let n : length (x ∷ xs) - 1 ≡ length xs = omega arit
 pub returns-then-is_empty : goal.returns-then-is_empty
 returns-then-is_empty c =
     sym (rest_none c.args.rest.now c.args.group.now
-        ((Decides-eqb (length c.args.rest.now) 0).0 (sym c.is_empty.ensures ∙ c.if-is_empty.true)))
+    ((Decides-eqb (length c.args.rest.now) 0).0 (sym c.is_empty.ensures ∙ c.if-is_empty.true)))
 
 pub returns : goal.returns
 returns c =

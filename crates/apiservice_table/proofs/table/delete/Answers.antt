@@ -14,7 +14,7 @@ returns-in-Ok-clause-due c =
     let place = rw c.as_slice.ensures.value at c.in-Ok.ensures.value in
     let within = rw c.as_slice.ensures.value at c.in-Ok.ensures.within in
     let some : is_some (row_named c.args.name.now c.args.rows.now.items) ≡ true =
-            sym (holds_is c.args.name.now c.args.rows.now.items (Ok c.in-Ok.at) c.requires place within) in
+    sym (holds_is c.args.name.now c.args.rows.now.items (Ok c.in-Ok.at) c.requires place within) in
     rw some refl
 
 pub returns-in-Err-clause-refused : goal.returns-in-Err-clause-refused
@@ -22,5 +22,5 @@ returns-in-Err-clause-refused c =
     let place = rw c.as_slice.ensures.value at c.in-Err.ensures.value in
     let within = rw c.as_slice.ensures.value at c.in-Err.ensures.within in
     let none : is_some (row_named c.args.name.now c.args.rows.now.items) ≡ false =
-            sym (holds_is c.args.name.now c.args.rows.now.items (Err c.in-Err.field-0) c.requires place within) in
+    sym (holds_is c.args.name.now c.args.rows.now.items (Err c.in-Err.field-0) c.requires place within) in
     rw none refl

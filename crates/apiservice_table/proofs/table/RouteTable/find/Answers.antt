@@ -9,7 +9,7 @@ returns-then-is_of c =
     let place = rw c.as_slice.ensures.value at c.in-Ok.ensures.value in
     let within = rw c.as_slice.ensures.value at c.in-Ok.ensures.within in
     let found = row_at c.args.group.now c.args.version.now rows c.in-Ok.at c.index-row.result.now true
-            c.self.invariant.0 c.self.invariant.1 (sym place) within c.index-row.ensures (sym c.if-is_of.true ∙ c.is_of.ensures) in
+    c.self.invariant.0 c.self.invariant.1 (sym place) within c.index-row.ensures (sym c.if-is_of.true ∙ c.is_of.ensures) in
     sym found ∙ ap (λ (t : Table). row c.args.group.now c.args.version.now t.rows) c.self.view_is
 
 pub returns-else-is_of : goal.returns-else-is_of
@@ -18,7 +18,7 @@ returns-else-is_of c =
     let place = rw c.as_slice.ensures.value at c.in-Ok.ensures.value in
     let within = rw c.as_slice.ensures.value at c.in-Ok.ensures.within in
     let found = row_at c.args.group.now c.args.version.now rows c.in-Ok.at c.index-row.result.now false
-            c.self.invariant.0 c.self.invariant.1 (sym place) within c.index-row.ensures (sym c.if-is_of.false ∙ c.is_of.ensures) in
+    c.self.invariant.0 c.self.invariant.1 (sym place) within c.index-row.ensures (sym c.if-is_of.false ∙ c.is_of.ensures) in
     sym found ∙ ap (λ (t : Table). row c.args.group.now c.args.version.now t.rows) c.self.view_is
 
 pub returns-in-Err : goal.returns-in-Err

@@ -18,13 +18,13 @@ pub loop-row-init : goal.loop-row-init
 loop-row-init c =
     let items = c.into_iter-row-iterator.ensures.into_iter_gives.0 ∙ c.into_vec-row-items.ensures in
     record {
-        can = search rules;
-        finite = search rules;
-        size = c.into_iter-row-iterator.ensures.into_iter_gives.1 ∙ c.into_vec-row-items.result.ok.0
-            ∙ ap length (sym c.into_iter-row-iterator.ensures.into_iter_gives.0);
-        order = rw c.new-ordered.ensures.items tt;
-        named = rw c.new-ordered.ensures.items tt;
-        rest = rw (items, c.new-ordered.ensures.items) refl
+      can = search rules;
+      finite = search rules;
+      size = c.into_iter-row-iterator.ensures.into_iter_gives.1 ∙ c.into_vec-row-items.result.ok.0
+          ∙ ap length (sym c.into_iter-row-iterator.ensures.into_iter_gives.0);
+      order = rw c.new-ordered.ensures.items tt;
+      named = rw c.new-ordered.ensures.items tt;
+      rest = rw (items, c.new-ordered.ensures.items) refl;
     }
 
 pub put-requires : goal.put-requires
@@ -35,15 +35,15 @@ loop-row-preserved c =
     let done = c.in_ok-put.ensures.done in
     let ordered = c.loop-row.ordered.items in
     record {
-        can = search rules;
-        finite = search rules;
-        size =
-            let old = c.loop-row.invariant.size in
-            let items = ap length c.in-Some.ensures.steps.0 in
-            omega (arith, old, items, c.in-Some.ensures.steps.1);
-        order = rw done (order_with c.in-Some.row ordered c.loop-row.invariant.order);
-        named = rw done (named_with c.in-Some.row ordered c.tells_its_name.ensures c.loop-row.invariant.named);
-        rest = rw done (ap (λ ys. with_rows ys ordered) (sym c.in-Some.ensures.steps.0) ∙ c.loop-row.invariant.rest)
+      can = search rules;
+      finite = search rules;
+      size =
+          let old = c.loop-row.invariant.size in
+          let items = ap length c.in-Some.ensures.steps.0 in
+          omega (arith, old, items, c.in-Some.ensures.steps.1);
+      order = rw done (order_with c.in-Some.row ordered c.loop-row.invariant.order);
+      named = rw done (named_with c.in-Some.row ordered c.tells_its_name.ensures c.loop-row.invariant.named);
+      rest = rw done (ap (λ ys. with_rows ys ordered) (sym c.in-Some.ensures.steps.0) ∙ c.loop-row.invariant.rest);
     }
 
 -- where none is left, all are in
@@ -60,16 +60,16 @@ all_in left ordered rows empty rest =
 pub invariant_of-result : goal.invariant_of-result
 invariant_of-result c =
     let all = all_in (into_iter_items c.loop-row.row-iterator) c.loop-row.ordered.items c.args.rows
-            (sym c.loop-row.invariant.size ∙ c.in-None.ensures.steps.0) c.loop-row.invariant.rest in
+    (sym c.loop-row.invariant.size ∙ c.in-None.ensures.steps.0) c.loop-row.invariant.rest in
     (c.loop-row.invariant.order, c.loop-row.invariant.named, at_most c.args.rows c.loop-row.ordered.items all c.requires.few)
 
 pub returns-clause-rows : goal.returns-clause-rows
 returns-clause-rows c =
     sym (all_in (into_iter_items c.loop-row.row-iterator) c.loop-row.ordered.items c.args.rows
-            (sym c.loop-row.invariant.size ∙ c.in-None.ensures.steps.0) c.loop-row.invariant.rest)
+    (sym c.loop-row.invariant.size ∙ c.in-None.ensures.steps.0) c.loop-row.invariant.rest)
 
 pub returns-clause-same : goal.returns-clause-same
 returns-clause-same c =
     let all = all_in (into_iter_items c.loop-row.row-iterator) c.loop-row.ordered.items c.args.rows
-            (sym c.loop-row.invariant.size ∙ c.in-None.ensures.steps.0) c.loop-row.invariant.rest in
+    (sym c.loop-row.invariant.size ∙ c.in-None.ensures.steps.0) c.loop-row.invariant.rest in
     λ (name : List ℕ). ap (row_named name) (sym all) ∙ named_all name c.args.rows c.requires.distinct
