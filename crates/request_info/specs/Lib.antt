@@ -1,6 +1,5 @@
 pub mod Parts
 pub mod Request
 pub mod Resource
-pub mod Running
 pub mod Target
 pub mod Watch
