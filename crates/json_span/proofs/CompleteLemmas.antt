@@ -1,17 +1,15 @@
 -- What the grammar has, the machine of texts passes, and what it keeps is the tokens joined.
-use Rattle.std.proofs.Common.{◌≡◌, ℕ, zero, suc, ◌+◌, ◌≤◌, ◌<◌, ◌∷◌, [], ◌++◌, List, length, Bool, true, false, cond, Option, Some, None, refl, sym, ap, ◌∙◌, subst, inl, inr, arith, eqb-true, true≢false, append_assoc, nat_lt}
-use Rattle.std.specs.Prelude.{MatchOption, ◌==◌, ◌⊎◌, ◌||◌, not, option_map}
+use Rattle.std.proofs.Common.{◌≡◌, ℕ, suc, ◌+◌, ◌≤◌, ◌<◌, ◌∷◌, [], ◌++◌, List, length, Bool, true, false, cond, Option, Some, None, refl, sym, ap, ◌∙◌, subst, inl, inr, arith, eqb-true, true≢false, append_assoc, nat_lt}
+use Rattle.std.specs.Prelude.{MatchOption, ◌==◌, ◌||◌, not, option_map}
 use Rattle.std.proofs.lemmas.List.{append-nil}
 use Rattle.std.proofs.lemmas.Bool.Decides.{nat_tests}
 use Rattle.json_span.specs.Strings.{AreBlanks, IsString, is_blank}
-use Rattle.json_span.specs.Value.{Value, token, array, object, Items, no_items, item, Members, no_members, member, flat, flat_items, flat_members, depth, depth_items, depth_members, IsToken, Padded, Spells, SpellsItems, SpellsMembers, StandsFor, IsText}
+use Rattle.json_span.specs.Value.{Value, token, array, object, Items, no_items, item, Members, no_members, member, flat, flat_items, flat_members, depth, depth_items, depth_members, Padded, Spells, SpellsItems, SpellsMembers, StandsFor, IsText}
 use Rattle.json_span.specs.Nesting.{is_empty}
 use Rattle.json_span.specs.Machine.{string_step, string_ends, token_first, token_step, token_ends, at, opens, closes, separates, follows, begins, names, colon, in_token, in_name, mode_step, place_step, place_ends, is_inside, keeps, start}
 use Rattle.json_span.specs.declared.string.Inside.{Inside}
 use Rattle.json_span.specs.declared.string.Inside.TheVariants as inside
 use Rattle.json_span.specs.declared.token.Token.{Token}
-use Rattle.json_span.specs.declared.token.Token.TheVariants as tokens
-use Rattle.json_span.specs.declared.number.Last.TheVariants as last
 use Rattle.json_span.specs.declared.nesting.Kind.{Kind}
 use Rattle.json_span.specs.declared.nesting.Kind.TheVariants as kind
 use Rattle.json_span.specs.declared.place.Mode.{Mode}

@@ -1,7 +1,7 @@
 -- Compact text is a spelling of its value.
-use Rattle.std.proofs.Common.{◌≡◌, ℕ, ◌∷◌, [], ◌++◌, List, Bool, true, false, refl, sym, ap, ◌∙◌, subst}
+use Rattle.std.proofs.Common.{◌≡◌, ℕ, [], List, true, false, refl, sym}
 use Rattle.std.proofs.lemmas.List.{append-nil}
-use Rattle.json_span.specs.Value.{Value, token, array, object, Items, no_items, item, Members, no_members, member, flat, flat_items, flat_members, comma_if, Padded, Spells, SpellsItems, SpellsMembers, StandsFor}
+use Rattle.json_span.specs.Value.{Value, token, array, object, Items, no_items, item, Members, no_members, member, flat, flat_items, flat_members, Padded, Spells, SpellsItems, SpellsMembers, StandsFor}
 
 pub bare : (P : List ℕ → Type 0) (t : List ℕ) → P t → Padded P t
 bare P t h = ([], t, [], tt, h, tt, sym (append-nil t))

@@ -1,11 +1,11 @@
 -- What the machine of texts passes, the grammar has.
-use Rattle.std.proofs.Common.{◌≡◌, ℕ, zero, suc, ◌+◌, ◌≤◌, ◌<◌, ◌∷◌, [], ◌++◌, List, length, Bool, true, false, cond, Option, Some, None, refl, sym, ap, ◌∙◌, subst, inl, inr, arith, eqb-true, true≢false, append_assoc, nat_lt}
-use Rattle.std.specs.Prelude.{MatchOption, ◌==◌, ◌⊎◌, option_map}
+use Rattle.std.proofs.Common.{◌≡◌, ℕ, suc, ◌+◌, ◌≤◌, ◌∷◌, [], ◌++◌, List, length, Bool, true, false, cond, Option, Some, None, refl, sym, ap, ◌∙◌, subst, arith, eqb-true, true≢false, append_assoc, nat_lt}
+use Rattle.std.specs.Prelude.{MatchOption, ◌==◌, option_map}
 use Rattle.std.proofs.lemmas.Bool.Decides.{nat_tests}
 use Rattle.json_span.specs.Strings.{AreBlanks, IsString, is_blank}
-use Rattle.json_span.specs.Value.{Value, token, array, object, Items, no_items, item, Members, no_members, member, depth, depth_items, depth_members, IsToken, Padded, Spells, SpellsItems, SpellsMembers, StandsFor, IsText}
+use Rattle.json_span.specs.Value.{Value, token, array, object, Items, no_items, item, Members, no_members, member, depth, depth_items, depth_members, Padded, Spells, SpellsItems, SpellsMembers, IsText}
 use Rattle.json_span.specs.Nesting.{is_empty}
-use Rattle.json_span.specs.Machine.{string_step, string_ends, token_first, token_step, token_ends, at, opens, closes, separates, follows, begins, names, colon, in_token, in_name, mode_step, place_step, place_ends, start}
+use Rattle.json_span.specs.Machine.{string_step, string_ends, token_first, token_step, token_ends, at, opens, closes, separates, follows, begins, names, colon, in_token, in_name, place_step, place_ends, start}
 use Rattle.json_span.specs.declared.string.Inside.{Inside}
 use Rattle.json_span.specs.declared.string.Inside.TheVariants as inside
 use Rattle.json_span.specs.declared.token.Token.{Token}

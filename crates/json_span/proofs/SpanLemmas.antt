@@ -1,6 +1,6 @@
 -- Where the machine stops in compact text, and which members are left.
-use Rattle.std.proofs.Common.{◌≡◌, ℕ, zero, suc, ◌+◌, ◌-◌, ◌≤◌, ◌<◌, ◌∷◌, [], ◌++◌, List, length, take, drop, get_or, Bool, true, false, cond, Option, Some, None, refl, sym, ap, ◌∙◌, subst, inl, inr, arith, true≢false, append_assoc, length-append, length-drop, nat_eq}
-use Rattle.std.specs.Prelude.{MatchOption, ◌==◌, ◌&&◌, ◌⊎◌, bytes_eq}
+use Rattle.std.proofs.Common.{◌≡◌, ℕ, suc, ◌+◌, ◌-◌, ◌≤◌, ◌<◌, ◌∷◌, [], ◌++◌, List, length, take, drop, get_or, Bool, true, false, cond, Option, Some, None, refl, sym, ap, ◌∙◌, inl, inr, arith, true≢false, length-append, length-drop, nat_eq}
+use Rattle.std.specs.Prelude.{MatchOption, ◌&&◌, ◌⊎◌, bytes_eq}
 use Rattle.std.proofs.Math.Seq.{drop-append_seam, drop-cons, take-append_seam}
 use Rattle.std.proofs.lemmas.List.{append-nil, drop-drop, drop_all, take_all}
 use Rattle.json_span.specs.Strings.{IsString}
@@ -8,8 +8,7 @@ use Rattle.json_span.specs.Value.{Value, token, array, object, Members, no_membe
 use Rattle.json_span.specs.Member.{in_quotes, span_from, member_span}
 use Rattle.json_span.specs.Span.{reach, one_more, string_reach, place_reach, IsEntry, AreEntries, EndsMember}
 use Rattle.json_span.specs.Nesting.{is_empty}
-use Rattle.json_span.specs.Machine.{string_step, string_ends, token_step, token_ends, at, follows, in_token, mode_ends, place_step, place_ends, start}
-use Rattle.json_span.specs.declared.string.Inside.{Inside}
+use Rattle.json_span.specs.Machine.{string_step, string_ends, token_ends, at, follows, in_token, mode_ends, place_step, place_ends, start}
 use Rattle.json_span.specs.declared.string.Inside.TheVariants as inside
 use Rattle.json_span.specs.declared.nesting.Kind.{Kind}
 use Rattle.json_span.specs.declared.place.Mode.{Mode}

@@ -1,7 +1,7 @@
 -- What a run of the machine says of the text.
-use Rattle.std.proofs.Common.{◌≡◌, ℕ, ◌+◌, ◌≤◌, ◌<◌, ◌∷◌, [], ◌++◌, List, length, take, get_or, Bool, true, false, Option, Some, None, refl, sym, ap, ◌∙◌, subst, arith}
+use Rattle.std.proofs.Common.{◌≡◌, ℕ, ◌≤◌, ◌<◌, ◌∷◌, [], ◌++◌, List, length, take, get_or, Bool, true, false, Some, None, sym, ap, ◌∙◌, subst}
 use Rattle.std.proofs.lemmas.List.{append-nil, take_all}
-use Rattle.json_span.specs.Value.{Value, StandsFor, IsText, Compacts, flat}
+use Rattle.json_span.specs.Value.{IsText, Compacts}
 use Rattle.json_span.specs.Fault.{FaultAt}
 use Rattle.json_span.specs.Machine.{place_step, place_ends, keeps, start}
 use Rattle.json_span.specs.declared.place.Place.{Place}

@@ -1,10 +1,10 @@
 -- The machine of tokens follows their grammar, and a byte that may follow a token doesn't go on with it.
-use Rattle.std.proofs.Common.{◌≡◌, ℕ, ◌≤◌, ◌∷◌, [], ◌++◌, List, Bool, true, false, cond, Option, Some, None, refl, sym, ap, ◌∙◌, subst, inl, inr, arith, eqb-true, true≢false}
+use Rattle.std.proofs.Common.{◌≡◌, ℕ, ◌≤◌, ◌∷◌, [], List, Bool, true, false, cond, Option, Some, None, refl, sym, ap, ◌∙◌, subst, inl, inr, arith, eqb-true, true≢false}
 use Rattle.std.specs.Prelude.{MatchOption, ◌==◌, ◌⊎◌, codes, option_map}
 use Rattle.std.proofs.lemmas.Bool.Decides.{nat_tests}
-use Rattle.json_span.specs.Number.{IsNumber, is_digit, is_nonzero_digit, is_mark}
+use Rattle.json_span.specs.Number.{is_digit, is_nonzero_digit, is_mark}
 use Rattle.json_span.specs.Strings.{IsString, is_blank}
-use Rattle.json_span.specs.Value.{IsLiteral, IsToken}
+use Rattle.json_span.specs.Value.{IsToken}
 use Rattle.json_span.specs.Machine.{number_step, number_ends, string_step, string_ends, letter, letters_step, letters_end, token_first, token_step, token_ends}
 use Rattle.json_span.specs.declared.number.Last.{Last}
 use Rattle.json_span.specs.declared.number.Last.TheVariants as last

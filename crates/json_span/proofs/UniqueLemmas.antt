@@ -1,10 +1,8 @@
 -- A text stands for one value at most.
-use Rattle.std.proofs.Common.{◌≡◌, ℕ, zero, suc, ◌+◌, ◌≤◌, ◌<◌, ◌∷◌, [], ◌++◌, List, length, take, Bool, true, false, cond, Option, Some, None, refl, sym, ap, ◌∙◌, subst, inl, inr, arith, eqb-true, true≢false, append_assoc, get_or}
-use Rattle.std.specs.Prelude.{MatchOption, ◌==◌, ◌⊎◌}
-use Rattle.std.proofs.lemmas.List.{append-nil}
-use Rattle.std.proofs.lemmas.Bool.Decides.{nat_tests}
+use Rattle.std.proofs.Common.{◌≡◌, ℕ, ◌<◌, ◌∷◌, [], ◌++◌, List, true, false, Option, Some, None, refl, sym, ap, ◌∙◌, subst, inl, inr, arith, true≢false, append_assoc}
+use Rattle.std.specs.Prelude.{MatchOption, ◌==◌}
 use Rattle.json_span.specs.Strings.{AreBlanks, IsString, is_blank}
-use Rattle.json_span.specs.Value.{Value, token, array, object, Items, no_items, item, Members, no_members, member, IsToken, Padded, Spells, SpellsItems, SpellsMembers, StandsFor, IsText, max_depth, depth}
+use Rattle.json_span.specs.Value.{Value, token, array, object, Items, no_items, item, Members, no_members, member, Padded, Spells, SpellsItems, SpellsMembers, StandsFor, IsText}
 use Rattle.json_span.specs.Fault.{FaultAt}
 use Rattle.json_span.specs.Machine.{token_first, token_step, token_ends}
 use Rattle.json_span.specs.declared.token.Token.{Token}

@@ -20,10 +20,14 @@ use Rattle.json_span.specs.declared.place.Place.{Place}
 -- ---- numbers
 
 abbrev pub number_step : Last → ℕ → Option Last
-number_step last.Nothing b = if b == 45 then Some last.Minus else if b == 48 then Some last.Zero else if is_nonzero_digit b then Some last.Whole else None
+number_step last.Nothing b =
+    if b == 45 then Some last.Minus else if b == 48 then Some last.Zero
+    else if is_nonzero_digit b then Some last.Whole else None
 number_step last.Minus b = if b == 48 then Some last.Zero else if is_nonzero_digit b then Some last.Whole else None
 number_step last.Zero b = if b == 46 then Some last.Point else if is_mark b then Some last.Mark else None
-number_step last.Whole b = if is_digit b then Some last.Whole else if b == 46 then Some last.Point else if is_mark b then Some last.Mark else None
+number_step last.Whole b =
+    if is_digit b then Some last.Whole else if b == 46 then Some last.Point
+    else if is_mark b then Some last.Mark else None
 number_step last.Point b = if is_digit b then Some last.Fraction else None
 number_step last.Fraction b = if is_digit b then Some last.Fraction else if is_mark b then Some last.Mark else None
 number_step last.Mark b = if is_sign b then Some last.Sign else if is_digit b then Some last.Exponent else None
@@ -47,10 +51,13 @@ abbrev pub string_step : Inside → ℕ → Option Inside
 string_step inside.Start b = if b == 34 then Some inside.Plain else None
 string_step inside.Plain b =
     if b == 34 then Some inside.Closed else if b == 92 then Some inside.Escape else if is_plain b then Some inside.Plain
-    else if within 194 223 b then Some inside.Tail1 else if b == 224 then Some inside.AfterE0 else if within 225 236 b then Some inside.Tail2
-    else if b == 237 then Some inside.AfterEd else if within 238 239 b then Some inside.Tail2 else if b == 240 then Some inside.AfterF0
+    else if within 194 223 b then Some inside.Tail1 else if b == 224 then Some inside.AfterE0
+    else if within 225 236 b then Some inside.Tail2
+    else if b == 237 then Some inside.AfterEd else if within 238 239 b then Some inside.Tail2
+    else if b == 240 then Some inside.AfterF0
     else if within 241 243 b then Some inside.Tail3 else if b == 244 then Some inside.AfterF4 else None
-string_step inside.Escape b = if is_short_escape b then Some inside.Plain else if b == 117 then Some inside.Hex4 else None
+string_step inside.Escape b =
+    if is_short_escape b then Some inside.Plain else if b == 117 then Some inside.Hex4 else None
 string_step inside.Hex4 b = if is_hex b then Some inside.Hex3 else None
 string_step inside.Hex3 b = if is_hex b then Some inside.Hex2 else None
 string_step inside.Hex2 b = if is_hex b then Some inside.Hex1 else None
@@ -158,15 +165,18 @@ follows kinds b =
 abbrev pub begins : List Kind → Mode → ℕ → Option Place
 begins kinds m b =
     if is_blank b then Some (at kinds m) else if b == 91 then opens kinds kind.Array mode.FirstItem
-    else if b == 123 then opens kinds kind.Object mode.FirstName else option_map (λ t. at kinds (mode.InToken t)) (token_first b)
+    else if b == 123 then opens kinds kind.Object mode.FirstName
+    else option_map (λ t. at kinds (mode.InToken t)) (token_first b)
 
 -- a byte where a name begins
 abbrev pub names : List Kind → Mode → ℕ → Option Place
-names kinds m b = if is_blank b then Some (at kinds m) else if b == 34 then Some (at kinds (mode.InName inside.Plain)) else None
+names kinds m b =
+    if is_blank b then Some (at kinds m) else if b == 34 then Some (at kinds (mode.InName inside.Plain)) else None
 
 -- a byte behind a name
 abbrev pub colon : List Kind → ℕ → Option Place
-colon kinds b = if is_blank b then Some (at kinds mode.Colon) else if b == 58 then Some (at kinds mode.Before) else None
+colon kinds b =
+    if is_blank b then Some (at kinds mode.Colon) else if b == 58 then Some (at kinds mode.Before) else None
 
 -- the token goes on, or has ended
 abbrev pub in_token : List Kind → Bool → ℕ → Option Token → Option Place

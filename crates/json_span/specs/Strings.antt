@@ -14,7 +14,8 @@ is_hex b = (nat_le 48 b && nat_le b 57) || (nat_le 65 b && nat_le b 70) || (nat_
 
 -- what may follow a backslash, `u` aside
 abbrev pub is_short_escape : ℕ → Bool
-is_short_escape b = (b == 34) || (b == 92) || (b == 47) || (b == 98) || (b == 102) || (b == 110) || (b == 114) || (b == 116)
+is_short_escape b =
+    (b == 34) || (b == 92) || (b == 47) || (b == 98) || (b == 102) || (b == 110) || (b == 114) || (b == 116)
 
 -- a character of ASCII that stands for itself: no quotation mark, backslash or control character
 abbrev pub is_plain : ℕ → Bool

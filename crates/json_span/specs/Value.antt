@@ -64,7 +64,8 @@ IsToken t = IsLiteral t ⊎ IsNumber t ⊎ IsString t
 
 -- the text has P, with blanks round it
 abbrev pub Padded : (List ℕ → Type 0) → List ℕ → Type 0
-Padded P text = (before body after : List ℕ) × AreBlanks before × P body × AreBlanks after × (text ≡ before ++ (body ++ after))
+Padded P text =
+    (before body after : List ℕ) × AreBlanks before × P body × AreBlanks after × (text ≡ before ++ (body ++ after))
 
 -- The value is spelled so. An array is values between `[` and `]`, an object is members between `{` and `}`, both with
 -- commas between. A member is a string, a colon and a value. Blanks may stand round each value and each name.
@@ -79,14 +80,15 @@ abbrev mutual
   SpellsItems false no_items text = (blanks : List ℕ) × AreBlanks blanks × (text ≡ blanks ++ 93 ∷ [])
   SpellsItems true no_items text = text ≡ 93 ∷ []
   SpellsItems later (item v vs) text =
-      (first rest : List ℕ) × Padded (Spells v) first × SpellsItems true vs rest × (text ≡ comma_if later ++ (first ++ rest))
+      (first rest : List ℕ) × Padded (Spells v) first × SpellsItems true vs rest
+      × (text ≡ comma_if later ++ (first ++ rest))
 
   pub SpellsMembers : Bool → Members → List ℕ → Type 0
   SpellsMembers false no_members text = (blanks : List ℕ) × AreBlanks blanks × (text ≡ blanks ++ 125 ∷ [])
   SpellsMembers true no_members text = text ≡ 125 ∷ []
   SpellsMembers later (member n v ms) text =
-      (name first rest : List ℕ) × IsString n × Padded (λ t. t ≡ n) name × Padded (Spells v) first × SpellsMembers true ms rest
-      × (text ≡ comma_if later ++ (name ++ (58 ∷ (first ++ rest))))
+      (name first rest : List ℕ) × IsString n × Padded (λ t. t ≡ n) name × Padded (Spells v) first
+      × SpellsMembers true ms rest × (text ≡ comma_if later ++ (name ++ (58 ∷ (first ++ rest))))
 
 -- the most arrays and objects that may be open at once
 abbrev pub max_depth : ℕ

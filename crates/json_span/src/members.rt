@@ -37,7 +37,8 @@ fn value_len(text: &[u8]) -> usize
 
 // Whether the string says the name, as it is spelled.
 fn is_name(string: &[u8], name: &str) -> bool
-    ensures { (inner : List ℕ) → string.now ≡ 34 ∷ (inner ++ 34 ∷ []) → result ≡ bytes_eq inner name.now }
+    ensures { (inner : List ℕ) → string.now ≡ 34 ∷ (inner ++ 34 ∷ [])
+        → result ≡ bytes_eq inner name.now }
 {
     2 <= string.len() && &string[1..string.len() - 1] == name.as_bytes()
 }

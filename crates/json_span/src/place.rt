@@ -89,7 +89,8 @@ impl Place {
 
     // A byte where a value begins.
     fn begins(&mut self, byte: u8) -> bool
-        ensures { spec.begins self.old.nesting self.old.mode byte ≡ (if result then Some self.new else None) }
+        ensures { spec.begins self.old.nesting self.old.mode byte
+            ≡ (if result then Some self.new else None) }
     {
         match byte {
             b' ' | b'\t' | b'\n' | b'\r' => true,
@@ -107,7 +108,8 @@ impl Place {
 
     // A byte where a name begins.
     fn names(&mut self, byte: u8) -> bool
-        ensures { spec.names self.old.nesting self.old.mode byte ≡ (if result then Some self.new else None) }
+        ensures { spec.names self.old.nesting self.old.mode byte
+            ≡ (if result then Some self.new else None) }
     {
         if byte == b'"' {
             self.mode = Mode::InName(Inside::Plain);
@@ -129,7 +131,8 @@ impl Place {
     }
 
     fn in_token(&mut self, token: Token, byte: u8) -> bool
-        ensures { spec.mode_step self.old.nesting (Mode.InToken token) byte ≡ (if result then Some self.new else None) }
+        ensures { spec.mode_step self.old.nesting (Mode.InToken token) byte
+            ≡ (if result then Some self.new else None) }
     {
         match token_step(token, byte) {
             Some(next) => {
@@ -141,7 +144,8 @@ impl Place {
     }
 
     fn in_name(&mut self, inside: Inside, byte: u8) -> bool
-        ensures { spec.mode_step self.old.nesting (Mode.InName inside) byte ≡ (if result then Some self.new else None) }
+        ensures { spec.mode_step self.old.nesting (Mode.InName inside) byte
+            ≡ (if result then Some self.new else None) }
     {
         match string_step(inside, byte) {
             Some(next) => {

@@ -1,4 +1,4 @@
-use Rattle.std.proofs.Common.{◌≡◌, Some, take}
+use Rattle.std.proofs.Common.{◌≡◌, take}
 use Rattle.json_span.specs.Machine.{place_step, place_ends, keeps, start}
 use Rattle.json_span.proofs.RunLemmas.{output}
 use Rattle.json_span.proofs.TextLemmas.{Leads}

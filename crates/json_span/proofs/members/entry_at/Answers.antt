@@ -1,4 +1,4 @@
-use Rattle.std.proofs.Common.{◌≡◌, ◌+◌, ◌++◌, ◌∷◌, length, ap, ◌∙◌, sym, arith, Some, drop, subst}
+use Rattle.std.proofs.Common.{◌≡◌, ◌+◌, ◌++◌, length, ap, ◌∙◌, sym, arith, Some, drop, subst}
 use Rattle.json_span.specs.Value.{flat}
 use Rattle.json_span.proofs.SpanLemmas.{string_ended, value_ended, behind_colon, room}
 use Rattle.json_span.proofs.members.entry_at.Goals as goal

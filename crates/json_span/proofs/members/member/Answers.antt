@@ -1,8 +1,8 @@
-use Rattle.std.proofs.Common.{◌≡◌, ◌+◌, ◌≤◌, length, ap, ◌∙◌, sym, arith, Some, None, cond, false, true, get_or, inl, inr}
+use Rattle.std.proofs.Common.{◌≡◌, ◌+◌, ◌≤◌, length, ap, ◌∙◌, sym, arith, Some, None, cond, true, inl, inr}
 use Rattle.std.proofs.lemmas.Bool.Decides.{nat_tests}
 use Rattle.json_span.specs.Value.{flat, flat_members}
 use Rattle.json_span.specs.Member.{span_from}
-use Rattle.json_span.proofs.SpanLemmas.{all_left, no_span, brace_of, no_name, next_of, none_left, others_end, named_so, behind_next, last_span, next_left, ends_are, not_none}
+use Rattle.json_span.proofs.SpanLemmas.{all_left, brace_of, no_name, next_of, none_left, others_end, named_so, behind_next, last_span, next_left, ends_are, not_none}
 use Rattle.json_span.proofs.members.member.Goals as goal
 use Rattle.json_span.proofs.members.member.Goals.{then-to-text-via-then-to-text, then-to-text-via-else-to-text+then-text-to-ne44}
 

@@ -1,4 +1,4 @@
-use Rattle.std.proofs.Common.{◌≡◌, ℕ, List, ◌≤◌, ◌-◌, length}
+use Rattle.std.proofs.Common.{◌≡◌, ◌≤◌, ◌-◌, length}
 use Rattle.json_span.specs.Value.{Value, StandsFor, flat}
 use Rattle.json_span.proofs.SpanLemmas.{Left}
 use Rattle.json_span.proofs.members.member.Given as goal

@@ -1,6 +1,6 @@
-use Rattle.std.proofs.Common.{◌≡◌, Some, sym, ◌∙◌}
+use Rattle.std.proofs.Common.{sym, ◌∙◌}
 use Rattle.json_span.specs.Machine.{place_step, place_ends, start}
-use Rattle.json_span.proofs.RunLemmas.{run, run_more}
+use Rattle.json_span.proofs.RunLemmas.{run_more}
 use Rattle.json_span.proofs.TextLemmas.{whole, accepted, stopped, unended}
 use Rattle.json_span.proofs.text.check.Goals as goal
 

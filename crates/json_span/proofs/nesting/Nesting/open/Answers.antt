@@ -1,5 +1,5 @@
-use Rattle.std.proofs.Common.{◌≡◌, ℕ, ◌+◌, ◌*◌, ◌^◌, ◌<◌, ◌≤◌, ◌∷◌, length, true, nat_lt, refl, sym, ap, ◌∙◌, subst, arith, Fits}
-use Rattle.json_span.proofs.NestingLemmas.{length-kinds_of, opened_array, opened_object, double_fits, has_room}
+use Rattle.std.proofs.Common.{length, nat_lt, ap, ◌∙◌, arith}
+use Rattle.json_span.proofs.NestingLemmas.{opened_array, opened_object, double_fits, has_room}
 use Rattle.json_span.proofs.nesting.Nesting.open.Goals as goal
 use Rattle.json_span.proofs.nesting.Nesting.open.Goals.{in-Array, in-Object}
 
