@@ -1,5 +1,5 @@
 -- Where a chunked body breaks.
-use Rattle.std.proofs.Common.{◌≡◌, ℕ, ◌+◌, ◌-◌, ◌^◌, ◌<◌, ◌≤◌, ◌⊎◌, inl, inr, ◌∷◌, [], ◌++◌, List, length, min, Bool}
+use Rattle.std.proofs.Common.{◌≡◌, ℕ, ◌+◌, ◌-◌, ◌^◌, ◌≤◌, ◌⊎◌, inl, inr, ◌∷◌, [], ◌++◌, List, length, min, Bool}
 use Rattle.std.proofs.Common.{true, false, Some, None, ◌==◌, cond, refl, sym, ap, ◌∙◌, subst, arith}
 use Rattle.std.specs.Prelude.{IsTrue, nat_lt, nat_le}
 use Rattle.std.proofs.lemmas.Bool.Decides.{nat_tests}
@@ -11,8 +11,8 @@ use Rattle.body_frames.specs.declared.place.Mode.TheVariants.{Whole, Open, Digit
 use Rattle.body_frames.specs.declared.place.Mode.TheVariants.{DataReturn, DataFeed, LastReturn, LastFeed, Done, Past}
 use Rattle.body_frames.specs.declared.place.Mode.TheVariants.{Broken}
 use Rattle.body_frames.specs.declared.place.Place.{Place}
-use Rattle.body_frames.specs.Machine.{start, step, run, is_data_mode, next_mode, fault_of, fault_mode, is_done}
-use Rattle.body_frames.specs.Machine.{is_done_mode, is_open, is_open_mode, is_sound, is_sound_mode}
+use Rattle.body_frames.specs.Machine.{start, step, run, is_data_mode, next_mode, fault_of, fault_mode}
+use Rattle.body_frames.specs.Machine.{is_done_mode, is_open, is_open_mode, is_sound}
 use Rattle.body_frames.specs.Chunks.{IsChunked, Begins, BreaksAt}
 use Rattle.body_frames.proofs.MachineLemmas.{run-append, broken_run, sound_step}
 use Rattle.body_frames.proofs.ChunkLemmas.{takes_chunked}

@@ -1,17 +1,16 @@
 -- The machine takes each text of the grammar.
-use Rattle.std.proofs.Common.{◌≡◌, ℕ, ◌+◌, ◌-◌, ◌*◌, ◌^◌, ◌<◌, ◌≤◌, ◌==◌, ◌∷◌, [], ◌++◌, List, length, take, drop}
-use Rattle.std.proofs.Common.{Bool, true, false, not, ◌&&◌, nat_lt, refl, sym, ap, ◌∙◌, subst, arith, append_assoc}
-use Rattle.std.proofs.Common.{append-nil, cond}
-use Rattle.std.specs.Prelude.{IsTrue, if◌then◌else◌, nat_le}
+use Rattle.std.proofs.Common.{◌≡◌, ℕ, ◌+◌, ◌-◌, ◌*◌, ◌<◌, ◌≤◌, ◌==◌, ◌∷◌, [], ◌++◌, List, length}
+use Rattle.std.proofs.Common.{Bool, true, false, ◌&&◌, nat_lt, refl, sym, ap, ◌∙◌, subst, arith, append_assoc}
+use Rattle.std.proofs.Common.{append-nil}
+use Rattle.std.specs.Prelude.{nat_le}
 use Rattle.std.specs.List.{list_all, flat_map}
 use Rattle.std.proofs.lemmas.List.{length-append}
 use Rattle.std.proofs.lemmas.Bool.Decides.{nat_tests}
 use Rattle.body_frames.specs.declared.place.Mode.{Mode}
-use Rattle.body_frames.specs.declared.place.Mode.TheVariants.{Whole, Open, Digits, Blank, Extension, LineFeed, Data}
-use Rattle.body_frames.specs.declared.place.Mode.TheVariants.{DataReturn, DataFeed, LastReturn, LastFeed, Done, Past}
-use Rattle.body_frames.specs.declared.place.Mode.TheVariants.{Broken}
+use Rattle.body_frames.specs.declared.place.Mode.TheVariants.{Digits, Blank, Extension, LineFeed, Data}
+use Rattle.body_frames.specs.declared.place.Mode.TheVariants.{DataReturn, DataFeed, LastReturn, LastFeed, Done}
 use Rattle.body_frames.specs.declared.place.Place.{Place}
-use Rattle.body_frames.specs.Machine.{step, run, emitted, is_data, is_data_mode, next_mode, after_digits, after_line}
+use Rattle.body_frames.specs.Machine.{run, emitted, is_data, is_data_mode, next_mode, after_digits, after_line}
 use Rattle.body_frames.specs.Machine.{digit_value, is_blank, is_done, is_done_mode}
 use Rattle.body_frames.specs.Chunks.{is_hex, value_of, is_extension_byte, IsExtension, Line, print_line, IsLine}
 use Rattle.body_frames.specs.Chunks.{Chunk, print_chunk, AreChunks, IsChunked}

@@ -1,5 +1,5 @@
 -- What the machine takes to its end is a text of the grammar.
-use Rattle.std.proofs.Common.{suc, zero, ◌≡◌, ℕ, ◌+◌, ◌-◌, ◌*◌, ◌^◌, ◌<◌, ◌≤◌, ◌⊎◌, inl, inr, ◌==◌, ◌∷◌, [], ◌++◌}
+use Rattle.std.proofs.Common.{suc, zero, ◌≡◌, ℕ, ◌+◌, ◌-◌, ◌*◌, ◌<◌, ◌≤◌, ◌⊎◌, inl, inr, ◌==◌, ◌∷◌, [], ◌++◌}
 use Rattle.std.proofs.Common.{List, length, Bool, true, false, not, ◌&&◌, nat_lt, refl, sym, ap, ◌∙◌, subst, arith}
 use Rattle.std.proofs.Common.{append_assoc, append-nil, cond}
 use Rattle.std.specs.Prelude.{IsTrue, nat_le}
@@ -15,8 +15,8 @@ use Rattle.body_frames.specs.Machine.{step, run, emitted, is_data, is_data_mode,
 use Rattle.body_frames.specs.Machine.{digit_value, is_blank, is_done, is_done_mode, is_open, is_open_mode, is_sound}
 use Rattle.body_frames.specs.Machine.{is_sound_mode}
 use Rattle.body_frames.specs.Chunks.{is_hex, value_of, is_extension_byte, IsExtension, Line, print_line, IsLine}
-use Rattle.body_frames.specs.Chunks.{Chunk, print_chunk, AreChunks, IsChunked, Begins, last_text}
-use Rattle.body_frames.proofs.MachineLemmas.{run_nothing, emitted_nothing, sound_step}
+use Rattle.body_frames.specs.Chunks.{Chunk, print_chunk, IsChunked, Begins, last_text}
+use Rattle.body_frames.proofs.MachineLemmas.{sound_step}
 
 record GoodData (n : ℕ) (xs body : List ℕ) : Type 0 where
   bytes : List ℕ

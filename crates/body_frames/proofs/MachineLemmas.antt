@@ -1,8 +1,8 @@
 -- What the machine does over bytes one after another.
 use Rattle.std.proofs.Common.{suc, zero, Some, None, not, ◌^◌, lit<, ◌≡◌, ℕ, ◌+◌, ◌-◌, ◌*◌, ◌<◌, ◌≤◌, ◌∷◌, [], ◌++◌}
-use Rattle.std.proofs.Common.{List, length, take, drop, min, Bool, true, false, refl, sym, ap, ◌∙◌, subst, arith}
-use Rattle.std.proofs.Common.{get_or, append_assoc, cond}
-use Rattle.std.specs.Prelude.{IsTrue, if◌then◌else◌, nat_lt, nat_le, ◌&&◌}
+use Rattle.std.proofs.Common.{List, length, take, drop, Bool, true, false, refl, sym, ap, ◌∙◌, subst, arith}
+use Rattle.std.proofs.Common.{get_or, append_assoc}
+use Rattle.std.specs.Prelude.{IsTrue, if◌then◌else◌, nat_lt, ◌&&◌}
 use Rattle.std.proofs.lemmas.List.{append-nil, take_more, length-take-le}
 use Rattle.std.proofs.lemmas.Bool.Decides.{nat_tests}
 use Rattle.std.proofs.lemmas.Grind.{pow_more}

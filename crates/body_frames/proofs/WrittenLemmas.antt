@@ -1,17 +1,16 @@
 -- Chunks that are written are chunks of the grammar.
 use Rattle.std.proofs.Common.{suc, zero, ◌≡◌, ℕ, ◌+◌, ◌*◌, ◌/◌, ◌%◌, ◌^◌, ◌<◌, ◌≤◌, ◌==◌, ◌∷◌, [], ◌++◌, List, length}
 use Rattle.std.proofs.Common.{Bool, true, false, cond, All, refl, sym, ap, ◌∙◌, subst, arith, append_assoc}
-use Rattle.std.proofs.Common.{append-nil}
 use Rattle.std.specs.Prelude.{nat_lt}
 use Rattle.std.specs.List.{list_all, flat_map}
 use Rattle.std.specs.Fmt.{digits, digits_onto, digit_glyph}
 use Rattle.std.specs.Char.{digit_value as digit_of}
-use Rattle.std.specs.Str.Parse.{AllDigits, digits_value, digits_value_after}
+use Rattle.std.specs.Str.Parse.{AllDigits, digits_value_after}
 use Rattle.std.proofs.lemmas.Fmt.{digits_is_IsNumeral}
 use Rattle.std.proofs.lemmas.Grind.{pow_more}
 use Rattle.std.proofs.lemmas.Bool.Decides.{nat_tests}
 use Rattle.body_frames.specs.Machine.{digit_value}
-use Rattle.body_frames.specs.Chunks.{is_hex, value_of, Line, print_line, IsLine, Chunk, print_chunk, AreChunks}
+use Rattle.body_frames.specs.Chunks.{is_hex, value_of, Line, print_line, IsLine, print_chunk}
 use Rattle.body_frames.specs.Chunks.{IsChunked, IsPiece, chunk_text, last_text}
 use Rattle.body_frames.proofs.ChunkSound.{no_chunk}
 

@@ -1,9 +1,7 @@
 -- What stands first in an input stands there as more bytes come.
-use Rattle.std.proofs.Common.{suc, ◌&&◌, ◌||◌, ◌≡◌, ℕ, ◌+◌, ◌<◌, ◌≤◌, ◌⊎◌, ◌++◌, ◌==◌, List, [], ◌∷◌, length, take}
-use Rattle.std.proofs.Common.{drop, Option, Some, None, Bool, true, false, cond, refl, sym, ap, ◌∙◌, subst, arith}
-use Rattle.std.proofs.Common.{append_assoc, append-nil, inl, inr}
-use Rattle.std.specs.Io.KnownBytes.{Consumes, IsAtEnd}
-use Rattle.std.proofs.KnownBytes.{Consumes-trans}
+use Rattle.std.proofs.Common.{suc, ◌&&◌, ◌||◌, ◌≡◌, ℕ, ◌<◌, ◌≤◌, ◌++◌, ◌==◌, List, [], ◌∷◌, length, take}
+use Rattle.std.proofs.Common.{Option, Some, None, Bool, true, false, cond, refl, sym, ap, ◌∙◌, subst, arith}
+use Rattle.std.proofs.Common.{append_assoc, inl, inr}
 use Rattle.std.proofs.lemmas.List.{take-append-le, length-append}
 use Rattle.std.proofs.Math.Seq.{drop-append-le}
 use Rattle.std.proofs.lemmas.Bool.Decides.{nat_tests}
@@ -15,7 +13,7 @@ use Rattle.body_frames.specs.declared.frame.BodyFault.{BodyFault}
 use Rattle.body_frames.specs.declared.frame.BodyFault.TheVariants.{BadChunk, TooLarge}
 use Rattle.body_frames.specs.declared.frame.Frame.{Frame}
 use Rattle.body_frames.specs.declared.place.Place.{Place}
-use Rattle.body_frames.specs.Machine.{run, emitted, is_done, is_open, fault_of}
+use Rattle.body_frames.specs.Machine.{run, is_open}
 use Rattle.http_edge.specs.declared.request.Request.{Request}
 use Rattle.http_edge.specs.declared.request.End.{End}
 use Rattle.http_edge.specs.declared.request.End.TheVariants as end
@@ -27,10 +25,10 @@ use Rattle.http_edge.specs.declared.heads.HeadStop.{HeadStop}
 use Rattle.http_edge.specs.declared.heads.HeadStop.TheVariants as head_stop
 use Rattle.http_edge.specs.declared.heads.ReadStop.TheVariants as read_stop
 use Rattle.http_edge.specs.Requests.{frame_of, body_start, StartsWithHead, StartsWithBody, BreaksWith, StartsWith}
-use Rattle.http_edge.specs.Requests.{StartsBroken, StartsUnframed, StartsWithNoHead, StartsTooLarge, StartsUnfinished}
-use Rattle.http_edge.specs.Requests.{IsUnfinished, is_blank, IsBlank, IsRefused, IsStop, end_of, Seen, NoHead}
-use Rattle.http_edge.specs.Requests.{GotBody, NoBodyCame, OpenBody, BrokenBody, GotRequest, NoRequest, Stopped}
-use Rattle.http_edge.specs.Requests.{Awaits, stop_of_head, stop_of_body, ReadsTo, IsRequests, asks, on_asks}
+use Rattle.http_edge.specs.Requests.{StartsBroken, StartsUnframed, StartsWithNoHead, StartsTooLarge}
+use Rattle.http_edge.specs.Requests.{is_blank, IsBlank, IsRefused, end_of, Seen, NoHead}
+use Rattle.http_edge.specs.Requests.{GotBody, NoBodyCame, OpenBody, BrokenBody, GotRequest, NoRequest}
+use Rattle.http_edge.specs.Requests.{Awaits, stop_of_head, stop_of_body}
 use Rattle.http_edge.proofs.SoFar.{seen_join}
 
 -- what is known of the blocks of heads

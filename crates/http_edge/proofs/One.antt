@@ -1,12 +1,12 @@
 -- The requests of an input are one list, with one end.
-use Rattle.std.proofs.Common.{◌≡◌, ℕ, ◌+◌, ◌<◌, ◌≤◌, ◌⊎◌, ◌++◌, ◌==◌, List, [], ◌∷◌, length, take, drop, Option, Some}
-use Rattle.std.proofs.Common.{None, Bool, true, false, cond, refl, sym, ap, ◌∙◌, subst, arith, append_assoc}
-use Rattle.std.proofs.Common.{append-nil, inl, inr, nat_lt}
+use Rattle.std.proofs.Common.{◌≡◌, ℕ, ◌<◌, ◌≤◌, ◌++◌, ◌==◌, List, [], ◌∷◌, length, take, drop, Option, Some}
+use Rattle.std.proofs.Common.{None, Bool, true, false, cond, refl, sym, ap, ◌∙◌, subst, arith}
+use Rattle.std.proofs.Common.{inl, inr, nat_lt}
 use Rattle.std.proofs.lemmas.Bool.Decides.{nat_tests}
 use Rattle.http_head.specs.Block.{block_in, line_count}
 use Rattle.http_head.specs.declared.block.TheConstants.{MOST_HEAD_BYTES, MOST_LINES}
 use Rattle.http_head.specs.declared.request.Head.{Head}
-use Rattle.http_head.specs.Request.{IsHeadOf, IsNoRequest}
+use Rattle.http_head.specs.Request.{IsHeadOf}
 use Rattle.body_frames.specs.declared.frame.BodyFault.{BodyFault}
 use Rattle.body_frames.specs.declared.frame.BodyFault.TheVariants.{BadChunk, TooLarge}
 use Rattle.body_frames.specs.declared.frame.Frame.{Frame}
@@ -17,13 +17,13 @@ use Rattle.body_frames.specs.declared.place.Mode.TheVariants.{Broken}
 use Rattle.body_frames.specs.declared.place.Place.{Place}
 use Rattle.body_frames.specs.Machine.{step, next_mode, run, emitted, is_done, is_open, fault_of, is_done_mode}
 use Rattle.body_frames.specs.Machine.{is_open_mode, fault_mode}
-use Rattle.http_edge.proofs.RunLemmas.{run-append, run_nothing}
+use Rattle.http_edge.proofs.RunLemmas.{run-append}
 use Rattle.http_edge.specs.declared.request.Request.{Request}
 use Rattle.http_edge.specs.declared.request.End.{End}
 use Rattle.http_edge.specs.declared.request.End.TheVariants as end
 use Rattle.http_edge.specs.Requests.{frame_of, body_start, StartsWithHead, StartsWithBody, BreaksWith, StartsWith}
 use Rattle.http_edge.specs.Requests.{StartsBroken, StartsUnframed, StartsWithNoHead, StartsTooLarge, StartsUnfinished}
-use Rattle.http_edge.specs.Requests.{IsUnfinished, is_blank, IsBlank, IsRefused, IsStop, end_of, IsRequests, asks}
+use Rattle.http_edge.specs.Requests.{IsUnfinished, is_blank, IsStop, end_of, IsRequests, asks}
 use Rattle.http_edge.specs.Requests.{on_asks}
 
 one_number : (o : Option ℕ) (n m : ℕ) → o ≡ Some n → o ≡ Some m → n ≡ m

@@ -1,16 +1,13 @@
 -- What calls saw of an input, one after the other.
-use Rattle.std.proofs.Common.{◌≡◌, ℕ, ◌+◌, ◌<◌, ◌≤◌, ◌⊎◌, ◌++◌, List, [], ◌∷◌, length, take, drop, Option, Some, None}
-use Rattle.std.proofs.Common.{Bool, true, false, refl, sym, ap, ◌∙◌, subst, arith, append_assoc, append-nil, inl, inr}
+use Rattle.std.proofs.Common.{◌≡◌, ℕ, ◌≤◌, ◌⊎◌, ◌++◌, List, [], ◌∷◌, length, take, drop, Option, Some}
+use Rattle.std.proofs.Common.{true, false, refl, sym, ap, ◌∙◌, subst, arith, append_assoc, append-nil, inl, inr}
 use Rattle.std.proofs.lemmas.List.{take-append-drop}
-use Rattle.std.specs.Io.KnownBytes.{Consumes, IsAtEnd}
 use Rattle.std.proofs.KnownBytes.{Consumes-nil, Consumes-trans}
 use Rattle.body_frames.specs.declared.place.Place.{Place}
 use Rattle.body_frames.specs.declared.frame.BodyFault.{BodyFault}
 use Rattle.body_frames.specs.Machine.{run, emitted, is_done, is_open, fault_of, BreaksIn}
 use Rattle.http_edge.proofs.RunLemmas.{run-append, emitted-append, run_nothing, emitted_nothing}
 use Rattle.front_ports.specs.Cause.{Rose}
-use Rattle.http_head.specs.Block.{block_in}
-use Rattle.http_head.specs.declared.block.TheConstants.{MOST_HEAD_BYTES, MOST_LINES}
 use Rattle.http_head.specs.declared.answer.HeadAnswer.{HeadAnswer}
 use Rattle.http_head.specs.declared.request.Head.{Head}
 use Rattle.http_head.specs.Request.{IsRequestAnswer}
@@ -21,8 +18,8 @@ use Rattle.http_edge.specs.declared.bodies.BodyStop.TheVariants as body_stop
 use Rattle.http_edge.specs.declared.heads.HeadStop.TheVariants as head_stop
 use Rattle.http_edge.specs.declared.heads.ReadStop.{ReadStop}
 use Rattle.http_edge.specs.declared.heads.ReadStop.TheVariants as read_stop
-use Rattle.http_edge.specs.Requests.{Seen, StillHeld, NotRead, AwaitsHead, FedInto, BodySoFar, GotBody}
-use Rattle.http_edge.specs.Requests.{StartsWithBody, BreaksWith, NotFed, NoHead, NoBodyCame, OpenBody, NotFilled}
+use Rattle.http_edge.specs.Requests.{Seen, NotRead, AwaitsHead, FedInto, BodySoFar, GotBody}
+use Rattle.http_edge.specs.Requests.{BreaksWith, NotFed, NoHead, NoBodyCame, OpenBody, NotFilled}
 
 pub seen_none : (a : Option (List ℕ)) (held : List ℕ) → Seen a a held held
 seen_none a held = record { taken = []; consumed = Consumes-nil a; all = sym (append-nil held) }

@@ -1,6 +1,6 @@
-use Rattle.std.proofs.Common.{◌≡◌, ◌<◌, ◌+◌, length, take, drop, arith, true, sym, subst, ◌∙◌, ap, not, Some}
+use Rattle.std.proofs.Common.{◌≡◌, take, drop, arith, sym, ◌∙◌, ap, not, Some}
 use Rattle.std.proofs.lemmas.List.{take_rest}
-use Rattle.body_frames.specs.Machine.{run, emitted, fault_of, fault_mode}
+use Rattle.body_frames.specs.Machine.{fault_of, fault_mode}
 use Rattle.body_frames.proofs.MachineLemmas.{run_parts, emitted_parts, some_taken, open_or_done, broken_same}
 use Rattle.body_frames.proofs.MachineLemmas.{broken_run}
 use Rattle.body_frames.proofs.decoder.feed_place.Goals as goal

@@ -1,4 +1,4 @@
-use Rattle.std.proofs.Common.{◌≡◌, ◌<◌, ◌+◌, length, take, get_or, arith, true, sym, subst, ◌∙◌}
+use Rattle.std.proofs.Common.{◌≡◌, ◌<◌, length, take, arith, true, sym, subst, ◌∙◌}
 use Rattle.body_frames.specs.Machine.{run, is_framing}
 use Rattle.body_frames.proofs.MachineLemmas.{run_nothing, emitted_nothing, step_run, framing_emits, none_passed}
 use Rattle.body_frames.proofs.place.pass_framing.Goals as goal

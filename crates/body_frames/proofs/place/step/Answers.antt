@@ -1,6 +1,6 @@
-use Rattle.std.proofs.Common.{sym, subst, ◌<◌, ◌≡◌, true}
+use Rattle.std.proofs.Common.{sym, subst, ◌<◌}
 use Rattle.std.specs.Prelude.{IsTrue}
-use Rattle.body_frames.specs.Machine.{step, is_sound, is_open, most_left}
+use Rattle.body_frames.specs.Machine.{is_sound, most_left}
 use Rattle.body_frames.proofs.MachineLemmas.{sound_step, falls_step, framing_open}
 use Rattle.body_frames.proofs.place.step.Goals as goal
 

@@ -1,6 +1,5 @@
-use Rattle.std.proofs.Common.{◌≡◌, true, false, sym, ◌∙◌, arith}
-use Rattle.body_frames.specs.Machine.{is_done}
-use Rattle.http_edge.proofs.SoFar.{so_far_fed, so_far_seen, so_far_done, body_breaks, awaits_not_done}
+use Rattle.std.proofs.Common.{sym, ◌∙◌, arith}
+use Rattle.http_edge.proofs.SoFar.{so_far_fed, so_far_seen, so_far_done, body_breaks}
 use Rattle.http_edge.proofs.bodies.read_body.Goals as goal
 
 pub feeding-preserved : goal.feeding-preserved

@@ -1,4 +1,4 @@
-use Rattle.std.proofs.Common.{◌≡◌, ◌≤◌, ◌*◌, ◌+◌, ◌⊎◌, true, vec_len}
+use Rattle.std.proofs.Common.{◌≡◌, ◌≤◌, ◌⊎◌, true, vec_len}
 use Rattle.http_edge.specs.declared.TheConstants.{MOST_HELD_BYTES}
 use Rattle.body_frames.specs.Machine.{is_done, is_open, most_left}
 use Rattle.http_edge.specs.Requests.{BodySoFar, body_start}
