@@ -41,11 +41,11 @@ returns-then-not-branch c =
     let is : drop i rows ≡ x ∷ drop (i + 1) rows = here rows i x c.loop-row-test.true c.row-item.is in
     let old = from_not _ (sym c.in_ok-insert.ensures.added ∙ c.if-not-branch.true) in
     let among : is_among x.name before ≡ true =
-            ap (λ q. is_among q before) (sym key) ∙ sym (c.loop-row.invariant.held c.as_str.result) ∙ old in
+    ap (λ q. is_among q before) (sym key) ∙ sym (c.loop-row.invariant.held c.as_str.result) ∙ old in
     let first : repeated before (names_of (drop i rows)) ≡ Some x.name =
-            ap (λ ys. repeated before (names_of ys)) is ∙ repeated_here before x.name (names_of (drop (i + 1) rows)) among in
+    ap (λ ys. repeated before (names_of ys)) is ∙ repeated_here before x.name (names_of (drop (i + 1) rows)) among in
     let again : c.as_str-then-not-branch.result.now ≡ x.name =
-            c.as_str-then-not-branch.ensures ∙ ap (λ (r : Row). r.name) c.row.view_is in
+    c.as_str-then-not-branch.ensures ∙ ap (λ (r : Row). r.name) c.row.view_is in
     stops c.repeated.result x.name (names_of rows) (rw again at c.repeated.ensures) (sym c.loop-row.invariant.rest ∙ first)
 
 pub loop-row-preserved : goal.loop-row-preserved
@@ -59,19 +59,19 @@ loop-row-preserved c =
     let upto : names_of (take (i + 1) rows) ≡ before ++ x.name ∷ [] = names_upto rows i x c.loop-row-test.true c.row-item.is in
     let new = to_not _ (sym c.in_ok-insert.ensures.added ∙ c.if-not-branch.false) in
     let among : is_among x.name before ≡ false =
-            ap (λ q. is_among q before) (sym key) ∙ sym (c.loop-row.invariant.held c.as_str.result) ∙ new in
+    ap (λ q. is_among q before) (sym key) ∙ sym (c.loop-row.invariant.held c.as_str.result) ∙ new in
     record {
-        held = λ (q : Bor (List ℕ)).
-            c.in_ok-insert.ensures.updates.0 q
-            ∙ ap (λ b. cond b true (contains by_text c.loop-row.names q)) (is_eq-slice_cmp c.as_str.result.now q.now ∙ ap (λ y. bytes_eq y q.now) key)
-            ∙ ap (λ b. cond (bytes_eq x.name q.now) true b) (c.loop-row.invariant.held q)
-            ∙ sym (among-push q.now x.name before)
-            ∙ ap (λ ys. is_among q.now ys) (sym upto);
-        rest =
-            ap (λ ys. repeated ys (names_of (drop (i + 1) rows))) upto
-            ∙ repeated_more before x.name (names_of (drop (i + 1) rows)) among
-            ∙ ap (λ ys. repeated before (names_of ys)) (sym is)
-            ∙ c.loop-row.invariant.rest
+      held = λ (q : Bor (List ℕ)).
+          c.in_ok-insert.ensures.updates.0 q
+          ∙ ap (λ b. cond b true (contains by_text c.loop-row.names q)) (is_eq-slice_cmp c.as_str.result.now q.now ∙ ap (λ y. bytes_eq y q.now) key)
+          ∙ ap (λ b. cond (bytes_eq x.name q.now) true b) (c.loop-row.invariant.held q)
+          ∙ sym (among-push q.now x.name before)
+          ∙ ap (λ ys. is_among q.now ys) (sym upto);
+      rest =
+          ap (λ ys. repeated ys (names_of (drop (i + 1) rows))) upto
+          ∙ repeated_more before x.name (names_of (drop (i + 1) rows)) among
+          ∙ ap (λ ys. repeated before (names_of ys)) (sym is)
+          ∙ c.loop-row.invariant.rest;
     }
 
 pub returns : goal.returns
@@ -80,4 +80,4 @@ returns c =
     let i = c.loop-row.row-index in
     let none = drop_all i rows c.loop-row-test.false in
     distinct_ends (names_of rows)
-        (sym c.loop-row.invariant.rest ∙ ap (λ ys. repeated (names_of (take i rows)) (names_of ys)) none ∙ repeated_end _)
+    (sym c.loop-row.invariant.rest ∙ ap (λ ys. repeated (names_of (take i rows)) (names_of ys)) none ∙ repeated_end _)
