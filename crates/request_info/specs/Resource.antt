@@ -80,5 +80,4 @@ abbrev pub api_view : code_api.Api → Api
 api_view api = record { group = api.group.now; version = api.version.now; parts = texts_of api.parts.now }
 
 abbrev pub named_view : code_named.Named → Named
-named_view named =
-    record { namespace = named.namespace.now; resource = named.resource.now; name = named.name.now; subresource = named.subresource.now }
+named_view named = names named.namespace.now named.resource.now named.name.now named.subresource.now

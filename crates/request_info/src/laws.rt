@@ -13,7 +13,8 @@ pub fn paths_name_resources()
         ≡ names namespace resource name subresource }
     ensures all { (namespace resource : List ℕ)
         → is_of_namespaces resource ≡ false
-        → named_by (codes "namespaces" ∷ namespace ∷ resource ∷ []) ≡ names namespace resource [] [] }
+        → named_by (codes "namespaces" ∷ namespace ∷ resource ∷ [])
+        ≡ names namespace resource [] [] }
     ensures namespace { (namespace : List ℕ)
         → named_by (codes "namespaces" ∷ namespace ∷ [])
         ≡ names namespace (codes "namespaces") namespace [] }

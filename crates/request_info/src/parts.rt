@@ -7,7 +7,8 @@ use std::alloc::{AllocError, Global};
 
 /// A path, cut at its slashes.
 pub fn split<'p>(alloc: Global, path: &'p str) -> Result<Vec<&'p str>, AllocError>
-    ensures { IfOk result (λ parts. spec.texts_of parts.items ≡ slice_split (λ b. b == 47) path.now) }
+    ensures { IfOk result (λ parts.
+        spec.texts_of parts.items ≡ slice_split (λ b. b == 47) path.now) }
 {
     path.split('/').collect(alloc)
 }

@@ -44,7 +44,8 @@ fn resource_info(
     named: Named<'_>,
 ) -> Result<Info, NoMemory>
     ensures { IfOk result (λ info.
-        info ≡ spec.resource_info query.now path.now (api_view api.entry) verb.now (named_view named.entry)) }
+        info ≡ spec.resource_info
+        query.now path.now (api_view api.entry) verb.now (named_view named.entry)) }
 {
     let told = if named.name.is_empty() {
         collection_verb(alloc, verb, query)?

@@ -38,7 +38,8 @@ fn rows_of(alloc: Global, bytes: &[u8]) -> Result<Vec<ByteRecord>, TokenFault>
 // The records of rows, without those that have no token.
 fn records_of(alloc: Global, rows: &[ByteRecord]) -> Result<Vec<Record>, TokenFault>
     requires { length rows.now < 2 ^ 32 }
-    ensures { spec.Answers (spec.listed (λ v. v.items) result) (spec.records_from 0 (map fields_of rows.now)) }
+    ensures { spec.Answers
+        (spec.listed (λ v. v.items) result) (spec.records_from 0 (map fields_of rows.now)) }
 {
     let mut records = Vec::new(alloc);
     for (i, row) in rows.iter().enumerate() {
