@@ -285,3 +285,70 @@ fn a_table_full_and_one_more(rt: HostRuntime) -> Result<(), Fail> {
     }
     Ok(())
 }
+
+// The versions and groups of a cluster, and whether a service of its own answers.
+const CLUSTER: [(&str, &str, bool); 30] = [
+    ("v1", "", false),
+    ("v1", "admissionregistration.k8s.io", false),
+    ("v1", "apiextensions.k8s.io", false),
+    ("v1", "apps", false),
+    ("v1", "authentication.k8s.io", false),
+    ("v1", "authorization.k8s.io", false),
+    ("v1", "autoscaling", false),
+    ("v2", "autoscaling", false),
+    ("v1", "batch", false),
+    ("v1", "certificates.k8s.io", false),
+    ("v1", "coordination.k8s.io", false),
+    ("v1", "discovery.k8s.io", false),
+    ("v1", "events.k8s.io", false),
+    ("v1", "flowcontrol.apiserver.k8s.io", false),
+    ("v1beta3", "flowcontrol.apiserver.k8s.io", false),
+    ("v1", "networking.k8s.io", false),
+    ("v1", "node.k8s.io", false),
+    ("v1", "policy", false),
+    ("v1", "rbac.authorization.k8s.io", false),
+    ("v1", "scheduling.k8s.io", false),
+    ("v1", "storage.k8s.io", false),
+    ("v1", "acme.cert-manager.io", false),
+    ("v1", "cert-manager.io", false),
+    ("v1", "monitoring.coreos.com", false),
+    ("v1alpha1", "monitoring.coreos.com", false),
+    ("v1", "snapshot.storage.k8s.io", false),
+    ("v1beta1", "snapshot.storage.k8s.io", false),
+    ("v1alpha1", "traefik.io", false),
+    ("v1beta1", "custom.metrics.k8s.io", true),
+    ("v1beta1", "metrics.k8s.io", true),
+];
+
+#[test]
+fn reads_the_services_of_a_cluster(rt: HostRuntime) -> Result<(), Fail> {
+    let alloc = rt.alloc();
+    let mut text = String::from_str(alloc, r#"{"apiVersion":"v1","kind":"List","items":["#)?;
+    for (i, (version, group, served)) in CLUSTER.iter().enumerate() {
+        let name = format!(in alloc; "\"name\":\"{version}.{group}\"")?;
+        let group = format!(in alloc; "\"group\":\"{group}\",\"version\":\"{version}\"")?;
+        let service = r#","service":{"name":"s","namespace":"kube-system","port":443}"#;
+        let service = if *served { service } else { "" };
+        let spec = format!(in alloc; "{group},{PRIORITIES}{service}")?;
+        let status = if i == 28 { "False" } else { "True" };
+        let head =
+            r#","status":{"conditions":[{"lastTransitionTime":"2024-01-01T00:00:00Z","type":"Available""#;
+        let status = format!(in alloc; "{head},\"status\":\"{status}\"}}]}}")?;
+        if 0 < i {
+            text.push(',')?;
+        }
+        text.push_str(object(alloc, name.as_str(), spec.as_str(), status.as_str())?.as_str())?;
+    }
+    text.push_str("]}")?;
+    let rows = read_rows(alloc, text.as_bytes()).map_err(|_| "rows")?;
+    assert_eq!(rt; rows.as_slice().len(), 30);
+    for (row, (version, group, served)) in rows.as_slice().iter().zip(CLUSTER) {
+        assert_eq!(rt;
+            (row.version.as_str(), row.group.as_str()),
+            (version, group)
+        );
+        assert_eq!(rt; row.service.is_some(), served);
+        assert_eq!(rt; row.available, group != "custom.metrics.k8s.io");
+    }
+    Ok(())
+}

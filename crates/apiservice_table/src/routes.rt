@@ -23,7 +23,8 @@ pub trait Routes {
 
     /// A copy of the row of that group and version, after the changes that are seen then.
     fn find(&mut self, alloc: Global, group: &str, version: &str) -> Result<Option<Row>, NoMemory>
-        ensures found { IfOk result (λ found. found ≡ spec.row group.now version.now (after (opening self.new) (seen self.new))) }
+        ensures found { IfOk result (λ found.
+            found ≡ spec.row group.now version.now (after (opening self.new) (seen self.new))) }
         ensures later { IsLater (seen self.old) (seen self.new) }
         ensures keeps { (opening self.new ≡ opening self.old) × (own self.new ≡ own self.old) };
 
@@ -35,8 +36,10 @@ pub trait Routes {
 
     /// Makes a change, or refuses it by what is seen then.
     fn change(&mut self, alloc: Global, change: Change) -> Result<(), ChangeFault>
-        ensures took { OnOk result (Took (opening self.old) (seen self.old) (own self.old) change (seen self.new) (own self.new)) }
-        ensures refused { IfErr result (λ e. IsDue e (refusal (after (opening self.new) (seen self.new)) change)) }
+        ensures took { OnOk result
+            (Took (opening self.old) (seen self.old) (own self.old) change (seen self.new) (own self.new)) }
+        ensures refused { IfErr result (λ e.
+            IsDue e (refusal (after (opening self.new) (seen self.new)) change)) }
         ensures kept { OnErr result (own self.new ≡ own self.old) }
         ensures later { IsLater (seen self.old) (seen self.new) }
         ensures fixed { opening self.new ≡ opening self.old };

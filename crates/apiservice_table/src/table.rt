@@ -147,7 +147,8 @@ impl RouteTable {
         requires few { length rows ≤ MOST_ROWS }
         requires distinct { spec.HasDistinctNames rows }
         ensures rows { IfOk result (λ table. table.rows ≡ spec.with_rows rows []) }
-        ensures same { IfOk result (λ table. (name : List ℕ) → spec.row_named name table.rows ≡ spec.row_named name rows) }
+        ensures same { IfOk result (λ table.
+            (name : List ℕ) → spec.row_named name table.rows ≡ spec.row_named name rows) }
         ensures fresh { IfOk result (λ table. table.changes ≡ 0) }
     {
         let mut ordered = Vec::new(alloc);

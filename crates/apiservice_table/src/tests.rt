@@ -67,3 +67,26 @@ fn a_table_takes_changes_and_refuses_them_by_name(rt: HostRuntime) -> Result<(),
     }
     Ok(())
 }
+
+#[test]
+fn a_full_table_takes_no_new_name(rt: HostRuntime) -> Result<(), Fail> {
+    let alloc = rt.alloc();
+    let table = RouteTable::from_rows(alloc, Rows::new(Vec::new(alloc)))?;
+    let mut routes = TableRoutes::new(alloc, table)?;
+    for i in 0..MOST_ROWS {
+        let group = format!(in alloc; "g{i}")?;
+        let created = Change::Create(row(alloc, "v1", group.as_str())?);
+        assert_eq!(rt; routes.change(alloc, created), Ok(()));
+    }
+    let late = Change::Create(row(alloc, "v1", "late")?);
+    assert_eq!(rt; routes.change(alloc, late), Err(ChangeFault::Full));
+    let again = Change::Create(row(alloc, "v1", "g7")?);
+    assert_eq!(rt; routes.change(alloc, again), Err(ChangeFault::Exists));
+    assert_eq!(rt; routes.find(alloc, "late", "v1")?.is_some(), false);
+    let gone = Change::Delete(text(alloc, "v1.g7")?);
+    assert_eq!(rt; routes.change(alloc, gone), Ok(()));
+    let late = Change::Create(row(alloc, "v1", "late")?);
+    assert_eq!(rt; routes.change(alloc, late), Ok(()));
+    assert_eq!(rt; routes.find(alloc, "late", "v1")?.is_some(), true);
+    Ok(())
+}

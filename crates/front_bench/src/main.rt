@@ -1,0 +1,40 @@
+//! `front_bench` makes one call again and again on its standard input, so that the scripts in `bench/` can time it.
+//!
+//! Words: the call, and how often. `check` and `compact` take a JSON text, `rows` and `find` a list of APIServices. The
+//! status is 0 where every call succeeded, and 1 otherwise.
+#![tactic(auto)]
+
+mod calls;
+
+use calls::{check, compact, find, rows};
+use std::env;
+use std::io::Read;
+use std::process::ExitCode;
+
+fn words(rt: &HostRuntime) -> Option<Vec<String>> {
+    env::args(rt).ok()?.skip(1).collect(rt.alloc()).ok()
+}
+
+fn run(rt: &HostRuntime) -> Option<bool> {
+    let words = words(rt)?;
+    let [call, times] = words.as_slice() else {
+        return None;
+    };
+    let times = times.as_str().parse::<u32>().ok()?;
+    let mut input = Vec::new(rt.alloc());
+    rt.stdin().read_to_end(&mut input).ok()?;
+    match call.as_str() {
+        "check" => Some(check(input.as_slice(), times)),
+        "compact" => Some(compact(rt.alloc(), input.as_slice(), times)),
+        "rows" => Some(rows(rt.alloc(), input.as_slice(), times)),
+        "find" => find(rt.alloc(), input.as_slice(), times),
+        _ => None,
+    }
+}
+
+fn main(rt: HostRuntime) -> ExitCode {
+    match run(&rt) {
+        Some(true) => ExitCode::from(0),
+        _ => ExitCode::from(1),
+    }
+}
