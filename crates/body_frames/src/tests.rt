@@ -132,7 +132,7 @@ fn bodies_are_the_same_however_they_are_cut(rt: HostRuntime) -> Result<(), Fail>
         ),
     ];
     for (frame, text, body, end) in cases {
-        for size in 1..text.len() + 1 {
+        for size in 1..text.len().saturating_add(1) {
             let (bytes, answer) = decoded(rt.alloc(), frame, 20, text.as_bytes(), size)?;
             assert_eq!(rt;
                 bytes.as_slice(),
