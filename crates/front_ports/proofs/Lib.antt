@@ -1,2 +1,4 @@
+mod ClockLemmas
+mod DialLemmas
 mod ReadLemmas
 mod WrittenLemmas

@@ -1,5 +1,12 @@
 pub mod Cause
+pub mod Clocks
+pub mod Dials
+pub mod Doors
 pub mod FileMap
 pub mod Memory
+pub mod MemoryClock
+pub mod MemoryDial
+pub mod MemoryDoor
 pub mod Side
+pub mod Told
 pub mod Written

@@ -17,13 +17,15 @@ pub struct MemBytes {
 }
 
 impl MemBytes {
-    ghost use Rattle.front_ports.specs.Memory.{bytes_written, bytes_faults};
+    ghost use Rattle.front_ports.specs.Memory.{bytes_written, bytes_faults, bytes_room, bytes_fails, bytes_calls};
 
     /// A sink with room for so many bytes, whose writes of these numbers fail, counted from 1. A write that would pass the
     /// room fails too.
     pub fn new(alloc: Global, room: u64, write_fails: Vec<u64>) -> Result<MemBytes, NoMemory>
         ensures empty { IfOk result (λ sink. bytes_written sink ≡ []) }
         ensures fresh { IfOk result (λ sink. bytes_faults sink ≡ 0) }
+        ensures room { IfOk result (λ sink. bytes_room sink ≡ room) }
+        ensures fails { IfOk result (λ sink. (bytes_fails sink ≡ write_fails.items) × (bytes_calls sink ≡ 0)) }
     {
         let room = room as usize;
         Ok(MemBytes {
@@ -40,6 +42,20 @@ impl MemBytes {
         ensures { result.now ≡ bytes_written self.now }
     {
         self.bytes.as_slice()
+    }
+
+    // How many writes failed.
+    pub(crate) fn faults(&self) -> u64
+        ensures { result ≡ bytes_faults self.now }
+    {
+        self.faults
+    }
+
+    // What was written, for keeps.
+    pub(crate) fn into_bytes(self) -> Vec<u8>
+        ensures { result.items ≡ bytes_written self }
+    {
+        self.bytes
     }
 }
 

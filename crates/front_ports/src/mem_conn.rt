@@ -1,6 +1,6 @@
-ghost use Rattle.std.specs.Prelude.{◌≡◌, ◌≤◌, ◌<◌, ◌++◌, [], IfOk, length, drop, vec_len};
+ghost use Rattle.std.specs.Prelude.{◌≡◌, [], IfOk};
 
-use crate::mem_bytes::MemBytes;
+use crate::mem_stream::MemStream;
 use crate::script::Script;
 use crate::stream::{ByteSink, Conn, PortFault, Source};
 use front_base::NoMemory;
@@ -10,33 +10,7 @@ use std::alloc::Global;
 #[derive(Debug, Drop)]
 pub struct MemConn {
     from: [u8; 4],
-    input: Vec<u8>,
-    at: usize,
-    sizes: Vec<u32>,
-    reads: usize,
-    fails: Vec<u64>,
-    calls: u64,
-    faults: u64,
-    output: MemBytes,
-    ghost inside: { at ≤ vec_len input },
-}
-
-// How many bytes the next read gives at most, after so many reads.
-fn next_size(sizes: &[u32], reads: usize) -> usize
-    ensures { 0 < result }
-{
-    match sizes.get(reads) {
-        Some(size) => (*size as usize).max(1),
-        None => usize::MAX,
-    }
-}
-
-// Puts bytes at the front of a buffer.
-fn fill_front(buf: &mut [u8], bytes: &[u8])
-    requires { length bytes.now ≤ length buf.old }
-    ensures { buf.new ≡ bytes.now ++ drop (length bytes.now) buf.old }
-{
-    buf[..bytes.len()].copy_from_slice(bytes);
+    stream: MemStream,
 }
 
 impl MemConn {
@@ -51,25 +25,29 @@ impl MemConn {
         ensures no_read_fault { IfOk result (λ conn. conn_read_faults conn ≡ 0) }
         ensures no_write_fault { IfOk result (λ conn. conn_write_faults conn ≡ 0) }
     {
-        let output = MemBytes::new(alloc, script.room, script.write_fails)?;
-        Ok(MemConn {
-            from,
-            input: script.input.into_vec(),
-            at: 0,
-            sizes: script.sizes,
-            reads: 0,
-            fails: script.read_fails,
-            calls: 0,
-            faults: 0,
-            output,
-        })
+        let stream = MemStream::new(alloc, script)?;
+        Ok(MemConn { from, stream })
     }
 
     /// What was written to it.
     pub fn output(&self) -> &[u8]
         ensures { result.now ≡ conn_written self.now }
     {
-        self.output.bytes()
+        self.stream.output.bytes()
+    }
+
+    // What is left to read.
+    pub(crate) fn left(&self) -> &[u8]
+        ensures { result.now ≡ conn_left self.now }
+    {
+        self.stream.left()
+    }
+
+    // What was written to it, for keeps.
+    pub(crate) fn into_output(self) -> Vec<u8>
+        ensures { result.items ≡ conn_written self }
+    {
+        self.stream.output.into_bytes()
     }
 }
 
@@ -84,17 +62,7 @@ impl Source for MemConn {
     ghost outward = { conn_output };
 
     fn read(&mut self, buf: &mut [u8]) -> Result<usize, PortFault> {
-        self.calls = self.calls.saturating_add(1);
-        if self.fails.contains(&self.calls) {
-            self.faults = self.faults.saturating_add(1);
-            return Err(PortFault);
-        }
-        let size = next_size(self.sizes.as_slice(), self.reads);
-        self.reads = self.reads.saturating_add(1);
-        let n = size.min(buf.len()).min(self.input.len() - self.at);
-        fill_front(buf, &self.input.as_slice()[self.at..self.at + n]);
-        self.at += n;
-        Ok(n)
+        self.stream.read(buf)
     }
 }
 
@@ -109,7 +77,7 @@ impl ByteSink for MemConn {
     ghost inward = { conn_input };
 
     fn write(&mut self, piece: &[u8]) -> Result<usize, PortFault> {
-        self.output.write(piece)
+        self.stream.output.write(piece)
     }
 }
 

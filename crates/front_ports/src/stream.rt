@@ -1,4 +1,4 @@
-ghost use Rattle.std.specs.Prelude.{◌≡◌, ◌<◌, List, ℕ, Option, IfOk, OnOk, OnErr, length};
+ghost use Rattle.std.specs.Prelude.{◌≡◌, ◌<◌, List, [], ◌∷◌, ℕ, Option, IfOk, OnOk, OnErr, length};
 ghost use Rattle.std.specs.Io.{ReadsAtMost, WritesAtMost};
 ghost use Rattle.std.specs.Io.KnownBytes.{Appends, ReadConsumes, WriteAppends};
 ghost use Rattle.front_ports.specs.Cause.{HasCause};
@@ -64,6 +64,19 @@ pub trait Conn: Source + ByteSink {
 
     ghost inward_is: { (c : Self) →
         Self.inward c ≡ record { told = Self.left c; faults = Self.read_faults c; mark = from c } };
+}
+
+/// A link to a backend.
+pub trait Link: Source + ByteSink {
+    /// The number of its call among those of its dial, counted from 0, which no call changes.
+    ghost number: { Self → ℕ };
+
+    /// What a read leaves is the output, and what a write leaves is the input.
+    ghost outward_is: { (link : Self) → Self.outward link
+        ≡ record { told = Self.written link; faults = Self.write_faults link; mark = number link ∷ [] } };
+
+    ghost inward_is: { (link : Self) → Self.inward link
+        ≡ record { told = Self.left link; faults = Self.read_faults link; mark = number link ∷ [] } };
 }
 
 /// Writes all of a text, in as many writes as the sink wants. On a fault, a front of it was written.

@@ -1,0 +1,119 @@
+ghost use Rattle.std.specs.Prelude.{◌≡◌, ◌≤◌, ◌+◌, [], IfOk, vec_len, vec_capacity};
+ghost use Rattle.std.specs.VecDeque.{deque_len};
+ghost use Rattle.front_ports.specs.Memory.{conn_from, conn_left, conn_written};
+
+use crate::door::{Door, Visit};
+use crate::mem_conn::MemConn;
+use crate::stream::{Conn, PortFault};
+use front_base::{Bytes, NoMemory};
+use std::alloc::Global;
+use std::collections::VecDeque;
+
+// A connection that will come, with the entry that notes it.
+#[derive(Debug, Drop)]
+struct Expected {
+    conn: MemConn,
+    visit: Visit,
+    ghost peer: { visit.peer ≡ conn_from conn },
+    ghost input: { visit.input ≡ conn_left conn },
+    ghost output: { visit.output ≡ conn_written conn },
+}
+
+/// A door in memory, which gives connections in their order, and tells those to come and those that it gave. It notes
+/// them in room that was reserved when it was made.
+#[derive(Debug, Drop)]
+pub struct MemDoor {
+    expected: VecDeque<Expected>,
+    given: Vec<Visit>,
+    fails: Vec<u64>,
+    calls: u64,
+    closes: u64,
+    faults: u64,
+    ghost room: { vec_len given + deque_len expected ≤ vec_capacity given },
+}
+
+fn expect(alloc: Global, conn: MemConn) -> Result<Expected, NoMemory>
+    ensures { IfOk result (λ expected. expected.conn ≡ conn) }
+{
+    let visit = Visit {
+        peer: conn.peer(),
+        input: Bytes::new(conn.left().to_vec(alloc)?),
+        output: Bytes::new(conn.output().to_vec(alloc)?),
+    };
+    Ok(Expected { conn, visit })
+}
+
+impl MemDoor {
+    ghost use Rattle.front_ports.specs.MemoryDoor.{door_left, door_given, door_closes, door_faults};
+
+    /// A door that gives these connections. The calls of `next` of these numbers fail, counted from 1; a call that fails
+    /// takes no connection.
+    pub fn new(alloc: Global, conns: Vec<MemConn>, fails: Vec<u64>) -> Result<MemDoor, NoMemory>
+        ensures left { IfOk result (λ door. door_left door ≡ conns.items) }
+        ensures given { IfOk result (λ door. door_given door ≡ []) }
+        ensures fresh { IfOk result (λ door. (door_closes door ≡ 0) × (door_faults door ≡ 0)) }
+    {
+        let given = Vec::with_capacity(alloc, conns.len())?;
+        let mut expected = VecDeque::new(alloc);
+        for conn in conns {
+            expected.push_back(expect(alloc, conn)?)?;
+        }
+        Ok(MemDoor {
+            expected,
+            given,
+            fails,
+            calls: 0,
+            closes: 0,
+            faults: 0,
+        })
+    }
+
+    /// The connections that it gave. What was written to one is noted when it is handed back.
+    pub fn given(&self) -> &[Visit]
+        ensures { result.now ≡ door_given self.now }
+    {
+        self.given.as_slice()
+    }
+}
+
+impl Door for MemDoor {
+    ghost use Rattle.std.specs.Prelude.{Some};
+    ghost use Rattle.front_ports.specs.MemoryDoor.{door_left, door_given, door_closes, door_faults};
+
+    type C = MemConn;
+
+    ghost left = { λ door. Some (door_left door) };
+
+    ghost given = { λ door. Some (door_given door) };
+
+    ghost closes = { door_closes };
+
+    ghost faults = { door_faults };
+
+    fn next(&mut self) -> Result<Option<MemConn>, PortFault> {
+        self.calls = self.calls.saturating_add(1);
+        if self.fails.contains(&self.calls) {
+            self.faults = self.faults.saturating_add(1);
+            return Err(PortFault);
+        }
+        match self.expected.pop_front() {
+            Some(expected) => {
+                self.given.push_reserved(expected.visit);
+                Ok(Some(expected.conn))
+            }
+            None => {
+                self.closes = self.closes.saturating_add(1);
+                Ok(None)
+            }
+        }
+    }
+
+    fn done(&mut self, conn: MemConn) {
+        if let Some(visit) = self.given.pop() {
+            self.given.push_reserved(Visit {
+                output: Bytes::new(conn.into_output()),
+                ..visit
+            });
+        }
+    }
+}
