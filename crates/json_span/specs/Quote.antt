@@ -1,5 +1,6 @@
 -- How a text is written as a string (RFC 8259, section 7).
-use Rattle.std.specs.Prelude.{ℕ, ◌+◌, ◌/◌, ◌%◌, ◌==◌, nat_lt, List, [], ◌∷◌, ◌++◌, codes, flat_map, Option, Some, None, if◌then◌else◌}
+use Rattle.std.specs.Prelude.{ℕ, ◌+◌, ◌/◌, ◌%◌, ◌==◌, nat_le, nat_lt, Bool, ◌&&◌, not, if◌then◌else◌}
+use Rattle.std.specs.Prelude.{List, [], ◌∷◌, ◌++◌, codes, flat_map, Option, Some, None}
 
 -- a hexadecimal digit in lower case
 abbrev pub hex_digit : ℕ → ℕ
@@ -22,6 +23,10 @@ escape_or None other = other
 -- a byte, or the escape that stands for it
 abbrev pub escaped : ℕ → List ℕ
 escaped b = escape_or (short_escape b) (unless_control b)
+
+-- a byte that stands for itself
+abbrev pub stands_for_itself : ℕ → Bool
+stands_for_itself b = nat_le 32 b && (not (b == 34) && not (b == 92))
 
 abbrev pub quoted : List ℕ → List ℕ
 quoted text = 34 ∷ (flat_map escaped text ++ 34 ∷ [])
