@@ -1,0 +1,4 @@
+pub mod FirstLemmas
+pub mod ListLemmas
+pub mod MatchLemmas
+mod ValueLemmas

@@ -1,0 +1,4 @@
+pub mod Json
+pub mod Matching
+pub mod Policy
+pub mod Reading

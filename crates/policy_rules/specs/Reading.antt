@@ -1,0 +1,237 @@
+-- An audit policy in JSON (Kubernetes, "kube-apiserver Audit Configuration (v1)") and what is read of it, or its first
+-- fault.
+use Rattle.std.specs.Prelude.{ℕ, ◌+◌, ◌==◌, ◌&&◌, ◌||◌, not, Bool, true, false, if◌then◌else◌, List, [], ◌∷◌, nat_eq, Option, Some, None, option_and_then, Result, Ok, Err, codes}
+use Rattle.std.specs.List.{list_any, starts_with}
+use Rattle.std.specs.Str.{bytes_eq}
+use Rattle.serde_json.specs.Data.{Data, null, boolean, number, string, array, object, Items, no_items, item}
+use Rattle.serde_json.specs.Find.{as_str}
+use Rattle.serde_json.specs.Written.{has_float}
+use Rattle.front_base.specs.Level.{level_name}
+use Rattle.front_base.specs.Stage.{stage_name}
+use Rattle.front_base.specs.declared.level.Level.{Level}
+use Rattle.front_base.specs.declared.level.Level.TheVariants as level
+use Rattle.front_base.specs.declared.stage.Stage.TheVariants as stage
+use Rattle.policy_rules.specs.Json.{◌>>=◌, found_or, value_of, present, is_object, is_text}
+use Rattle.policy_rules.specs.Matching.{is_empty, is_about_resources, front}
+use Rattle.policy_rules.specs.Policy.{nothing}
+use Rattle.policy_rules.specs.declared.fault.PolicyFault.{PolicyFault}
+use Rattle.policy_rules.specs.declared.fault.PolicyFault.TheVariants.{NoRules, BadField, BothKinds, BadUrl, NamesWithoutResources}
+use Rattle.policy_rules.specs.declared.omit.Omit.{Omit}
+use Rattle.policy_rules.specs.declared.policy.Policy.{Policy}
+use Rattle.policy_rules.specs.declared.rule.GroupResources.{GroupResources}
+use Rattle.policy_rules.specs.declared.rule.Rule.{Rule}
+
+-- what is read of each item in order, given its place; the first faulty one gives the answer
+abbrev pub each_from : {A : Type 0} → (ℕ → Data → Result A PolicyFault) → ℕ → Items → Result (List A) PolicyFault
+each_from read place no_items = Ok []
+each_from read place (item d ds) = do
+  first ← read place d
+  others ← each_from read (place + 1) ds
+  Ok (first ∷ others)
+
+-- ---- lists of texts
+
+abbrev pub text_of : Option ℕ → List ℕ → Data → Result (List ℕ) PolicyFault
+text_of rule name d = found_or (BadField rule name) (as_str d)
+
+unfoldable pub texts_of : Option ℕ → List ℕ → Items → Result (List (List ℕ)) PolicyFault
+texts_of rule name ds = each_from (λ place d. text_of rule name d) 0 ds
+
+-- a list of texts; absent is empty
+abbrev pub texts_in : Option ℕ → List ℕ → Option Data → Result (List (List ℕ)) PolicyFault
+texts_in rule name None = Ok []
+texts_in rule name (Some null) = Err (BadField rule name)
+texts_in rule name (Some (boolean b)) = Err (BadField rule name)
+texts_in rule name (Some (number n)) = Err (BadField rule name)
+texts_in rule name (Some (string s)) = Err (BadField rule name)
+texts_in rule name (Some (array ds)) = texts_of rule name ds
+texts_in rule name (Some (object ms)) = Err (BadField rule name)
+
+-- ---- stages and truth values
+
+abbrev pub is_stage : Data → Bool
+is_stage d =
+    is_text (stage_name stage.RequestReceived) (Some d)
+    || is_text (stage_name stage.ResponseStarted) (Some d)
+    || is_text (stage_name stage.ResponseComplete) (Some d)
+    || is_text (stage_name stage.Panic) (Some d)
+
+abbrev pub are_stages : Items → Bool
+are_stages no_items = true
+are_stages (item d ds) = is_stage d && are_stages ds
+
+abbrev pub names_stage : List ℕ → Items → Bool
+names_stage name no_items = false
+names_stage name (item d ds) = is_text name (Some d) || names_stage name ds
+
+abbrev pub omit_by : Items → Omit
+omit_by ds = record {
+  received = names_stage (stage_name stage.RequestReceived) ds;
+  started = names_stage (stage_name stage.ResponseStarted) ds;
+  complete = names_stage (stage_name stage.ResponseComplete) ds;
+}
+
+unfoldable pub omit_of : Option ℕ → Items → Result Omit PolicyFault
+omit_of rule ds = if are_stages ds then Ok (omit_by ds) else Err (BadField rule (codes "omitStages"))
+
+-- a list of names of stages; absent is empty
+abbrev pub omit_in : Option ℕ → Option Data → Result Omit PolicyFault
+omit_in rule None = Ok nothing
+omit_in rule (Some null) = Err (BadField rule (codes "omitStages"))
+omit_in rule (Some (boolean b)) = Err (BadField rule (codes "omitStages"))
+omit_in rule (Some (number n)) = Err (BadField rule (codes "omitStages"))
+omit_in rule (Some (string s)) = Err (BadField rule (codes "omitStages"))
+omit_in rule (Some (array ds)) = omit_of rule ds
+omit_in rule (Some (object ms)) = Err (BadField rule (codes "omitStages"))
+
+-- a truth value, or absent
+abbrev pub managed_in : Option ℕ → Option Data → Result (Unit {0}) PolicyFault
+managed_in rule None = Ok tt
+managed_in rule (Some null) = Err (BadField rule (codes "omitManagedFields"))
+managed_in rule (Some (boolean b)) = Ok tt
+managed_in rule (Some (number n)) = Err (BadField rule (codes "omitManagedFields"))
+managed_in rule (Some (string s)) = Err (BadField rule (codes "omitManagedFields"))
+managed_in rule (Some (array ds)) = Err (BadField rule (codes "omitManagedFields"))
+managed_in rule (Some (object ms)) = Err (BadField rule (codes "omitManagedFields"))
+
+-- what both a policy and a rule may leave out
+unfoldable pub omissions_of : Option ℕ → Data → Result Omit PolicyFault
+omissions_of rule d = do
+  omit ← omit_in rule (present (codes "omitStages") d)
+  managed ← managed_in rule (present (codes "omitManagedFields") d)
+  Ok omit
+
+-- ---- levels
+
+unfoldable pub level_named : List ℕ → Option Level
+level_named text =
+    if bytes_eq text (level_name level.None) then Some level.None
+    else if bytes_eq text (level_name level.Metadata) then Some level.Metadata
+    else if bytes_eq text (level_name level.Request) then Some level.Request
+    else if bytes_eq text (level_name level.RequestResponse) then Some level.RequestResponse
+    else None
+
+abbrev pub level_in : Option Data → Option Level
+level_in found = option_and_then level_named (option_and_then as_str found)
+
+unfoldable pub level_of : ℕ → Data → Result Level PolicyFault
+level_of place d = found_or (BadField (Some place) (codes "level")) (level_in (present (codes "level") d))
+
+-- ---- resources
+
+-- absent is the core group, whose name is empty
+abbrev pub group_in : ℕ → Option Data → Result (List ℕ) PolicyFault
+group_in place None = Ok []
+group_in place (Some d) = text_of (Some place) (codes "resources") d
+
+unfoldable pub element_members : ℕ → Data → Result GroupResources PolicyFault
+element_members place d = do
+  group ← group_in place (present (codes "group") d)
+  resources ← texts_in (Some place) (codes "resources") (present (codes "resources") d)
+  names ← texts_in (Some place) (codes "resources") (present (codes "resourceNames") d)
+  Ok (record { group = group; resources = resources; resource_names = names })
+
+unfoldable pub element_of : ℕ → Data → Result GroupResources PolicyFault
+element_of place d =
+    if is_object d then element_members place d else Err (BadField (Some place) (codes "resources"))
+
+unfoldable pub elements_of : ℕ → Items → Result (List GroupResources) PolicyFault
+elements_of rule ds = each_from (λ place d. element_of rule d) 0 ds
+
+-- a list of objects; absent is empty
+abbrev pub elements_in : ℕ → Option Data → Result (List GroupResources) PolicyFault
+elements_in place None = Ok []
+elements_in place (Some null) = Err (BadField (Some place) (codes "resources"))
+elements_in place (Some (boolean b)) = Err (BadField (Some place) (codes "resources"))
+elements_in place (Some (number n)) = Err (BadField (Some place) (codes "resources"))
+elements_in place (Some (string s)) = Err (BadField (Some place) (codes "resources"))
+elements_in place (Some (array ds)) = elements_of place ds
+elements_in place (Some (object ms)) = Err (BadField (Some place) (codes "resources"))
+
+-- ---- a rule
+
+abbrev pub has_asterisk : List ℕ → Bool
+has_asterisk text = list_any (λ b. b == 42) text
+
+-- `*`, or a path that has `*` at most at its end
+unfoldable pub is_good_url : List ℕ → Bool
+is_good_url url = bytes_eq url (codes "*") || starts_with nat_eq url (codes "/") && not (has_asterisk (front url))
+
+abbrev pub has_bad_url : List (List ℕ) → Bool
+has_bad_url urls = list_any (λ url. not (is_good_url url)) urls
+
+-- names of resources, and no resource that they are of
+abbrev pub has_lone_names : List GroupResources → Bool
+has_lone_names elements = list_any (λ e. not (is_empty e.resource_names) && is_empty e.resources) elements
+
+-- what the members say together
+unfoldable pub fit_together : ℕ → Rule → Result Rule PolicyFault
+fit_together place rule =
+    if not (is_empty rule.non_resource_urls) && is_about_resources rule then
+    Err (BothKinds place)
+    else if has_bad_url rule.non_resource_urls then Err (BadUrl place)
+    else if has_lone_names rule.resources then Err (NamesWithoutResources place)
+    else Ok rule
+
+unfoldable pub rule_members : ℕ → Data → Result Rule PolicyFault
+rule_members place d = do
+  level ← level_of place d
+  users ← texts_in (Some place) (codes "users") (present (codes "users") d)
+  user_groups ← texts_in (Some place) (codes "userGroups") (present (codes "userGroups") d)
+  verbs ← texts_in (Some place) (codes "verbs") (present (codes "verbs") d)
+  resources ← elements_in place (present (codes "resources") d)
+  namespaces ← texts_in (Some place) (codes "namespaces") (present (codes "namespaces") d)
+  urls ← texts_in (Some place) (codes "nonResourceURLs") (present (codes "nonResourceURLs") d)
+  omit ← omissions_of (Some place) d
+  Ok (record {
+    level = level;
+    users = users;
+    user_groups = user_groups;
+    verbs = verbs;
+    resources = resources;
+    namespaces = namespaces;
+    non_resource_urls = urls;
+    omit = omit;
+  })
+
+unfoldable pub rule_of : ℕ → Data → Result Rule PolicyFault
+rule_of place d =
+    if is_object d then rule_members place d >>= fit_together place
+    else Err (BadField (Some place) (codes "rules"))
+
+-- ---- the policy
+
+-- a policy of this version of its API, whose numbers are all whole and fit 64 bits
+unfoldable pub head_of : Data → Result (Unit {0}) PolicyFault
+head_of d =
+    if not (is_text (codes "Policy") (present (codes "kind") d)) then Err (BadField None (codes "kind"))
+    else if not (is_text (codes "audit.k8s.io/v1") (present (codes "apiVersion") d)) then
+    Err (BadField None (codes "apiVersion"))
+    else if has_float d then Err (BadField None (codes "number"))
+    else Ok tt
+
+unfoldable pub rules_of : Items → Result (List Rule) PolicyFault
+rules_of ds = each_from rule_of 0 ds
+
+abbrev pub some_rules : Items → Result (List Rule) PolicyFault
+some_rules no_items = Err NoRules
+some_rules (item d ds) = rules_of (item d ds)
+
+-- a list that isn't empty
+abbrev pub rules_in : Option Data → Result (List Rule) PolicyFault
+rules_in None = Err NoRules
+rules_in (Some null) = Err (BadField None (codes "rules"))
+rules_in (Some (boolean b)) = Err (BadField None (codes "rules"))
+rules_in (Some (number n)) = Err (BadField None (codes "rules"))
+rules_in (Some (string s)) = Err (BadField None (codes "rules"))
+rules_in (Some (array ds)) = some_rules ds
+rules_in (Some (object ms)) = Err (BadField None (codes "rules"))
+
+-- the policy of a text, or the first of its faults in this order
+unfoldable pub read_policy : List ℕ → Result Policy PolicyFault
+read_policy bytes = do
+  d ← value_of bytes
+  head ← head_of d
+  omit ← omissions_of None d
+  rules ← rules_in (present (codes "rules") d)
+  Ok (record { omit = omit; rules = rules })

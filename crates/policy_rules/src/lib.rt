@@ -1,0 +1,35 @@
+//! Audit policies (`audit.k8s.io/v1`): which level a request is recorded at, and which stages are left out.
+//!
+//! The main contracts are those of `read_policy`, which gives exactly the policy that a text states, or the first of its
+//! faults in a stated order, and of `decide`, whose answer is that of the first rule that matches. Contracts see a
+//! policy as a record of lists.
+//!
+//! Nothing is promised about `omitManagedFields`: its form is checked, and no decision says anything of it yet.
+#![tactic(auto)]
+
+mod decision;
+mod fault;
+mod floats;
+mod json;
+mod laws;
+mod matching;
+mod members;
+mod omit;
+mod policy;
+mod read;
+mod reading;
+mod rule;
+
+pub use decision::{Decision, decide};
+pub use fault::PolicyFault;
+pub use laws::{
+    first_match_decides, no_match_records_nothing, patterns_name_resources,
+    policy_stages_always_count, prefixes_name_paths,
+};
+pub use omit::Omit;
+pub use policy::{Policy, Rules};
+pub use read::read_policy;
+pub use rule::{GroupResources, Resources, Rule};
+
+#[cfg(test)]
+mod tests;

@@ -1,0 +1,79 @@
+ghost use Rattle.std.specs.Prelude.{◌≡◌, ◌<◌, ◌^◌, IfOk, option_map, vec_len};
+ghost use Rattle.serde_json.specs.View.{view, items_view};
+ghost use Rattle.policy_rules.specs.Json.{Gives};
+ghost use Rattle.policy_rules.specs.Reading as spec;
+
+use crate::fault::{PolicyFault, bad_field};
+use crate::floats::has_float;
+use crate::json::{is_text, present, read_value};
+use crate::members::omissions_of;
+use crate::policy::{Policy, Rules};
+use crate::reading::rule_of;
+use serde_json::Value;
+use std::alloc::Global;
+
+// What the object is: its kind, the version of its API, and that its numbers are whole and fit 64 bits.
+#[tactic(auto, unfolding(crate::specs::Reading::head_of))]
+fn check_head(alloc: Global, value: &Value) -> Result<(), PolicyFault>
+    ensures { Gives (λ u. u) result (spec.head_of (view value.now)) }
+{
+    if !is_text("Policy", present(value, "kind")) {
+        return Err(bad_field(alloc, None, "kind"));
+    }
+    if !is_text("audit.k8s.io/v1", present(value, "apiVersion")) {
+        return Err(bad_field(alloc, None, "apiVersion"));
+    }
+    if has_float(value) {
+        return Err(bad_field(alloc, None, "number"));
+    }
+    Ok(())
+}
+
+#[tactic(auto, unfolding(crate::specs::Reading::rules_of))]
+fn rules_of(alloc: Global, items: &Vec<Value>) -> Result<Rules, PolicyFault>
+    requires { vec_len items.now < 2 ^ 32 }
+    ensures { Gives (λ r. r) result (spec.rules_of (items_view items.now.items)) }
+{
+    let mut rules = Vec::new(alloc);
+    let mut place: u32 = 0;
+    for item in items {
+        rules.push(rule_of(alloc, place, item)?)?;
+        place += 1;
+    }
+    Ok(Rules::new(rules))
+}
+
+fn some_rules(alloc: Global, items: &Vec<Value>) -> Result<Rules, PolicyFault>
+    ensures { Gives (λ r. r) result (spec.some_rules (items_view items.now.items)) }
+{
+    if items.is_empty() {
+        return Err(PolicyFault::NoRules);
+    }
+    // no policy of this size is worth its memory
+    if items.len() > u32::MAX as usize {
+        return Err(PolicyFault::NoMemory);
+    }
+    rules_of(alloc, items)
+}
+
+fn rules_in(alloc: Global, found: Option<&Value>) -> Result<Rules, PolicyFault>
+    ensures { Gives (λ r. r) result (spec.rules_in (option_map (λ v. view v.now) found.entry)) }
+{
+    match found {
+        None => Err(PolicyFault::NoRules),
+        Some(Value::Array(items)) => some_rules(alloc, items),
+        Some(_) => Err(bad_field(alloc, None, "rules")),
+    }
+}
+
+/// The policy of a text in JSON, or its first fault: of the policy's own members, then rule by rule.
+#[tactic(auto, unfolding(crate::specs::Reading::read_policy))]
+pub fn read_policy(alloc: Global, bytes: &[u8]) -> Result<Policy, PolicyFault>
+    ensures { Gives (λ p. p) result (spec.read_policy bytes.now) }
+{
+    let value = read_value(alloc, bytes)?;
+    check_head(alloc, &value)?;
+    let omit = omissions_of(alloc, None, &value)?;
+    let rules = rules_in(alloc, present(&value, "rules"))?;
+    Ok(Policy { omit, rules })
+}

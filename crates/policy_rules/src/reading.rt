@@ -1,0 +1,156 @@
+// A rule of a policy.
+ghost use Rattle.std.specs.Prelude.{◌≡◌, not, option_map};
+ghost use Rattle.serde_json.specs.View.{view, items_view};
+ghost use Rattle.policy_rules.specs.Json.{Gives};
+ghost use Rattle.policy_rules.specs.Reading as spec;
+
+use crate::fault::{PolicyFault, bad_field};
+use crate::json::present;
+use crate::members::{level_of, omissions_of, text_of, texts_in};
+use crate::rule::{GroupResources, Resources, Rule};
+use front_base::{Text, Texts};
+use serde_json::Value;
+use std::alloc::Global;
+
+// Absent is the core group, whose name is empty.
+fn group_in(alloc: Global, rule: u32, found: Option<&Value>) -> Result<Text, PolicyFault>
+    ensures { Gives (λ t. t) result (spec.group_in rule (option_map (λ v. view v.now) found.entry)) }
+{
+    match found {
+        None => Ok(Text::new(String::new(alloc))),
+        Some(value) => text_of(alloc, Some(rule), "resources", value),
+    }
+}
+
+#[tactic(auto, unfolding(crate::specs::Reading::element_members))]
+fn element_members(alloc: Global, rule: u32, value: &Value) -> Result<GroupResources, PolicyFault>
+    ensures { Gives (λ e. e) result (spec.element_members rule (view value.now)) }
+{
+    let group = group_in(alloc, rule, present(value, "group"))?;
+    let resources = texts_in(alloc, Some(rule), "resources", present(value, "resources"))?;
+    let resource_names = texts_in(
+        alloc,
+        Some(rule),
+        "resources",
+        present(value, "resourceNames"),
+    )?;
+    Ok(GroupResources {
+        group,
+        resources,
+        resource_names,
+    })
+}
+
+#[tactic(auto, unfolding(crate::specs::Reading::element_of))]
+fn element_of(alloc: Global, rule: u32, value: &Value) -> Result<GroupResources, PolicyFault>
+    ensures { Gives (λ e. e) result (spec.element_of rule (view value.now)) }
+{
+    if !value.is_object() {
+        return Err(bad_field(alloc, Some(rule), "resources"));
+    }
+    element_members(alloc, rule, value)
+}
+
+#[tactic(auto, unfolding(crate::specs::Reading::elements_of))]
+fn elements_of(alloc: Global, rule: u32, items: &Vec<Value>) -> Result<Resources, PolicyFault>
+    ensures { Gives (λ r. r) result (spec.elements_of rule (items_view items.now.items)) }
+{
+    let mut elements = Vec::new(alloc);
+    for item in items {
+        elements.push(element_of(alloc, rule, item)?)?;
+    }
+    Ok(Resources::new(elements))
+}
+
+fn elements_in(alloc: Global, rule: u32, found: Option<&Value>) -> Result<Resources, PolicyFault>
+    ensures { Gives (λ r. r) result (spec.elements_in rule (option_map (λ v. view v.now) found.entry)) }
+{
+    match found {
+        None => Ok(Resources::new(Vec::new(alloc))),
+        Some(Value::Array(items)) => elements_of(alloc, rule, items),
+        Some(_) => Err(bad_field(alloc, Some(rule), "resources")),
+    }
+}
+
+fn has_asterisk(text: &[u8]) -> bool
+    ensures { result ≡ spec.has_asterisk text.now }
+{
+    text.iter().any(|byte| *byte == b'*')
+}
+
+// `*`, or a path that has `*` at most at its end.
+#[tactic(auto, unfolding(crate::specs::Reading::is_good_url))]
+fn is_good_url(url: &[u8]) -> bool
+    ensures { result ≡ spec.is_good_url url.now }
+{
+    url == b"*".as_slice()
+        || url.starts_with(b"/".as_slice()) && !has_asterisk(&url[..url.len() - 1])
+}
+
+fn has_bad_url(urls: &[Text]) -> bool
+    ensures { result ≡ spec.has_bad_url urls.now }
+{
+    urls.iter().any(|url| !is_good_url(url.as_str().as_bytes()))
+}
+
+fn has_lone_names(elements: &[GroupResources]) -> bool
+    ensures { result ≡ spec.has_lone_names elements.now }
+{
+    elements.iter().any(|element| !element.resource_names.as_slice().is_empty()
+        && element.resources.as_slice().is_empty())
+}
+
+// What the members say together.
+#[tactic(auto, unfolding(crate::specs::Reading::fit_together))]
+fn fit_together(place: u32, rule: Rule) -> Result<Rule, PolicyFault>
+    ensures { Gives (λ r. r) result (spec.fit_together place rule) }
+{
+    let has_urls = !rule.non_resource_urls.as_slice().is_empty();
+    if has_urls && rule.is_about_resources() {
+        return Err(PolicyFault::BothKinds { rule: place });
+    }
+    if has_bad_url(rule.non_resource_urls.as_slice()) {
+        return Err(PolicyFault::BadUrl { rule: place });
+    }
+    if has_lone_names(rule.resources.as_slice()) {
+        return Err(PolicyFault::NamesWithoutResources { rule: place });
+    }
+    Ok(rule)
+}
+
+#[tactic(auto, unfolding(crate::specs::Reading::rule_members))]
+fn rule_members(alloc: Global, place: u32, value: &Value) -> Result<Rule, PolicyFault>
+    ensures { Gives (λ r. r) result (spec.rule_members place (view value.now)) }
+{
+    let rule = Some(place);
+    let level = level_of(alloc, place, value)?;
+    let users = texts_in(alloc, rule, "users", present(value, "users"))?;
+    let user_groups = texts_in(alloc, rule, "userGroups", present(value, "userGroups"))?;
+    let verbs = texts_in(alloc, rule, "verbs", present(value, "verbs"))?;
+    let resources = elements_in(alloc, place, present(value, "resources"))?;
+    let namespaces = texts_in(alloc, rule, "namespaces", present(value, "namespaces"))?;
+    let urls = present(value, "nonResourceURLs");
+    let non_resource_urls = texts_in(alloc, rule, "nonResourceURLs", urls)?;
+    let omit = omissions_of(alloc, rule, value)?;
+    Ok(Rule {
+        level,
+        users,
+        user_groups,
+        verbs,
+        resources,
+        namespaces,
+        non_resource_urls,
+        omit,
+    })
+}
+
+#[tactic(auto, unfolding(crate::specs::Reading::rule_of))]
+pub fn rule_of(alloc: Global, place: u32, value: &Value) -> Result<Rule, PolicyFault>
+    ensures { Gives (λ r. r) result (spec.rule_of place (view value.now)) }
+{
+    if !value.is_object() {
+        return Err(bad_field(alloc, Some(place), "rules"));
+    }
+    let rule = rule_members(alloc, place, value)?;
+    fit_together(place, rule)
+}
