@@ -1,0 +1,15 @@
+ghost use Rattle.std.specs.Prelude.{◌≡◌, ◌+◌, ℕ, List, ◌∷◌, ◌++◌, [], length, All};
+ghost use Rattle.local_replies.specs.Paths.{local_of};
+ghost use Rattle.local_replies.specs.Status.{cause_of, refusal_text, told_codes};
+
+/// A slash at either end of a path makes no other local path of it.
+pub fn slashes_at_ends_do_not_count()
+    ensures front { (path : List ℕ) → local_of (47 ∷ path) ≡ local_of path }
+    ensures back { (path : List ℕ) → local_of (path ++ 47 ∷ []) ≡ local_of path }
+{}
+
+/// The Status of each code that has a cause is 104 bytes longer than its reason and its message: neither needs an escape.
+pub fn lengths_of_refusals()
+    ensures { All (λ code. length (refusal_text code)
+        ≡ 104 + length (cause_of code).reason + length (cause_of code).message) told_codes }
+{}
