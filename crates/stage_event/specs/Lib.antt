@@ -1,0 +1,4 @@
+pub mod Due
+pub mod Events
+pub mod Kept
+pub mod Views

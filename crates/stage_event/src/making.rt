@@ -1,0 +1,150 @@
+ghost use Rattle.std.specs.Prelude.{◌≡◌, ◌≢◌, IfOk, Some, None};
+ghost use Rattle.stage_event.specs.Due.{request_due, reply_due};
+ghost use Rattle.stage_event.specs.Views as views;
+ghost use Rattle.stage_event.specs.Events as spec;
+
+use crate::due::{reply_due, request_due};
+use crate::event::{Event, ObjectRef};
+use crate::facts::{Facts, Kept};
+use front_base::{Bytes, Info, Level, Moment, NoMemory, Stage};
+use std::alloc::Global;
+
+fn object_of(alloc: Global, kept: &Kept) -> Result<Option<Bytes>, NoMemory>
+    ensures { IfOk result (λ object. object ≡ spec.object kept.now) }
+{
+    match kept {
+        Kept::Compact(text) => Ok(Some(text.copy(alloc)?)),
+        _ => Ok(None),
+    }
+}
+
+fn shown_object(alloc: Global, shows: bool, kept: &Kept) -> Result<Option<Bytes>, NoMemory>
+    ensures { IfOk result (λ object. object ≡ spec.object (views.shown_if shows kept.now)) }
+{
+    if shows {
+        object_of(alloc, kept)
+    } else {
+        Ok(None)
+    }
+}
+
+fn request_object(
+    alloc: Global,
+    stage: Stage,
+    level: Level,
+    facts: &Facts,
+) -> Result<Option<Bytes>, NoMemory>
+    ensures { IfOk result (λ object.
+        object ≡ spec.request_object stage (views.shown_if (request_due level facts.now.info) facts.now.request)) }
+{
+    match stage {
+        Stage::RequestReceived => Ok(None),
+        _ => shown_object(alloc, request_due(level, &facts.info), &facts.request),
+    }
+}
+
+fn response_object(
+    alloc: Global,
+    stage: Stage,
+    level: Level,
+    facts: &Facts,
+) -> Result<Option<Bytes>, NoMemory>
+    ensures { IfOk result (λ object.
+        object ≡ spec.response_object stage (views.shown_if (reply_due level facts.now.info) facts.now.reply)) }
+{
+    match stage {
+        Stage::ResponseComplete => {
+            shown_object(alloc, reply_due(level, &facts.info), &facts.reply)
+        }
+        _ => Ok(None),
+    }
+}
+
+fn code(stage: Stage, status: u16) -> Option<u16>
+    ensures { result ≡ spec.code stage status }
+{
+    match stage {
+        Stage::RequestReceived => None,
+        _ => Some(status),
+    }
+}
+
+fn started(facts: &Facts) -> Moment
+    ensures { result ≡ views.started facts.now }
+{
+    if facts.info.is_long_running() {
+        facts.started
+    } else {
+        Moment::epoch()
+    }
+}
+
+fn moment(stage: Stage, facts: &Facts) -> Moment
+    ensures { result ≡ spec.moment stage facts.now.received (views.started facts.now) facts.now.complete }
+{
+    match stage {
+        Stage::RequestReceived => facts.received,
+        Stage::ResponseStarted => started(facts),
+        Stage::ResponseComplete | Stage::Panic => facts.complete,
+    }
+}
+
+fn is_named(info: &Info) -> bool
+    ensures { result ≡ spec.is_named (spec.reference info.now) }
+{
+    !(info.resource.as_str().is_empty()
+        && info.namespace.as_str().is_empty()
+        && info.name.as_str().is_empty()
+        && info.group.as_str().is_empty()
+        && info.version.as_str().is_empty()
+        && info.subresource.as_str().is_empty())
+}
+
+fn reference(alloc: Global, info: &Info) -> Result<ObjectRef, NoMemory>
+    ensures { IfOk result (λ reference. reference ≡ spec.reference info.now) }
+{
+    Ok(ObjectRef {
+        resource: info.resource.copy(alloc)?,
+        namespace: info.namespace.copy(alloc)?,
+        name: info.name.copy(alloc)?,
+        group: info.group.copy(alloc)?,
+        version: info.version.copy(alloc)?,
+        subresource: info.subresource.copy(alloc)?,
+    })
+}
+
+fn object_ref(alloc: Global, info: &Info) -> Result<Option<ObjectRef>, NoMemory>
+    ensures { IfOk result (λ named. named ≡ spec.object_ref info.now) }
+{
+    if info.resource_request && is_named(info) {
+        Ok(Some(reference(alloc, info)?))
+    } else {
+        Ok(None)
+    }
+}
+
+/// The event of a request at a stage, as its level records it. It isn't truncated.
+pub fn event_at(alloc: Global, stage: Stage, level: Level, facts: &Facts) -> Result<Event, NoMemory>
+    requires level { level ≢ Level.None }
+    requires stage { stage ≢ Stage.Panic }
+    ensures { IfOk result (λ event. event ≡ spec.event stage level facts.now) }
+{
+    Ok(Event {
+        level,
+        id: facts.id,
+        stage,
+        target: facts.target.copy(alloc)?,
+        verb: facts.info.verb.copy(alloc)?,
+        user: facts.user.copy(alloc)?,
+        impersonated: None,
+        peer: facts.peer,
+        agent: facts.agent.copy(alloc)?,
+        object_ref: object_ref(alloc, &facts.info)?,
+        code: code(stage, facts.status),
+        request_object: request_object(alloc, stage, level, facts)?,
+        response_object: response_object(alloc, stage, level, facts)?,
+        received: facts.received,
+        at: moment(stage, facts),
+        truncated: false,
+    })
+}
