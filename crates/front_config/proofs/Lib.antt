@@ -1,0 +1,5 @@
+mod DigitLemmas
+mod FaultLemmas
+mod LoadLemmas
+mod OptionLemmas
+mod SpellingLemmas

@@ -1,0 +1,16 @@
+use Rattle.std.proofs.Common.{◌≡◌, map, string_bytes, Ok}
+use Rattle.front_config.specs.Spelling.{all_named}
+use Rattle.front_config.specs.Words.{explain_of, explain_names, given_of, explain_by}
+use Rattle.front_config.proofs.FaultLemmas.{fails_first}
+use Rattle.front_config.proofs.words.explain_of.Goals as goal
+
+pub returns-in-Ok : goal.returns-in-Ok
+unfolding explain_of
+returns-in-Ok c =
+    let e : given_of explain_names (map string_bytes c.args.words.now) ≡ Ok (all_named c.in-Ok.options.items) = c.in-Ok.ensures in
+    rw e (rw c.as_slice.ensures.value at c.explain_by.ensures)
+
+pub returns-in-Err : goal.returns-in-Err
+unfolding explain_of
+returns-in-Err c =
+    fails_first c.in-Err.fault (given_of explain_names (map string_bytes c.args.words.now)) explain_by c.in-Err.ensures

@@ -1,0 +1,3 @@
+pub mod Load
+pub mod Spelling
+pub mod Words

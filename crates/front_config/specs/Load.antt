@@ -1,0 +1,111 @@
+-- What the files of a configuration give.
+use Rattle.std.specs.Prelude.{◌≡◌, ℕ, ◌≤◌, List, [], length, Option, Some, None, Result, Ok, Err, ⊤}
+use Rattle.front_ports.specs.Cause.{Rose}
+use Rattle.front_ports.specs.FileMap.{HasFile, HasLongFile, Notes}
+use Rattle.front_ports.specs.declared.files.TheConstants.{MOST_FILE_BYTES}
+use Rattle.front_ports.specs.declared.files.FileFail.{FileFail}
+use Rattle.front_ports.specs.declared.files.FileFail.TheVariants as fail
+use Rattle.token_users.specs.File.{file_records}
+use Rattle.token_users.specs.declared.record.Record.{Record}
+use Rattle.token_users.specs.declared.fault.TokenFault.{TokenFault}
+use Rattle.token_users.specs.declared.fault.TokenFault.TheVariants as token
+use Rattle.policy_rules.specs.Policy.{all_metadata}
+use Rattle.policy_rules.specs.Reading.{read_policy}
+use Rattle.policy_rules.specs.declared.policy.Policy.{Policy}
+use Rattle.policy_rules.specs.declared.fault.PolicyFault.{PolicyFault}
+use Rattle.policy_rules.specs.declared.fault.PolicyFault.TheVariants as policy
+use Rattle.front_config.specs.declared.command.FileNames.{FileNames}
+use Rattle.front_config.specs.declared.files.Loaded.{Loaded}
+use Rattle.front_config.specs.declared.fault.FileFault.TheVariants.{TooLong, Token, PolicyFile}
+use Rattle.front_config.specs.declared.fault.LoadFault.{LoadFault}
+use Rattle.front_config.specs.declared.fault.LoadFault.TheVariants.{ReadFault, BadFile, NoMemory}
+use Rattle.front_config.specs.declared.fault.Which.{Which}
+use Rattle.front_config.specs.declared.fault.Which.TheVariants as file
+
+infixl 10 ◌>>=◌
+abbrev pub ◌>>=◌ : {A B : Type 0} → Result A LoadFault → (A → Result B LoadFault) → Result B LoadFault
+(Ok x) >>= f = f x
+(Err e) >>= f = Err e
+
+-- what a read of a file gives: its bytes, or why there are none
+abbrev pub Read : Type 0
+Read = Result (List ℕ) FileFail
+
+-- a read of the file of that name may have given this, the files being told. It may fail at any time
+abbrev pub IsRead : Option (List (List ℕ × List ℕ)) → Option (List ℕ) → Read → Type 0
+IsRead told None read = ⊤
+IsRead told (Some name) (Ok bytes) = HasFile told name bytes × (length bytes ≤ MOST_FILE_BYTES)
+IsRead told (Some name) (Err fail.TooLong) = HasLongFile told name
+IsRead told (Some name) (Err fail.Fault) = ⊤
+IsRead told (Some name) (Err fail.NoMemory) = ⊤
+
+-- the bytes of a file, none where no file is named
+abbrev pub bytes_in : Which → Option (List ℕ) → Read → Result (Option (List ℕ)) LoadFault
+bytes_in which None read = Ok None
+bytes_in which (Some name) (Ok bytes) = Ok (Some bytes)
+bytes_in which (Some name) (Err fail.Fault) = Err (ReadFault which)
+bytes_in which (Some name) (Err fail.TooLong) = Err (BadFile which TooLong)
+bytes_in which (Some name) (Err fail.NoMemory) = Err NoMemory
+
+abbrev pub token_answer : Result (List Record) TokenFault → Result (List Record) LoadFault
+token_answer (Ok records) = Ok records
+token_answer (Err (token.BadRow row)) = Err (BadFile file.Tokens (Token row))
+token_answer (Err token.NoMemory) = Err NoMemory
+
+-- the records of a token file, none where no file is named
+abbrev pub tokens_in : Option (List ℕ) → Result (List Record) LoadFault
+tokens_in None = Ok []
+tokens_in (Some bytes) = token_answer (file_records bytes)
+
+abbrev pub tokens_of : Option (List ℕ) → Read → Result (List Record) LoadFault
+tokens_of name read = bytes_in file.Tokens name read >>= tokens_in
+
+abbrev pub policy_answer : Result Policy PolicyFault → Result Policy LoadFault
+policy_answer (Ok rules) = Ok rules
+policy_answer (Err policy.NoMemory) = Err NoMemory
+policy_answer (Err fault) = Err (BadFile file.Policy (PolicyFile fault))
+
+-- the policy of a policy file; every request at level Metadata where no file is named
+abbrev pub policy_in : Option (List ℕ) → Result Policy LoadFault
+policy_in None = Ok all_metadata
+policy_in (Some bytes) = policy_answer (read_policy bytes)
+
+abbrev pub policy_of : Option (List ℕ) → Read → Result Policy LoadFault
+policy_of name read = bytes_in file.Policy name read >>= policy_in
+
+-- what the files that are named give, one after the other: the first that isn't read or is refused is the answer
+unfoldable pub load_of : FileNames → Read → Read → Result Loaded LoadFault
+load_of names tokens policy = do
+  records ← tokens_of names.tokens tokens
+  rules ← policy_of names.policy policy
+  Ok (record { tokens = records; policy = rules })
+
+-- ---- answers
+
+abbrev pub fault_of : {A : Type 0} → Result A LoadFault → Option LoadFault
+fault_of (Ok a) = None
+fault_of (Err fault) = Some fault
+
+-- a fault that is answered is the one that is due, unless memory ran out
+abbrev pub Fails : LoadFault → Option LoadFault → Type 0
+Fails (ReadFault which) due = due ≡ Some (ReadFault which)
+Fails (BadFile which fault) due = due ≡ Some (BadFile which fault)
+Fails NoMemory due = Unit {0}
+
+-- what is answered is what is due, unless memory ran out
+abbrev pub Gives : {A : Type 0} → Result A LoadFault → Result A LoadFault → Type 0
+Gives (Ok a) due = due ≡ Ok a
+Gives (Err fault) due = Fails fault (fault_of due)
+
+-- the name that the words give for a file
+abbrev pub name_for : FileNames → Which → Option (List ℕ)
+name_for names file.Tokens = names.tokens
+name_for names file.Policy = names.policy
+
+-- only where the count of faults rose is a file said not to be read, and the name told then is that of this file.
+-- Otherwise what is told of the last failure stays
+abbrev pub HasCause : {A : Type 0} → FileNames → ℕ → ℕ → Option (Option (List ℕ)) → Option (Option (List ℕ)) → Result A LoadFault → Type 0
+HasCause names before after failed now (Err (ReadFault which)) = Rose before after × Notes failed now (name_for names which)
+HasCause names before after failed now (Err (BadFile which fault)) = now ≡ failed
+HasCause names before after failed now (Err NoMemory) = now ≡ failed
+HasCause names before after failed now (Ok a) = now ≡ failed

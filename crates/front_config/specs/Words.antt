@@ -1,0 +1,105 @@
+-- The command lines of the program.
+use Rattle.std.specs.Prelude.{◌≡◌, ℕ, ◌&&◌, not, nat_lt, Bool, true, if◌then◌else◌, List, [], ◌∷◌, length, Option, Some, None, Result, Ok, Err, codes}
+use Rattle.std.specs.List.{list_any}
+use Rattle.std.specs.Str.{bytes_eq}
+use Rattle.front_base.specs.Number as base
+use Rattle.front_base.specs.declared.moment.TheConstants.{MOMENT_END}
+use Rattle.front_config.specs.Spelling.{Named, options_of}
+use Rattle.front_config.specs.declared.command.Command.{Command}
+use Rattle.front_config.specs.declared.command.Command.TheVariants.{Explain}
+use Rattle.front_config.specs.declared.command.ExplainWords.{ExplainWords}
+use Rattle.front_config.specs.declared.command.FileNames.{FileNames}
+use Rattle.front_config.specs.declared.fault.WordsFault.{WordsFault}
+use Rattle.front_config.specs.declared.fault.WordsFault.TheVariants.{Usage, Limits, NoMemory}
+
+infixl 10 ◌>>=◌
+abbrev pub ◌>>=◌ : {A B : Type 0} → Result A WordsFault → (A → Result B WordsFault) → Result B WordsFault
+(Ok x) >>= f = f x
+(Err e) >>= f = Err e
+
+abbrev pub usage_or : {A : Type 0} → Option A → Result A WordsFault
+usage_or None = Err Usage
+usage_or (Some a) = Ok a
+
+-- ---- options by their names
+
+abbrev pub has_name : List ℕ → List Named → Bool
+has_name name given = list_any (λ option. bytes_eq option.0 name) given
+
+-- no name is given twice
+abbrev pub are_distinct : List Named → Bool
+are_distinct [] = true
+are_distinct (option ∷ others) = not (has_name option.0 others) && are_distinct others
+
+abbrev pub if_distinct : Option (List Named) → Option (List Named)
+if_distinct None = None
+if_distinct (Some given) = if are_distinct given then Some given else None
+
+-- the options of a command, each given once at most
+unfoldable pub given_of : List (List ℕ) → List (List ℕ) → Result (List Named) WordsFault
+given_of names words = usage_or (if_distinct (options_of names words))
+
+-- the value of the option of that name
+abbrev pub value_of : List ℕ → List Named → Option (List ℕ)
+value_of name [] = None
+value_of name (option ∷ others) = if bytes_eq option.0 name then Some option.1 else value_of name others
+
+-- 1 to 20 digits whose number fits 64 bits
+unfoldable pub number_of : List ℕ → Option ℕ
+number_of text = if nat_lt 20 (length text) then None else base.number_of text
+
+abbrev pub number_or : ℕ → Option (List ℕ) → Result ℕ WordsFault
+number_or default None = Ok default
+number_or default (Some text) = usage_or (number_of text)
+
+-- ---- commands
+
+-- the options of `explain`
+abbrev pub explain_names : List (List ℕ)
+explain_names = codes "token-auth-file" ∷ codes "audit-policy-file" ∷ codes "moment" ∷ []
+
+abbrev pub file_names : List Named → FileNames
+file_names given = record {
+  tokens = value_of (codes "token-auth-file") given;
+  policy = value_of (codes "audit-policy-file") given;
+}
+
+-- a moment is below the year 9999 in UTC
+abbrev pub moment_of : ℕ → Result ℕ WordsFault
+moment_of micros = if nat_lt micros MOMENT_END then Ok micros else Err (Limits (codes "moment"))
+
+-- what `explain` is told by its options; numbers are read before their ranges are looked at
+unfoldable pub explain_by : List Named → Result ExplainWords WordsFault
+explain_by given = do
+  micros ← number_or 0 (value_of (codes "moment") given)
+  moment ← moment_of micros
+  Ok (record { files = file_names given; moment = moment })
+
+unfoldable pub explain_of : List (List ℕ) → Result ExplainWords WordsFault
+explain_of words = given_of explain_names words >>= explain_by
+
+abbrev pub explained : Result ExplainWords WordsFault → Result Command WordsFault
+explained (Ok words) = Ok (Explain words)
+explained (Err fault) = Err fault
+
+-- the command that words ask for: the word of the command, and its options
+unfoldable pub command_of : List (List ℕ) → Result Command WordsFault
+command_of [] = Err Usage
+command_of (word ∷ words) = if bytes_eq word (codes "explain") then explained (explain_of words) else Err Usage
+
+-- ---- answers
+
+abbrev pub fault_of : {A : Type 0} → Result A WordsFault → Option WordsFault
+fault_of (Ok a) = None
+fault_of (Err fault) = Some fault
+
+-- a fault that is answered is the one that is due, unless memory ran out
+abbrev pub Fails : WordsFault → Option WordsFault → Type 0
+Fails Usage due = due ≡ Some Usage
+Fails (Limits name) due = due ≡ Some (Limits name)
+Fails NoMemory due = Unit {0}
+
+-- what is answered, seen by view, is what is due, unless memory ran out
+abbrev pub Gives : {A B : Type 0} → (A → B) → Result A WordsFault → Result B WordsFault → Type 0
+Gives view (Ok a) due = due ≡ Ok (view a)
+Gives view (Err fault) due = Fails fault (fault_of due)

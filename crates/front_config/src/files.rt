@@ -1,0 +1,147 @@
+// The files of a configuration.
+ghost use Rattle.std.specs.Prelude.{◌≡◌, ◌≤◌, IfOk, IfSome, length, option_map};
+ghost use Rattle.front_ports.specs.FileMap.{KeepsFiles};
+ghost use Rattle.front_config.specs.Load as spec;
+
+use crate::command::FileNames;
+use crate::fault::{FileFault, LoadFault, Which};
+use front_base::{Bytes, Text};
+use front_ports::{FileFail, Files, MOST_FILE_BYTES};
+use policy_rules::{Policy, PolicyFault, read_policy};
+use std::alloc::Global;
+use token_users::{TokenFault, Tokens, read_tokens};
+
+/// What the files of a configuration say.
+#[derive(Drop)]
+pub struct Loaded {
+    /// Those of the token file; none where no file is named.
+    pub tokens: Tokens,
+    /// That of the policy file; `Policy::all_metadata` where no file is named.
+    pub policy: Policy,
+}
+
+fn name_for(names: &FileNames, which: Which) -> Option<&Text>
+    ensures { option_map (λ name. name.now) result ≡ spec.name_for names.now which }
+{
+    match which {
+        Which::Tokens => names.tokens.as_ref(),
+        Which::Policy => names.policy.as_ref(),
+    }
+}
+
+// The bytes of a file, none where no file is named.
+fn bytes_of<F: Files>(
+    alloc: Global,
+    names: &FileNames,
+    which: Which,
+    files: &mut F,
+) -> Result<Option<Bytes>, LoadFault>
+    ensures bytes { (read : spec.Read)
+        × spec.IsRead (F.files files.old) (spec.name_for names.now which) read
+        × spec.Gives result (spec.bytes_in which (spec.name_for names.now which) read) }
+    ensures short { IfOk result (λ found. IfSome found (λ bytes. length bytes ≤ MOST_FILE_BYTES)) }
+    ensures cause { spec.HasCause names.now (F.faults files.old) (F.faults files.new)
+        (F.failed files.old) (F.failed files.new) result }
+    ensures kept { KeepsFiles (F.files files.old) (F.files files.new) }
+    ensures later { F.faults files.old ≤ F.faults files.new }
+{
+    let Some(name) = name_for(names, which) else {
+        return Ok(None);
+    };
+    match files.read(alloc, name.as_str()) {
+        Ok(bytes) => Ok(Some(bytes)),
+        Err(FileFail::Fault) => Err(LoadFault::ReadFault { which }),
+        Err(FileFail::TooLong) => Err(LoadFault::BadFile {
+            which,
+            fault: FileFault::TooLong,
+        }),
+        Err(FileFail::NoMemory) => Err(LoadFault::NoMemory),
+    }
+}
+
+fn tokens_in(alloc: Global, bytes: Option<Bytes>) -> Result<Tokens, LoadFault>
+    requires { IfSome bytes (λ bytes. length bytes ≤ MOST_FILE_BYTES) }
+    ensures { spec.Gives result (spec.tokens_in bytes) }
+{
+    let Some(bytes) = bytes else {
+        return Ok(Tokens::new(alloc, Vec::new(alloc))?);
+    };
+    match read_tokens(alloc, bytes.as_slice()) {
+        Ok(tokens) => Ok(tokens),
+        Err(TokenFault::BadRow { row }) => Err(LoadFault::BadFile {
+            which: Which::Tokens,
+            fault: FileFault::Token(row),
+        }),
+        Err(TokenFault::NoMemory) => Err(LoadFault::NoMemory),
+    }
+}
+
+fn tokens_of<F: Files>(alloc: Global, names: &FileNames, files: &mut F) -> Result<Tokens, LoadFault>
+    ensures loaded { (read : spec.Read)
+        × spec.IsRead (F.files files.old) names.now.tokens read
+        × spec.Gives result (spec.tokens_of names.now.tokens read) }
+    ensures cause { spec.HasCause names.now (F.faults files.old) (F.faults files.new)
+        (F.failed files.old) (F.failed files.new) result }
+    ensures kept { KeepsFiles (F.files files.old) (F.files files.new) }
+    ensures later { F.faults files.old ≤ F.faults files.new }
+{
+    match bytes_of(alloc, names, Which::Tokens, files) {
+        Ok(bytes) => tokens_in(alloc, bytes),
+        Err(fault) => Err(fault),
+    }
+}
+
+fn policy_in(alloc: Global, bytes: Option<Bytes>) -> Result<Policy, LoadFault>
+    ensures { spec.Gives result (spec.policy_in bytes) }
+{
+    let Some(bytes) = bytes else {
+        return Ok(Policy::all_metadata(alloc)?);
+    };
+    match read_policy(alloc, bytes.as_slice()) {
+        Ok(policy) => Ok(policy),
+        Err(PolicyFault::NoMemory) => Err(LoadFault::NoMemory),
+        Err(fault) => Err(LoadFault::BadFile {
+            which: Which::Policy,
+            fault: FileFault::PolicyFile(fault),
+        }),
+    }
+}
+
+fn policy_of<F: Files>(alloc: Global, names: &FileNames, files: &mut F) -> Result<Policy, LoadFault>
+    ensures loaded { (read : spec.Read)
+        × spec.IsRead (F.files files.old) names.now.policy read
+        × spec.Gives result (spec.policy_of names.now.policy read) }
+    ensures cause { spec.HasCause names.now (F.faults files.old) (F.faults files.new)
+        (F.failed files.old) (F.failed files.new) result }
+    ensures kept { KeepsFiles (F.files files.old) (F.files files.new) }
+    ensures later { F.faults files.old ≤ F.faults files.new }
+{
+    match bytes_of(alloc, names, Which::Policy, files) {
+        Ok(bytes) => policy_in(alloc, bytes),
+        Err(fault) => Err(fault),
+    }
+}
+
+/// What the named files say. They are read and checked one after the other, in the order of `Which`, and the first
+/// refusal is the answer.
+pub fn load<F: Files>(alloc: Global, names: &FileNames, files: &mut F) -> Result<Loaded, LoadFault>
+    ensures loaded { (tokens : spec.Read) × (policy : spec.Read)
+        × spec.IsRead (F.files files.old) names.now.tokens tokens
+        × spec.IsRead (F.files files.old) names.now.policy policy
+        × spec.Gives result (spec.load_of names.now tokens policy) }
+    ensures cause { spec.HasCause names.now (F.faults files.old) (F.faults files.new)
+        (F.failed files.old) (F.failed files.new) result }
+
+    // Told files stay, and the count of faults doesn't fall.
+    ensures kept { KeepsFiles (F.files files.old) (F.files files.new) }
+    ensures later { F.faults files.old ≤ F.faults files.new }
+{
+    let tokens = match tokens_of(alloc, names, files) {
+        Ok(tokens) => tokens,
+        Err(fault) => return Err(fault),
+    };
+    match policy_of(alloc, names, files) {
+        Ok(policy) => Ok(Loaded { tokens, policy }),
+        Err(fault) => Err(fault),
+    }
+}

@@ -1,0 +1,80 @@
+// The commands of the program.
+ghost use Rattle.std.specs.Prelude.{◌≡◌, IfOk, Some, map, string_bytes};
+ghost use Rattle.front_config.specs.Spelling.{all_named};
+ghost use Rattle.front_config.specs.Words as spec;
+ghost use Rattle.front_config.specs.declared.fault.WordsFault.TheVariants.{Limits};
+
+use crate::command::{Command, ExplainWords, FileNames};
+use crate::fault::WordsFault;
+use crate::given::{given_of, number_or, text_of};
+use crate::spelling::Given;
+use front_base::{Moment, NoMemory, Text};
+use std::alloc::Global;
+
+const TOKENS: &str = "token-auth-file";
+
+const POLICY: &str = "audit-policy-file";
+
+const MOMENT: &str = "moment";
+
+fn out_of_range(alloc: Global, name: &str) -> WordsFault
+    ensures { spec.Fails result (Some (Limits name.now)) }
+{
+    match Text::copy_of(alloc, name) {
+        Ok(name) => WordsFault::Limits { name },
+        Err(_) => WordsFault::NoMemory,
+    }
+}
+
+fn moment_of(alloc: Global, micros: u64) -> Result<Moment, WordsFault>
+    ensures { spec.Gives (λ v. v) result (spec.moment_of micros) }
+{
+    match Moment::new(micros) {
+        Some(moment) => Ok(moment),
+        None => Err(out_of_range(alloc, MOMENT)),
+    }
+}
+
+fn file_names(alloc: Global, options: &[Given]) -> Result<FileNames, NoMemory>
+    ensures { IfOk result (λ names. names ≡ spec.file_names (all_named options.now)) }
+{
+    Ok(FileNames {
+        tokens: text_of(alloc, TOKENS, options)?,
+        policy: text_of(alloc, POLICY, options)?,
+    })
+}
+
+#[tactic(auto, unfolding(crate::specs::Words::explain_by))]
+fn explain_by(alloc: Global, options: &[Given]) -> Result<ExplainWords, WordsFault>
+    ensures { spec.Gives (λ v. v) result (spec.explain_by (all_named options.now)) }
+{
+    let micros = number_or(0, MOMENT, options)?;
+    let moment = moment_of(alloc, micros)?;
+    let files = file_names(alloc, options)?;
+    Ok(ExplainWords { files, moment })
+}
+
+#[tactic(auto, unfolding(crate::specs::Words::explain_of))]
+fn explain_of(alloc: Global, words: &[String]) -> Result<ExplainWords, WordsFault>
+    ensures { spec.Gives (λ v. v) result (spec.explain_of (map string_bytes words.now)) }
+{
+    match given_of(alloc, &[TOKENS, POLICY, MOMENT], words) {
+        Ok(options) => explain_by(alloc, options.as_slice()),
+        Err(fault) => Err(fault),
+    }
+}
+
+/// What the words after the program's name ask for: the command's word first, and then its options in any order. An
+/// option with a value is one word `--NAME=VALUE`, or two words `--NAME` and `VALUE`, of which the second doesn't begin
+/// with a dash; no value is empty.
+#[tactic(auto, unfolding(crate::specs::Words::command_of))]
+pub fn read_words(alloc: Global, words: &Vec<String>) -> Result<Command, WordsFault>
+    ensures { spec.Gives (λ v. v) result (spec.command_of (map string_bytes words.now.items)) }
+{
+    match words.as_slice() {
+        [word, options @ ..] if word.as_str() == "explain" => {
+            Ok(Command::Explain(explain_of(alloc, options)?))
+        }
+        _ => Err(WordsFault::Usage),
+    }
+}
