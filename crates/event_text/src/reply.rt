@@ -1,5 +1,5 @@
 // The members that say how the request was answered, and the bodies.
-ghost use Rattle.std.specs.Prelude.{◌≡◌, [], ◌∷◌, ◌++◌, codes, IfOk};
+ghost use Rattle.std.specs.Prelude.{◌≡◌, [], ◌∷◌, ◌++◌, IfOk};
 ghost use Rattle.event_text.specs.Members.{behind};
 ghost use Rattle.event_text.specs.Line as spec;
 

@@ -1,5 +1,5 @@
 // The members that say when, and whether the bodies were taken out.
-ghost use Rattle.std.specs.Prelude.{◌≡◌, [], ◌∷◌, ◌++◌, codes, IfOk};
+ghost use Rattle.std.specs.Prelude.{◌≡◌, [], ◌∷◌, ◌++◌, IfOk};
 ghost use Rattle.front_base.specs.Moment as base;
 ghost use Rattle.event_text.specs.Members as members;
 ghost use Rattle.event_text.specs.Members.{behind};
