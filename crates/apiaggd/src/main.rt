@@ -2,20 +2,25 @@
 //! the handles of this process, and the status.
 #![tactic(auto)]
 
-use front_ports::MemFiles;
-use proxy_server::{ReaderSource, Status, WriterSink, run_desk};
+use proxy_server::{ReaderSource, Status, SystemFiles, WriterSink, run_desk};
 use std::process::ExitCode;
 use std::{env, io};
 
 const HELP: &str = "\
-apiaggd explains which audit events a request to a cluster API owes.
+apiaggd explains which audit events requests to a cluster API owe.
 
-Usage: apiaggd explain < REQUEST
+Usage: apiaggd explain [OPTION].. < REQUESTS
 
-explain    reads the head of one request from standard input, and writes the
-           audit event of each stage as a line of JSON to standard output
+explain    reads HTTP/1.1 requests from standard input, one after another, and
+           writes the audit event of each stage of each request as a line of
+           JSON to standard output
 
-Statuses: 0 done, 2 usage, 4 read fault, 6 no memory, 7 write fault, 9 input
+  --token-auth-file=FILE     the bearer tokens that are known, as CSV
+  --audit-policy-file=FILE   the audit policy, as JSON; else all is Metadata
+  --moment=MICROSECONDS      what the clock shows, since 1970; else 0
+
+Statuses: 0 done, 2 usage, 3 configuration, 4 read fault, 6 no memory,
+7 write fault, 8 numbers spent, 9 input
 ";
 
 const VERSION: &str = "apiaggd 0.1.0\n";
@@ -49,7 +54,7 @@ fn run(rt: &HostRuntime) -> Result<u8, Status> {
             Err(_) => Err(Status::WriteFault),
         };
     }
-    let mut files = MemFiles::new(Vec::new(rt.alloc()), Vec::new(rt.alloc()));
+    let mut files = SystemFiles::new(rt);
     let mut input = ReaderSource::new(rt.stdin());
     let mut out = WriterSink::new(rt.stdout());
     Ok(run_desk(rt.alloc(), &words, &mut files, &mut input, &mut out))

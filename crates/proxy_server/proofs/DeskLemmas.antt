@@ -1,44 +1,121 @@
--- Why an input is refused, and what of the lines a sink has.
-use Rattle.std.proofs.Common.{◌≡◌, ℕ, ◌+◌, ◌<◌, ◌≤◌, Bool, List, ◌++◌, length, Option, Some, None, subst, ap, ◌∙◌, arith, length-append}
-use Rattle.std.proofs.lemmas.List.{append-nil}
-use Rattle.std.specs.Io.KnownBytes.{Consumes, IsAtEnd}
-use Rattle.std.specs.Prelude.{IfSome}
-use Rattle.proxy_server.specs.Desk.{Ends, IsRefused}
-use Rattle.proxy_server.specs.Explain.{IsExplained, Owes}
+-- How a run ends by its words and files.
+use Rattle.std.proofs.Common.{◌≡◌, ℕ, ◌⊎◌, List, Option, Some, Result, Ok, Err, refl, inl, inr, ⊎_elim}
+use Rattle.front_ports.specs.Cause.{Rose}
+use Rattle.front_config.specs.Load as load
+use Rattle.front_config.specs.Load.{Read, IsRead, load_of}
+use Rattle.front_config.specs.Words as words
+use Rattle.front_config.specs.Words.{command_of}
+use Rattle.front_config.specs.declared.command.Command.TheVariants.{Explain}
+use Rattle.front_config.specs.declared.command.ExplainWords.{ExplainWords}
+use Rattle.front_config.specs.declared.fault.LoadFault.{LoadFault}
+use Rattle.front_config.specs.declared.fault.LoadFault.TheVariants as load_fault
+use Rattle.front_config.specs.declared.fault.WordsFault.{WordsFault}
+use Rattle.front_config.specs.declared.fault.WordsFault.TheVariants as words_fault
+use Rattle.front_config.specs.declared.files.Loaded.{Loaded}
+use Rattle.proxy_server.specs.Desk.{Told, Loads, IsRefused, Configures, Run, status_of_words, status_of_load}
+use Rattle.proxy_server.specs.Serving.{Serves}
 use Rattle.proxy_server.specs.Status.{code_of}
-use Rattle.proxy_server.specs.declared.input.TheConstants.{MOST_INPUT_BYTES}
+use Rattle.proxy_server.specs.declared.settings.Settings.{Settings}
 use Rattle.proxy_server.specs.declared.status.Status.{Status}
 use Rattle.proxy_server.specs.declared.status.Status.TheVariants.{Done, Usage, Configuration, ReadFault, PortFault, NoMemory, WriteFault, NumbersSpent, Input}
 
--- more bytes were read than an input may have
-pub refused_long : (read : List ℕ) → ((input : List ℕ) → MOST_INPUT_BYTES < length input → IsExplained input → ⊥)
-    → length read ≡ MOST_INPUT_BYTES + 1 → IsRefused read
-refused_long read law long = λ rest _ explained.
-    law (read ++ rest) (omega (arith, long, length-append read rest)) explained
+words_fault_is : {A : Type 0} (r : Result A WordsFault) (fault : WordsFault) → words.fault_of r ≡ Some fault → r ≡ Err fault
+words_fault_is (Ok a) fault e = absurd (cc e)
+words_fault_is (Err own) fault e = cc
 
--- all of it was read, and it owes nothing
-pub refused_whole : (read : List ℕ) → length read ≤ MOST_INPUT_BYTES → ((lines : List ℕ) → Owes read lines → ⊥) → IsRefused read
-refused_whole read short none = λ rest few explained.
-    let same : read ++ rest ≡ read = ap (λ r. read ++ r) (few short) ∙ append-nil read in
-    none explained.0 (subst (λ bytes. Owes bytes explained.0) same explained.1)
+load_fault_is : {A : Type 0} (r : Result A LoadFault) (fault : LoadFault) → load.fault_of r ≡ Some fault → r ≡ Err fault
+load_fault_is (Ok a) fault e = absurd (cc e)
+load_fault_is (Err own) fault e = cc
 
--- a told input that is refused is not explained
-refused_input : (left0 left : Option (List ℕ)) (input : List ℕ) → Consumes left0 left input
-    → (length input ≤ MOST_INPUT_BYTES → IsAtEnd left) → IsRefused input → IfSome left0 (λ bytes. IsExplained bytes → ⊥)
-refused_input None left input taken ended refused = tt
-refused_input (Some bytes) None input taken ended refused = absurd taken
-refused_input (Some bytes) (Some rest) input taken ended refused = λ explained.
-    refused rest ended (subst IsExplained taken explained)
+-- words that are no command are refused so
+pub words_refused : (line : List (List ℕ)) (told : Told) (failed0 failed : Option (Option (List ℕ))) (FilesRose : Type 0) (fault : WordsFault)
+    → words.Fails fault (words.fault_of (command_of line)) → IsRefused line told failed0 failed FilesRose (status_of_words fault)
+words_refused line told failed0 failed FilesRose words_fault.Usage h = words_fault_is (command_of line) words_fault.Usage h
+words_refused line told failed0 failed FilesRose (words_fault.Limits name) h =
+    inl (name, words_fault_is (command_of line) (words_fault.Limits name) h)
+words_refused line told failed0 failed FilesRose words_fault.NoMemory h = tt
 
-pub refused_is : (command : Bool) (R W : Type 0) (left0 left : Option (List ℕ)) (input output : List ℕ) (status : Status)
-    → Consumes left0 left input → Ends command R W (IsAtEnd left) input output status
-    → code_of status ≡ 9 → IfSome left0 (λ bytes. IsExplained bytes → ⊥)
-refused_is command R W left0 left input output Done taken h e = absurd (cc e)
-refused_is command R W left0 left input output Usage taken h e = absurd (cc e)
-refused_is command R W left0 left input output Configuration taken h e = absurd h
-refused_is command R W left0 left input output ReadFault taken h e = absurd (cc e)
-refused_is command R W left0 left input output PortFault taken h e = absurd h
-refused_is command R W left0 left input output NoMemory taken h e = absurd (cc e)
-refused_is command R W left0 left input output WriteFault taken h e = absurd (cc e)
-refused_is command R W left0 left input output NumbersSpent taken h e = absurd h
-refused_is command R W left0 left input output Input taken h e = refused_input left0 left input taken h.1 h.2
+-- what the reads of files gave
+abbrev pub loads_of : (line : List (List ℕ)) (told : Told) (explain : ExplainWords) (tokens policy : Read) (loaded : Result Loaded LoadFault)
+    → command_of line ≡ Ok (Explain explain) → IsRead told explain.files.tokens tokens → IsRead told explain.files.policy policy
+    → load_of explain.files tokens policy ≡ loaded → Loads line told loaded
+loads_of line told explain tokens policy loaded c t p l = record {
+  explain = explain;
+  command = c;
+  tokens = tokens;
+  policy = policy;
+  tokens_read = t;
+  policy_read = p;
+  load = l;
+}
+
+-- files that are not loaded are refused so
+pub load_refused : (line : List (List ℕ)) (told : Told) (failed0 failed : Option (Option (List ℕ))) (before after : ℕ) (explain : ExplainWords) (tokens policy : Read)
+    (fault : LoadFault) → command_of line ≡ Ok (Explain explain) → IsRead told explain.files.tokens tokens → IsRead told explain.files.policy policy
+    → load.Fails fault (load.fault_of (load_of explain.files tokens policy))
+    → load.HasCause {A = Loaded} explain.files before after failed0 failed (Err fault)
+    → IsRefused line told failed0 failed (Rose before after) (status_of_load fault)
+load_refused line told failed0 failed before after explain tokens policy (load_fault.ReadFault which) c t p h cause =
+    let e : load_of explain.files tokens policy ≡ Err (load_fault.ReadFault which) = load_fault_is _ _ h in
+    (cause.0, (which, loads_of line told explain tokens policy (Err (load_fault.ReadFault which)) c t p e, cause.1))
+load_refused line told failed0 failed before after explain tokens policy (load_fault.BadFile which fault) c t p h cause =
+    let e : load_of explain.files tokens policy ≡ Err (load_fault.BadFile which fault) = load_fault_is _ _ h in
+    inr (which, fault, loads_of line told explain tokens policy (Err (load_fault.BadFile which fault)) c t p e)
+load_refused line told failed0 failed before after explain tokens policy load_fault.NoMemory c t p h cause = tt
+
+-- ---- what the words alone decide
+
+module _ (line : List (List ℕ)) (told : Told) (failed0 failed : Option (Option (List ℕ))) (left0 left w0 w : Option (List ℕ)) (FilesRose ReadRose WriteRose : Type 0) where
+  usage_by : (status : Status) → code_of status ≡ 2 → IsRefused line told failed0 failed FilesRose status → command_of line ≡ Err words_fault.Usage
+  usage_by Usage e h = h
+  usage_by Done e h = absurd h
+  usage_by Configuration e h = absurd (cc e)
+  usage_by ReadFault e h = absurd (cc e)
+  usage_by PortFault e h = absurd h
+  usage_by NoMemory e h = absurd (cc e)
+  usage_by WriteFault e h = absurd h
+  usage_by NumbersSpent e h = absurd h
+  usage_by Input e h = absurd h
+
+  served_not : (set : Settings) (status : Status) → code_of status ≡ 2 → Serves set left0 left w0 w ReadRose WriteRose status → command_of line ≡ Err words_fault.Usage
+  served_not set Usage e h = absurd h
+  served_not set Done e h = absurd (cc e)
+  served_not set Configuration e h = absurd h
+  served_not set ReadFault e h = absurd (cc e)
+  served_not set PortFault e h = absurd h
+  served_not set NoMemory e h = absurd (cc e)
+  served_not set WriteFault e h = absurd (cc e)
+  served_not set NumbersSpent e h = absurd (cc e)
+  served_not set Input e h = absurd (cc e)
+
+  pub usage_is : (status : Status) → code_of status ≡ 2 → Run line told failed0 failed left0 left w0 w FilesRose ReadRose WriteRose status
+      → command_of line ≡ Err words_fault.Usage
+  usage_is status e run =
+      ⊎_elim
+      (λ (q : IsRefused line told failed0 failed FilesRose status × (left ≡ left0) × (w ≡ w0)). usage_by status e q.0)
+      (λ (q : (set : Settings) × Configures line told set × Serves set left0 left w0 w ReadRose WriteRose status). served_not q.0 status e q.2)
+      run
+
+  misused_by : (status : Status) → command_of line ≡ Err words_fault.Usage → IsRefused line told failed0 failed FilesRose status
+      → (code_of status ≡ 2) ⊎ (code_of status ≡ 6)
+  misused_by Usage e h = inl refl
+  misused_by Done e h = absurd h
+  misused_by Configuration e h =
+      ⊎_elim
+      (λ (q : (name : List ℕ) × (command_of line ≡ Err (words_fault.Limits name))). absurd (cc (e, q.1)))
+      (λ q. absurd (cc (e, q.2.command)))
+      h
+  misused_by ReadFault e h = absurd (cc (e, h.1.1.command))
+  misused_by PortFault e h = absurd h
+  misused_by NoMemory e h = inr refl
+  misused_by WriteFault e h = absurd h
+  misused_by NumbersSpent e h = absurd h
+  misused_by Input e h = absurd h
+
+  pub misused_is : (status : Status) → command_of line ≡ Err words_fault.Usage → Run line told failed0 failed left0 left w0 w FilesRose ReadRose WriteRose status
+      → (code_of status ≡ 2) ⊎ (code_of status ≡ 6)
+  misused_is status e run =
+      ⊎_elim
+      (λ (q : IsRefused line told failed0 failed FilesRose status × (left ≡ left0) × (w ≡ w0)). misused_by status e q.0)
+      (λ (q : (set : Settings) × Configures line told set × Serves set left0 left w0 w ReadRose WriteRose status). absurd (cc (e, q.1.loads.command)))
+      run

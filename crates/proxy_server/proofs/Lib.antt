@@ -1,5 +1,5 @@
 mod DeskLemmas
-mod ExplainLemmas
-mod InputLemmas
-mod LineLemmas
-mod PartsLemmas
+mod HeaderLemmas
+mod JudgeLemmas
+mod ListLemmas
+mod ServingLemmas

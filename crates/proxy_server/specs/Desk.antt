@@ -1,47 +1,76 @@
--- How a run of `explain` ends.
-use Rattle.std.specs.Prelude.{◌≡◌, ℕ, ◌+◌, ◌≤◌, Bool, true, false, List, [], ◌∷◌, ◌++◌, length, Option, codes}
-use Rattle.std.specs.Str.{bytes_eq}
-use Rattle.std.specs.Io.KnownBytes.{Appends, Consumes, IsAtEnd}
-use Rattle.proxy_server.specs.Explain.{IsExplained, Owes}
-use Rattle.proxy_server.specs.declared.input.TheConstants.{MOST_INPUT_BYTES}
+-- A run of the command `explain`: its words, the files that they name, and the requests of its input.
+use Rattle.std.specs.Prelude.{◌≡◌, ℕ, ◌⊎◌, List, Option, Result, Ok, Err}
+use Rattle.front_ports.specs.FileMap.{Notes}
+use Rattle.front_config.specs.Load.{Read, IsRead, load_of, name_for}
+use Rattle.front_config.specs.Words.{command_of}
+use Rattle.front_config.specs.declared.command.Command.TheVariants.{Explain}
+use Rattle.front_config.specs.declared.command.ExplainWords.{ExplainWords}
+use Rattle.front_config.specs.declared.fault.FileFault.{FileFault}
+use Rattle.front_config.specs.declared.fault.LoadFault.{LoadFault}
+use Rattle.front_config.specs.declared.fault.LoadFault.TheVariants as load_fault
+use Rattle.front_config.specs.declared.fault.Which.{Which}
+use Rattle.front_config.specs.declared.fault.WordsFault.{WordsFault}
+use Rattle.front_config.specs.declared.fault.WordsFault.TheVariants as words_fault
+use Rattle.front_config.specs.declared.files.Loaded.{Loaded}
+use Rattle.proxy_server.specs.Serving.{Serves}
+use Rattle.proxy_server.specs.declared.settings.Settings.{Settings}
 use Rattle.proxy_server.specs.declared.status.Status.{Status}
-use Rattle.proxy_server.specs.declared.status.Status.TheVariants.{Done, Usage, ReadFault, NoMemory, WriteFault, Input}
+use Rattle.proxy_server.specs.declared.status.Status.TheVariants.{Usage, Configuration, ReadFault, NoMemory}
 
--- the one command line, of the one word `explain`
-abbrev pub is_explain : List (List ℕ) → Bool
-is_explain [] = false
-is_explain (word ∷ []) = bytes_eq word (codes "explain")
-is_explain (word ∷ next ∷ rest) = false
+-- files by their names, where they are told
+abbrev pub Told : Type 0
+Told = Option (List (List ℕ × List ℕ))
 
--- no input that begins with the bytes read is explained. There is nothing behind them where they are few enough
-abbrev pub IsRefused : List ℕ → Type 0
-IsRefused input = (rest : List ℕ) → (length input ≤ MOST_INPUT_BYTES → rest ≡ []) → IsExplained (input ++ rest) → ⊥
+-- the words are a command line, and reads of the files that it names, told as these, gave this
+pub record Loads (words : List (List ℕ)) (told : Told) (loaded : Result Loaded LoadFault) : Type 0 where
+  pub explain : ExplainWords
+  pub command : command_of words ≡ Ok (Explain explain)
+  pub tokens : Read
+  pub policy : Read
+  pub tokens_read : IsRead told explain.files.tokens tokens
+  pub policy_read : IsRead told explain.files.policy policy
+  pub load : load_of explain.files tokens policy ≡ loaded
 
--- the output is a front of the lines that the input owes
-pub record IsCut (input output : List ℕ) : Type 0 where
-  pub lines : List ℕ
-  pub owed : Owes input lines
-  pub missing : List ℕ
-  pub front : lines ≡ output ++ missing
+-- what words and files tell a run
+abbrev pub settings_of : ExplainWords → Loaded → Settings
+settings_of explain loaded = record { tokens = loaded.tokens; policy = loaded.policy; moment = explain.moment }
 
--- what each status says, the others being none that this command has. `command` tells whether the words are its command
--- line, `ReadRose` and `WriteRose` say that a count of faults rose, `AtEnd` that the input bytes are all of the input
-abbrev pub Ends : Bool → Type 0 → Type 0 → Type 0 → List ℕ → List ℕ → Status → Type 0
-Ends command ReadRose WriteRose AtEnd input output Done = (command ≡ true) × AtEnd × Owes input output
-Ends command ReadRose WriteRose AtEnd input output Usage = (command ≡ false) × (input ≡ []) × (output ≡ [])
-Ends command ReadRose WriteRose AtEnd input output ReadFault = (command ≡ true) × ReadRose × (output ≡ [])
-Ends command ReadRose WriteRose AtEnd input output NoMemory = (command ≡ true) × (output ≡ [])
-Ends command ReadRose WriteRose AtEnd input output WriteFault = (command ≡ true) × WriteRose × AtEnd × IsCut input output
-Ends command ReadRose WriteRose AtEnd input output Input =
-    (command ≡ true) × (length input ≤ MOST_INPUT_BYTES → AtEnd) × IsRefused input × (output ≡ [])
-Ends command ReadRose WriteRose AtEnd input output _ = ⊥
+-- the words are a command line, the files that it names are accepted, and together they tell this
+pub record Configures (words : List (List ℕ)) (told : Told) (set : Settings) : Type 0 where
+  pub loaded : Loaded
+  pub loads : Loads words told (Ok loaded)
+  pub are : set ≡ settings_of loads.explain loaded
 
--- a run: the bytes that it took from its source, those that it gave to its sink, and how it ended. `left` and `written`
--- are what source and sink tell, before the run and after it
-pub record Run (command : Bool) (left0 left written0 written : Option (List ℕ)) (ReadRose WriteRose : Type 0) (status : Status) : Type 0 where
-  pub input : List ℕ
-  pub taken : Consumes left0 left input
-  pub bounded : length input ≤ MOST_INPUT_BYTES + 1
-  pub output : List ℕ
-  pub given : Appends written0 written output
-  pub ends : Ends command ReadRose WriteRose (IsAtEnd left) input output status
+-- why a run ends before its input is read, by its status. `failed0` and `failed` are what the files told of their last
+-- failure before and after, and `FilesRose` says that their count of faults rose
+abbrev pub IsRefused : List (List ℕ) → Told → Option (Option (List ℕ)) → Option (Option (List ℕ)) → Type 0 → Status → Type 0
+IsRefused words told failed0 failed FilesRose Usage = command_of words ≡ Err words_fault.Usage
+IsRefused words told failed0 failed FilesRose Configuration =
+    ((name : List ℕ) × (command_of words ≡ Err (words_fault.Limits name)))
+    ⊎ ((which : Which) × (fault : FileFault) × Loads words told (Err (load_fault.BadFile which fault)))
+IsRefused words told failed0 failed FilesRose ReadFault =
+    FilesRose
+    × ((which : Which) × (loads : Loads words told (Err (load_fault.ReadFault which)))
+    × Notes failed0 failed (name_for loads.explain.files which))
+IsRefused words told failed0 failed FilesRose NoMemory = Unit {0}
+IsRefused words told failed0 failed FilesRose _ = ⊥
+
+-- a run: it is refused before it reads or writes anything, or the requests of its input are served. `left0`, `left`,
+-- `w0` and `w` are what source and sink told before and after, and the three types say that a count of faults rose
+abbrev pub Run : List (List ℕ) → Told → Option (Option (List ℕ)) → Option (Option (List ℕ)) → Option (List ℕ) → Option (List ℕ)
+    → Option (List ℕ) → Option (List ℕ) → Type 0 → Type 0 → Type 0 → Status → Type 0
+Run words told failed0 failed left0 left w0 w FilesRose ReadRose WriteRose status =
+    (IsRefused words told failed0 failed FilesRose status × (left ≡ left0) × (w ≡ w0))
+    ⊎ ((set : Settings) × Configures words told set × Serves set left0 left w0 w ReadRose WriteRose status)
+
+-- ---- the statuses of faults
+
+abbrev pub status_of_words : WordsFault → Status
+status_of_words words_fault.Usage = Usage
+status_of_words (words_fault.Limits name) = Configuration
+status_of_words words_fault.NoMemory = NoMemory
+
+abbrev pub status_of_load : LoadFault → Status
+status_of_load (load_fault.ReadFault which) = ReadFault
+status_of_load (load_fault.BadFile which fault) = Configuration
+status_of_load load_fault.NoMemory = NoMemory

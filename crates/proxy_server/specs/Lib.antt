@@ -1,7 +1,5 @@
 pub mod Adapters
 pub mod Desk
-pub mod EventLine
-pub mod Explain
-pub mod Input
-pub mod ListRequest
+pub mod Exchange
+pub mod Serving
 pub mod Status

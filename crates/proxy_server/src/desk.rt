@@ -1,69 +1,121 @@
 // The command `explain`.
-ghost use Rattle.std.specs.Prelude.{◌≡◌, ◌≤◌, ◌↔◌, false, map, string_bytes, IfSome};
+ghost use Rattle.std.specs.Prelude.{◌≡◌, ◌≤◌, ◌⊎◌, Err, IfErr, IfOk, map, string_bytes};
+ghost use Rattle.front_config.specs.Words.{Gives, command_of};
+ghost use Rattle.front_config.specs.declared.command.Command.TheVariants.{Explain};
+ghost use Rattle.front_config.specs.declared.fault.WordsFault.TheVariants as words_fault;
 ghost use Rattle.front_ports.specs.Cause.{Rose};
-ghost use Rattle.proxy_server.specs.Desk.{Run, is_explain};
-ghost use Rattle.proxy_server.specs.Explain.{IsExplained};
+ghost use Rattle.front_ports.specs.FileMap.{KeepsFiles};
+ghost use Rattle.proxy_server.specs.Desk as spec;
 ghost use Rattle.proxy_server.specs.Status.{code_of};
 ghost use Rattle.proxy_server.specs.declared.status.Status.{Status};
 
-use crate::explain::{explain, long_inputs_are_refused};
-use crate::input::{InputStop, read_input};
+use crate::serving::serve_requests;
+use crate::settings::Settings;
 use crate::status::Status;
-use front_ports::{ByteSink, Files, Source, write_all};
+use front_config::{Command, ExplainWords, LoadFault, Loaded, WordsFault, load, read_words};
+use front_ports::{ByteSink, Files, Source};
+use local_replies::LocalPaths;
 use std::alloc::Global;
 
-fn is_explain(words: &[String]) -> bool
-    ensures { result ≡ is_explain (map string_bytes words.now) }
+fn status_of_words(fault: &WordsFault) -> Status
+    ensures { result ≡ spec.status_of_words fault.now }
 {
-    match words {
-        [word] => word.as_str() == "explain",
-        _ => false,
+    match fault {
+        WordsFault::Usage => Status::Usage,
+        WordsFault::Limits { .. } => Status::Configuration,
+        WordsFault::NoMemory => Status::NoMemory,
+    }
+}
+
+fn status_of_load(fault: &LoadFault) -> Status
+    ensures { result ≡ spec.status_of_load fault.now }
+{
+    match fault {
+        LoadFault::ReadFault { .. } => Status::ReadFault,
+        LoadFault::BadFile { .. } => Status::Configuration,
+        LoadFault::NoMemory => Status::NoMemory,
+    }
+}
+
+// What the command is told, which is the only one that a command line can have here.
+fn explain_words(alloc: Global, words: &Vec<String>) -> Result<ExplainWords, WordsFault>
+    ensures { Gives Explain result (command_of (map string_bytes words.now.items)) }
+{
+    match read_words(alloc, words) {
+        Ok(Command::Explain(explain)) => Ok(explain),
+        Err(fault) => Err(fault),
+    }
+}
+
+fn settings_of(explain: ExplainWords, loaded: Loaded) -> Settings
+    ensures { result ≡ spec.settings_of explain loaded }
+{
+    Settings {
+        tokens: loaded.tokens,
+        policy: loaded.policy,
+        moment: explain.moment,
+    }
+}
+
+// What words and files tell a run, or why it is refused.
+fn configure<F: Files>(
+    alloc: Global,
+    words: &Vec<String>,
+    files: &mut F,
+) -> Result<Settings, Status>
+    ensures ok { IfOk result (spec.Configures (map string_bytes words.now.items) (F.files files.old)) }
+    ensures err { IfErr result (spec.IsRefused (map string_bytes words.now.items) (F.files files.old)
+        (F.failed files.old) (F.failed files.new) (Rose (F.faults files.old) (F.faults files.new))) }
+    ensures kept { KeepsFiles (F.files files.old) (F.files files.new) }
+    ensures later { F.faults files.old ≤ F.faults files.new }
+{
+    let explain = match explain_words(alloc, words) {
+        Ok(explain) => explain,
+        Err(fault) => return Err(status_of_words(&fault)),
+    };
+    match load(alloc, &explain.files, files) {
+        Ok(loaded) => Ok(settings_of(explain, loaded)),
+        Err(fault) => Err(status_of_load(&fault)),
     }
 }
 
 // The run, whose status the top call answers by its code.
-fn desk<S: Source, O: ByteSink>(
+fn desk<F: Files, S: Source, O: ByteSink>(
     alloc: Global,
-    words: &[String],
+    words: &Vec<String>,
+    files: &mut F,
     input: &mut S,
     out: &mut O,
 ) -> Status
-    ensures run { Run (is_explain (map string_bytes words.now))
+    ensures run { spec.Run (map string_bytes words.now.items) (F.files files.old)
+        (F.failed files.old) (F.failed files.new)
         (S.left input.old) (S.left input.new) (O.written out.old) (O.written out.new)
+        (Rose (F.faults files.old) (F.faults files.new))
         (Rose (S.read_faults input.old) (S.read_faults input.new))
         (Rose (O.write_faults out.old) (O.write_faults out.new)) result }
+    ensures kept { KeepsFiles (F.files files.old) (F.files files.new) }
+    ensures files_later { F.faults files.old ≤ F.faults files.new }
     ensures read_later { S.read_faults input.old ≤ S.read_faults input.new }
     ensures write_later { O.write_faults out.old ≤ O.write_faults out.new }
 {
-    if !is_explain(words) {
-        return Status::Usage;
-    }
-    let bytes = match read_input(alloc, input) {
-        Ok(bytes) => bytes,
-        Err(InputStop::ReadFault) => return Status::ReadFault,
-        Err(InputStop::TooLong) => {
-            long_inputs_are_refused();
-            return Status::Input;
-        }
-        Err(InputStop::NoMemory) => return Status::NoMemory,
+    let settings = match configure(alloc, words, files) {
+        Ok(settings) => settings,
+        Err(status) => return status,
     };
-    let lines = match explain(alloc, bytes.as_slice()) {
-        Ok(Some(lines)) => lines,
-        Ok(None) => return Status::Input,
-        Err(_) => return Status::NoMemory,
+    let Ok(paths) = LocalPaths::new(alloc) else {
+        return Status::NoMemory;
     };
-    match write_all(out, lines.as_bytes()) {
-        Ok(()) => Status::Done,
-        Err(_) => Status::WriteFault,
-    }
+    serve_requests(alloc, &settings, &paths, input, out)
 }
 
-/// The command `explain`: reads one request head and writes the audit lines that the request owes, each with a line feed.
+/// The command `explain`: reads the requests of an input and writes the audit lines that each of them owes, each with a
+/// line feed, under the policy and the tokens of the files that the words name.
 ///
-/// It answers the code of a `Status`: `Done`; `Usage` where the words, which are those after the program's name, are not
-/// the one word `explain`; `ReadFault` and `WriteFault` for a fault of the source or the sink; `Input` for an input that
-/// isn't explained; `NoMemory`. Before anything is written, the input is read to its end, of which at most
-/// `MOST_INPUT_BYTES` and one more are read.
+/// It answers the code of a `Status`: `Done` where the input was read to its end, or to a request that asks to close;
+/// `Usage` where the words, which are those after the program's name, are no command line; `Configuration` where an
+/// option is out of its range or a file says what can't be; `ReadFault` where a file or the input could not be read;
+/// `WriteFault`; `Input` where a request is refused, cut short, or for a path that is answered here; `NumbersSpent`
+/// after 2^48 requests; `NoMemory`. Memory is bounded by one request and the files.
 pub fn run_desk<F: Files, S: Source, O: ByteSink>(
     alloc: Global,
     words: &Vec<String>,
@@ -72,21 +124,24 @@ pub fn run_desk<F: Files, S: Source, O: ByteSink>(
     out: &mut O,
 ) -> u8
     ensures run { (status : Status) × (result ≡ code_of status)
-        × Run (is_explain (map string_bytes words.now.items))
+        × spec.Run (map string_bytes words.now.items) (F.files files.old)
+        (F.failed files.old) (F.failed files.new)
         (S.left input.old) (S.left input.new) (O.written out.old) (O.written out.new)
+        (Rose (F.faults files.old) (F.faults files.new))
         (Rose (S.read_faults input.old) (S.read_faults input.new))
         (Rose (O.write_faults out.old) (O.write_faults out.new)) status }
 
-    // The words alone decide on `Usage`, and the told input on `Input`, where nothing failed before.
-    ensures usage { (result ≡ code_of Status.Usage)
-        ↔ (is_explain (map string_bytes words.now.items) ≡ false) }
-    ensures refused { result ≡ code_of Status.Input
-        → IfSome (S.left input.old) (λ bytes. IsExplained bytes → ⊥) }
+    // The words alone decide on `Usage`.
+    ensures usage { result ≡ code_of Status.Usage
+        → command_of (map string_bytes words.now.items) ≡ Err words_fault.Usage }
+    ensures misused { command_of (map string_bytes words.now.items) ≡ Err words_fault.Usage
+        → (result ≡ code_of Status.Usage) ⊎ (result ≡ code_of Status.NoMemory) }
 
-    // The counts of faults don't fall, and no file is read.
+    // Told files stay, and the counts of faults don't fall.
+    ensures kept { KeepsFiles (F.files files.old) (F.files files.new) }
+    ensures files_later { F.faults files.old ≤ F.faults files.new }
     ensures read_later { S.read_faults input.old ≤ S.read_faults input.new }
     ensures write_later { O.write_faults out.old ≤ O.write_faults out.new }
-    ensures files { files.new ≡ files.old }
 {
-    desk(alloc, words.as_slice(), input, out).code()
+    desk(alloc, words, files, input, out).code()
 }

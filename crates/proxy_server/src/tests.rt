@@ -2,11 +2,23 @@ ghost use Rattle.std.specs.Prelude.{None, []};
 
 use crate::{ReaderSource, Status, WriterSink, run_desk};
 use front_base::Bytes;
-use front_ports::{ByteSink, MemBytes, MemConn, MemFiles, PortFault, Script, Source, write_all};
+use front_ports::{
+    ByteSink, FileFail, Files, MemBytes, MemConn, PortFault, Script, Source, write_all,
+};
 use std::alloc::{AllocError, Global};
 use std::test::Fail;
 
 const LIST_PODS: &str = "GET /api/v1/namespaces/a/pods HTTP/1.1\r\nHost: front\r\n\r\n";
+
+// Everything of namespaces `a` to `c` by what operators write most, and nothing of secrets.
+const POLICY: &str = "{\"kind\":\"Policy\",\"apiVersion\":\"audit.k8s.io/v1\",\"rules\":[\
+{\"level\":\"None\",\"resources\":[{\"group\":\"\",\"resources\":[\"secrets\"]}]},\
+{\"level\":\"Request\",\"resources\":[{\"group\":\"\",\"resources\":[\"configmaps\"]}]},\
+{\"level\":\"RequestResponse\",\"verbs\":[\"update\"]},\
+{\"level\":\"Metadata\",\"omitStages\":[\"RequestReceived\"],\"namespaces\":[\"b\"]},\
+{\"level\":\"Metadata\"}]}";
+
+const TOKENS: &str = "t1,ann,7,\"dev,ops\"\n";
 
 // How a run ended, and what it wrote.
 #[derive(Drop)]
@@ -24,26 +36,60 @@ fn words_of(alloc: Global, line: &str) -> Result<Vec<String>, AllocError> {
     Ok(words)
 }
 
-// A run over memory whose reads give at most `size` bytes, whose read `fails` fails, and whose output may have `room`
-// bytes.
+// A policy `p`, tokens `t`, and a file `bad` that is neither. It tells nothing.
+#[derive(Drop)]
+struct Shelf {
+    faults: u64,
+}
+
+impl Files for Shelf {
+    ghost files = { λ _. None };
+
+    ghost faults = { λ s. s.faults };
+
+    ghost failed = { λ _. None };
+
+    fn read(&mut self, alloc: Global, name: &str) -> Result<Bytes, FileFail> {
+        let text = match name {
+            "p" => POLICY,
+            "t" => TOKENS,
+            "bad" => "x",
+            _ => {
+                self.faults = self.faults.saturating_add(1);
+                return Err(FileFail::Fault);
+            }
+        };
+        if text.len() > 1000 {
+            return Err(FileFail::NoMemory);
+        }
+        Ok(Bytes::new(text.as_bytes().to_vec(alloc)?))
+    }
+}
+
+// A connection whose reads give at most `size` bytes and whose read `fails` fails.
+fn source(alloc: Global, input: &[u8], size: u32, fails: u64) -> Result<MemConn, Fail> {
+    let script = Script {
+        input: Bytes::new(input.to_vec(alloc)?),
+        room: 0,
+        sizes: vec![in alloc; size; 400]?,
+        read_fails: vec![in alloc; fails]?,
+        write_fails: Vec::new(alloc),
+    };
+    Ok(MemConn::new(alloc, [127, 0, 0, 1], script)?)
+}
+
+// A run over memory into `room` bytes.
 fn run_over_memory(
     alloc: Global,
     line: &str,
-    input: &str,
+    input: &[u8],
     size: u32,
     fails: u64,
     room: u64,
 ) -> Result<Ran, Fail> {
-    let script = Script {
-        input: Bytes::new(input.as_bytes().to_vec(alloc)?),
-        room: 0,
-        sizes: vec![in alloc; size; 64]?,
-        read_fails: vec![in alloc; fails]?,
-        write_fails: Vec::new(alloc),
-    };
-    let mut source = MemConn::new(alloc, [127, 0, 0, 1], script)?;
+    let mut source = source(alloc, input, size, fails)?;
     let mut out = MemBytes::new(alloc, room, Vec::new(alloc))?;
-    let mut files = MemFiles::new(Vec::new(alloc), Vec::new(alloc));
+    let mut files = Shelf { faults: 0 };
     let words = words_of(alloc, line)?;
     let status = run_desk(alloc, &words, &mut files, &mut source, &mut out);
     Ok(Ran {
@@ -76,131 +122,162 @@ fn a_list_request_owes_two_lines(rt: HostRuntime) -> Result<(), Fail> {
     assert_eq!(rt; complete.len(), 513);
     let lines = format!(in alloc; "{received}{complete}")?;
     for size in [0, 1, 7, 4096] {
-        let run = run_over_memory(alloc, "explain", LIST_PODS, size, 0, 2000)?;
+        let run = run_over_memory(alloc, "explain", LIST_PODS.as_bytes(), size, 0, 2000)?;
         assert_eq!(rt; run.status, 0, "at {size}");
         assert_eq!(rt; run.output.as_slice(), lines.as_bytes(), "at {size}");
     }
     Ok(())
 }
 
+// A command line, an input of which LF stands for CR LF, the status, and the lengths of the lines with their line feeds.
+// A line feed in a chunk's size line is CR LF too.
+const RUNS: &str = "\
+explain|GET /api/v1/namespaces/a/pods HTTP/1.0~~GET|0|468 513
+explain|GET /api/v1/namespaces/a/pods HTTP/1.1~connection: x, Close~~GET|0|468 513
+explain|GET /api/v1/namespaces/a/pods HTTP/1.1~~GET|9|468 513
+explain|GET /api/v1/namespaces/a/pods HTTP/1.2~~|9|
+explain|POST /api/v1/pods HTTP/1.1~Content-Length: 1~Content-Length: 2~~|9|
+explain|POST /api/v1/pods HTTP/1.1~Content-Length: 3145729~~|9|
+explain|POST /api/v1/pods HTTP/1.1~Content-Length: 9~~12345|9|
+explain|POST /api/v1/pods HTTP/1.1~Transfer-Encoding: chunked~~x|9|
+explain|~~|0|
+explain --moment=1735689600123456|GET /api/v1/namespaces/a/pods HTTP/1.1~~|0|468 513
+explain|GET /healthz HTTP/1.1~~|9|
+explain|GET /apis/apiregistration.k8s.io/v1/watch HTTP/1.1~Authorization: Bearer nobody~~|9|
+explain --token-auth-file=t|GET /api/v1/pods HTTP/1.1~Authorization: Bearer t1~~|0|446 491
+explain --token-auth-file t|GET /api/v1/pods HTTP/1.1~Authorization: Bearer nobody~~|0|374 419
+explain --audit-policy-file=p|POST /api/v1/namespaces/a/secrets HTTP/1.1~Content-Length: 7~~{\"a\":1}|0|
+explain --audit-policy-file=p|POST /api/v1/namespaces/a/pods HTTP/1.1~Content-Length: 7~~{\"a\":1}|0|470 515
+explain --audit-policy-file=p|POST /api/v1/namespaces/a/pods HTTP/1.1~Content-Length: 14~~{\"b\":\"longer\"}|0|470 515
+explain --audit-policy-file=p|GET /api/v1/namespaces/b/pods HTTP/1.1~~|0|513
+explain --moment=253370764799999999 --audit-policy-file p --token-auth-file=t||0|
+|GET / HTTP/1.1~~|2|
+serve|GET / HTTP/1.1~~|2|
+explain --routes|GET / HTTP/1.1~~|2|
+explain --moment -1||2|
+explain --moment=0 --moment=0||2|
+explain --moment=253370764800000000||3|
+explain --token-auth-file=bad||3|
+explain --audit-policy-file=bad||3|
+explain --audit-policy-file=none||4|
+explain --token-auth-file=none --audit-policy-file=bad||4|
+";
+
+// The lengths of lines, with spaces between.
+fn lengths_of(alloc: Global, output: &[u8]) -> Result<String, AllocError> {
+    let mut lengths = String::new(alloc);
+    for line in output.split_inclusive(|b| *b == b'\n') {
+        if !lengths.is_empty() {
+            lengths.push(' ')?;
+        }
+        let own = format!(in alloc; "{}", line.len())?;
+        lengths.push_str(own.as_str())?;
+    }
+    Ok(lengths)
+}
+
+fn input_of(alloc: Global, told: &str) -> Result<String, AllocError> {
+    let mut input = String::new(alloc);
+    for c in told.chars() {
+        if c == '~' {
+            input.push_str("\r\n")?;
+        } else {
+            input.push(c)?;
+        }
+    }
+    Ok(input)
+}
+
 #[test]
 fn each_run_ends_with_its_status(rt: HostRuntime) -> Result<(), Fail> {
-    let other = [
-        // No words, an unknown word, a word too many.
-        ("", LIST_PODS, 0, 2),
-        ("serve", LIST_PODS, 0, 2),
-        ("explain --routes", LIST_PODS, 0, 2),
-        // An empty input, and reads that fail.
-        ("explain", "", 0, 0),
-        ("explain", LIST_PODS, 1, 4),
-        ("explain", LIST_PODS, 2, 4),
-        // Inputs that aren't explained.
-        (
-            "explain",
-            "GET /api/v1/namespaces/a/pods HTTP/1.1\r\nHost: front\r\n",
-            0,
-            9,
-        ),
-        (
-            "explain",
-            "GET /api/v1/namespaces/a/pods HTTP/1.1\r\n\r\nx",
-            0,
-            9,
-        ),
-        (
-            "explain",
-            "GET /api/v1/namespaces/a/pods HTTP/1.2\r\n\r\n",
-            0,
-            9,
-        ),
-        (
-            "explain",
-            "POST /api/v1/namespaces/a/pods HTTP/1.1\r\n\r\n",
-            0,
-            9,
-        ),
-        (
-            "explain",
-            "GET /api/v1/namespaces/a/status HTTP/1.1\r\n\r\n",
-            0,
-            9,
-        ),
-        (
-            "explain",
-            "GET /api/v1/namespaces/a/finalize HTTP/1.1\r\n\r\n",
-            0,
-            9,
-        ),
-        (
-            "explain",
-            "GET /api/v1/namespaces//pods HTTP/1.1\r\n\r\n",
-            0,
-            9,
-        ),
-        (
-            "explain",
-            "GET /api/v1/namespaces/a/pods/ HTTP/1.1\r\n\r\n",
-            0,
-            9,
-        ),
-        (
-            "explain",
-            "GET /api/v1/namespaces/a/pods?watch=1 HTTP/1.1\r\n\r\n",
-            0,
-            9,
-        ),
-        (
-            "explain",
-            "GET /api/v1/namespaces/A/pods HTTP/1.1\r\n\r\n",
-            0,
-            9,
-        ),
-        ("explain", "GET /api/v1/nodes/a/pods HTTP/1.1\r\n\r\n", 0, 9),
-        (
-            "explain",
-            "GET /apis/v1/namespaces/a/pods HTTP/1.1\r\n\r\n",
-            0,
-            9,
-        ),
-        (
-            "explain",
-            "GET /api/v1/namespaces/a/pods HTTP/1.1\r\nauthorization: x\r\n\r\n",
-            0,
-            9,
-        ),
-        (
-            "explain",
-            "GET /api/v1/namespaces/a/pods HTTP/1.1\r\nContent-length: 0\r\n\r\n",
-            0,
-            9,
-        ),
-        (
-            "explain",
-            "GET /api/v1/namespaces/a/pods HTTP/1.1\r\nImpersonate-User: x\r\n\r\n",
-            0,
-            9,
-        ),
-        ("explain", "\r\n", 0, 9),
-    ];
-    for (line, input, fails, status) in other {
-        let run = run_over_memory(rt.alloc(), line, input, 40, fails, 2000)?;
-        assert_eq!(rt; run.status, status, "{line} on {input:?}");
-        assert!(rt; run.output.is_empty(), "{line} on {input:?}");
-    }
-    // A longer input than a head may be, and an output without room.
     let alloc = rt.alloc();
-    let mut long = String::new(alloc);
-    for _ in 0..5000 {
-        long.push_str("GET / HTTP/1.1\r\n")?;
+    for row in RUNS.lines() {
+        let parts: Vec<&str> = row.split('|').collect(alloc)?;
+        let [line, told, status, lengths] = parts.as_slice() else {
+            panic!(rt; "{row}");
+        };
+        let input = input_of(alloc, told)?;
+        let run = run_over_memory(alloc, line, input.as_bytes(), 40, 0, 4000)?;
+        let own = format!(in alloc; "{}", run.status)?;
+        assert_eq!(rt; own.as_str(), *status, "{row}");
+        assert_eq!(rt;
+            lengths_of(alloc, run.output.as_slice())?.as_str(),
+            *lengths,
+            "{row}"
+        );
     }
+    Ok(())
+}
+
+#[test]
+fn faults_leave_what_was_whole(rt: HostRuntime) -> Result<(), Fail> {
+    let alloc = rt.alloc();
+    let twice = format!(in alloc; "{LIST_PODS}{LIST_PODS}")?;
+    // The first request came before the read that fails, and a sink without room has a front of the lines.
+    let run = run_over_memory(alloc, "explain", twice.as_bytes(), 60, 2, 4000)?;
+    assert_eq!(rt; run.status, 4);
     assert_eq!(rt;
-        run_over_memory(alloc, "explain", long.as_str(), 4096, 0, 2000)?.status,
-        9
+        lengths_of(alloc, run.output.as_slice())?.as_str(),
+        "468 513"
     );
-    assert_eq!(rt;
-        run_over_memory(alloc, "explain", LIST_PODS, 40, 0, 980)?.status,
-        7
+    let run = run_over_memory(alloc, "explain", twice.as_bytes(), 60, 0, 980)?;
+    assert_eq!(rt; run.status, 7);
+    Ok(())
+}
+
+#[test]
+fn a_chunked_body_makes_one_event_however_it_is_cut(rt: HostRuntime) -> Result<(), Fail> {
+    let alloc = rt.alloc();
+    let input =
+        b"PUT /api/v1/namespaces/a/configmaps/c HTTP/1.1\r\nTransfer-Encoding: chunked\r\n\r\n\
+        4;x\r\n{ \"a\r\n7\r\n\": 0.50\r\n1\r\n}\r\n0\r\n\r\n";
+    let line = "explain --audit-policy-file=p";
+    let whole = run_over_memory(alloc, line, input.as_slice(), 4096, 0, 4000)?;
+    assert_eq!(rt; whole.status, 0);
+    let text = str::from_utf8(whole.output.as_slice()).map_err(|_| "text")?;
+    assert!(rt; text.contains("\"level\":\"Request\""));
+    assert!(rt; text.contains("\"requestObject\":{\"a\":0.50},\"requestReceivedTimestamp\""));
+    for size in [1, 2, 3, 5, 80, 90] {
+        let run = run_over_memory(alloc, line, input.as_slice(), size, 0, 4000)?;
+        assert_eq!(rt; run.output.as_slice(), whole.output.as_slice(), "at {size}");
+    }
+    Ok(())
+}
+
+#[test]
+fn a_refused_update_shows_its_reply(rt: HostRuntime) -> Result<(), Fail> {
+    let alloc = rt.alloc();
+    let put = b"PUT /api/v1/namespaces/a/pods/p HTTP/1.1\r\nUpgrade: x\r\n\r\n";
+    let run = run_over_memory(
+        alloc,
+        "explain --audit-policy-file=p",
+        put.as_slice(),
+        0,
+        0,
+        4000,
+    )?;
+    assert_eq!(rt; run.status, 0);
+    let text = str::from_utf8(run.output.as_slice()).map_err(|_| "text")?;
+    assert!(rt;
+        text.contains(
+            "\"responseStatus\":{\"metadata\":{},\"code\":501},\"responseObject\":\
+        {\"kind\":\"Status\",\"apiVersion\":\"v1\",\"metadata\":{},\"status\":\"Failure\",\"message\":\
+        \"the request is not served\",\"reason\":\"NotImplemented\",\"code\":501},"
+        )
     );
+    Ok(())
+}
+
+#[test]
+fn many_requests_come_in_one_input(rt: HostRuntime) -> Result<(), Fail> {
+    let alloc = rt.alloc();
+    let mut input = Vec::new(alloc);
+    for _ in 0..10000 {
+        input.extend_from_slice(LIST_PODS.as_bytes())?;
+    }
+    let run = run_over_memory(alloc, "explain", input.as_slice(), 65536, 0, 9_810_000)?;
+    assert_eq!(rt; run.status, 0);
+    assert_eq!(rt; run.output.len(), 9_810_000);
     Ok(())
 }
 
@@ -233,7 +310,7 @@ impl ByteSink for Trickle {
 #[test]
 fn a_write_that_fails_in_the_middle_leaves_a_front(rt: HostRuntime) -> Result<(), Fail> {
     let alloc = rt.alloc();
-    let whole = run_over_memory(alloc, "explain", LIST_PODS, 40, 0, 2000)?;
+    let whole = run_over_memory(alloc, "explain", LIST_PODS.as_bytes(), 40, 0, 2000)?;
     for (writes, status) in [(0, 7), (1, 7), (140, 7), (141, 0)] {
         let mut source = ReaderSource::new(LIST_PODS.as_bytes());
         let mut out = Trickle {
@@ -241,7 +318,7 @@ fn a_write_that_fails_in_the_middle_leaves_a_front(rt: HostRuntime) -> Result<()
             writes,
             faults: 0,
         };
-        let mut files = MemFiles::new(Vec::new(alloc), Vec::new(alloc));
+        let mut files = Shelf { faults: 0 };
         let words = words_of(alloc, "explain")?;
         let answer = run_desk(alloc, &words, &mut files, &mut source, &mut out);
         assert_eq!(rt; answer, status, "after {writes}");
@@ -260,7 +337,6 @@ fn a_write_that_fails_in_the_middle_leaves_a_front(rt: HostRuntime) -> Result<()
 
 #[test]
 fn readers_and_writers_are_ports(rt: HostRuntime) -> Result<(), Fail> {
-    let alloc = rt.alloc();
     let mut source = ReaderSource::new(b"abc".as_slice());
     let mut buf = [0u8; 2];
     assert_eq!(rt; source.read(&mut buf), Ok(2));

@@ -1,0 +1,102 @@
+// A run over the requests of an input, one after another.
+ghost use Rattle.std.specs.Prelude.{◌≡◌, ◌≤◌, OnErr, OnOk};
+ghost use Rattle.front_ports.specs.Cause.{Rose};
+ghost use Rattle.proxy_server.specs.Serving as spec;
+ghost use Rattle.front_ports.specs.Written.{AppendsFront};
+
+use crate::lines::{Added, add_lines};
+use crate::settings::Settings;
+use crate::status::Status;
+use front_ports::{ByteSink, PortFault, Source, write_all};
+use http_edge::{Edge, End, Stop, asks, requests_stay};
+use local_replies::LocalPaths;
+use std::alloc::Global;
+
+/// The most requests of one run, which is how many numbers an audit ID has.
+pub const MOST_REQUESTS: u64 = 281_474_976_710_656;
+
+// Lines are gathered until they have so many bytes, and written together.
+const WRITE_BYTES: usize = 65_536;
+
+fn status_of_stop(stop: Stop) -> Status
+    ensures { result ≡ spec.status_of_stop stop }
+{
+    match stop {
+        Stop::Refused(End::Ended | End::Asked) => Status::Done,
+        Stop::Refused(_) => Status::Input,
+        Stop::ReadFault => Status::ReadFault,
+        Stop::NoMemory => Status::NoMemory,
+    }
+}
+
+// Writes the last lines, and answers how the run ended.
+fn close<O: ByteSink>(out: &mut O, pending: &[u8], status: Status) -> Status
+    ensures closes { spec.Closes (O.written out.old) (O.written out.new) pending.now
+        (Rose (O.write_faults out.old) (O.write_faults out.new)) status result }
+    ensures later { O.write_faults out.old ≤ O.write_faults out.new }
+{
+    match write_all(out, pending) {
+        Ok(()) => status,
+        Err(_) => Status::WriteFault,
+    }
+}
+
+// Writes the lines where they have come to many.
+fn spill<O: ByteSink>(out: &mut O, pending: &mut Vec<u8>) -> Result<(), PortFault>
+    ensures ok { OnOk result (spec.Spilled (O.written out.old) (O.written out.new) pending.old.items pending.new.items) }
+    ensures err { OnErr result (AppendsFront (O.written out.old) (O.written out.new) pending.old.items) }
+    ensures rose { OnErr result (Rose (O.write_faults out.old) (O.write_faults out.new)) }
+    ensures later { O.write_faults out.old ≤ O.write_faults out.new }
+{
+    if pending.len() < WRITE_BYTES {
+        return Ok(());
+    }
+    write_all(out, pending.as_slice())?;
+    pending.clear();
+    Ok(())
+}
+
+/// Writes the audit lines of each request of the input, up to the end of its list of requests, or to one that is for a
+/// path which is answered here. Requests have the numbers from 0 on.
+pub fn serve_requests<S: Source, O: ByteSink>(
+    alloc: Global,
+    settings: &Settings,
+    paths: &LocalPaths,
+    input: &mut S,
+    out: &mut O,
+) -> Status
+    ensures run { spec.Serves settings.now (S.left input.old) (S.left input.new) (O.written out.old) (O.written out.new)
+        (Rose (S.read_faults input.old) (S.read_faults input.new))
+        (Rose (O.write_faults out.old) (O.write_faults out.new)) result }
+    ensures read_later { S.read_faults input.old ≤ S.read_faults input.new }
+    ensures write_later { O.write_faults out.old ≤ O.write_faults out.new }
+{
+    requests_stay();
+    let Ok(mut edge) = Edge::new(alloc) else {
+        return Status::NoMemory;
+    };
+    let mut pending = Vec::new(alloc);
+    let mut number = 0;
+    'serving: loop {
+        let request = match edge.next_request(alloc, input) {
+            Ok(request) => request,
+            Err(stop) => return close(out, pending.as_slice(), status_of_stop(stop)),
+        };
+        if number == MOST_REQUESTS {
+            return close(out, pending.as_slice(), Status::NumbersSpent);
+        }
+        match add_lines(alloc, settings, paths, number, &request, &mut pending) {
+            Added::Lines => {}
+            Added::Local => return close(out, pending.as_slice(), Status::Input),
+            Added::NoMemory => return close(out, pending.as_slice(), Status::NoMemory),
+        }
+        number += 1;
+        if asks(&request) {
+            return close(out, pending.as_slice(), Status::Done);
+        }
+        match spill(out, &mut pending) {
+            Ok(()) => {}
+            Err(_) => return Status::WriteFault,
+        }
+    }
+}

@@ -1,0 +1,78 @@
+// The files of the system.
+ghost use Rattle.std.specs.Prelude.{◌≤◌, IfOk, vec_len};
+
+use front_base::{Bytes, Text};
+use front_ports::{FileFail, Files, MOST_FILE_BYTES};
+use std::alloc::Global;
+use std::io::Read;
+use std::{fs, rt};
+
+/// Files by their paths. It counts the reads that fail, and keeps the path of the last one.
+#[derive(Drop)]
+pub struct SystemFiles<'r, R> {
+    rt: &'r R,
+    faults: u64,
+    failed: Option<Text>,
+}
+
+impl<'r, R: rt::Files> SystemFiles<'r, R> {
+    pub fn new(rt: &'r R) -> Self {
+        SystemFiles {
+            rt,
+            faults: 0,
+            failed: None,
+        }
+    }
+}
+
+// All bytes of a reader that has at most `MOST_FILE_BYTES`.
+fn read_all<R: Read>(alloc: Global, reader: &mut R) -> Result<Vec<u8>, FileFail>
+    ensures { IfOk result (λ bytes. vec_len bytes ≤ MOST_FILE_BYTES) }
+{
+    let mut bytes = Vec::new(alloc);
+    let mut buf = [0u8; 4096];
+    while (bytes.len() as u64) <= MOST_FILE_BYTES {
+        let Ok(count) = reader.read(&mut buf) else {
+            return Err(FileFail::Fault);
+        };
+        if count == 0 {
+            return Ok(bytes);
+        }
+        bytes.extend_from_slice(&buf[..count])?;
+    }
+    Err(FileFail::TooLong)
+}
+
+fn read_file<R: rt::Files>(alloc: Global, rt: &R, name: &str) -> Result<Vec<u8>, FileFail>
+    ensures { IfOk result (λ bytes. vec_len bytes ≤ MOST_FILE_BYTES) }
+{
+    match fs::open(rt, name) {
+        Ok(file) => {
+            let mut file = file;
+            read_all(alloc, &mut file)
+        }
+        Err(_) => Err(FileFail::Fault),
+    }
+}
+
+impl<'r, R: rt::Files> Files for SystemFiles<'r, R> {
+    ghost use Rattle.std.specs.Prelude.{Some, None};
+
+    ghost files = { λ _. None };
+
+    ghost faults = { λ f. f.faults };
+
+    ghost failed = { λ f. Some f.failed };
+
+    fn read(&mut self, alloc: Global, name: &str) -> Result<Bytes, FileFail> {
+        match read_file(alloc, self.rt, name) {
+            Ok(bytes) => Ok(Bytes::new(bytes)),
+            Err(FileFail::Fault) => {
+                self.failed = Some(Text::copy_of(alloc, name)?);
+                self.faults = self.faults.saturating_add(1);
+                Err(FileFail::Fault)
+            }
+            Err(fail) => Err(fail),
+        }
+    }
+}
