@@ -1,5 +1,5 @@
 -- What each change keeps of a table.
-use Rattle.std.proofs.Common.{◌≡◌, ℕ, ◌+◌, ◌<◌, ◌≤◌, Bool, true, false, List, length, Option, Some, None, refl, sym, ap, ◌∙◌, arith}
+use Rattle.std.proofs.Common.{◌≡◌, ℕ, ◌+◌, ◌<◌, ◌≤◌, Bool, true, false, List, length, Some, None, refl, arith}
 use Rattle.std.specs.Prelude.{is_some, nat_lt, if◌then◌else◌}
 use Rattle.std.proofs.lemmas.Bool.Decides.{nat_tests}
 use Rattle.apiservice_rows.specs.Row.{Row}
@@ -9,7 +9,6 @@ use Rattle.apiservice_table.specs.Order.{AllNamed, IsInOrder}
 use Rattle.apiservice_table.specs.Table.{row_named, with_row}
 use Rattle.apiservice_table.specs.declared.change.Change.{Change}
 use Rattle.apiservice_table.specs.declared.change.Change.TheVariants.{Create, Replace, Delete}
-use Rattle.apiservice_table.specs.declared.change.ChangeFault.{ChangeFault}
 use Rattle.apiservice_table.specs.declared.change.ChangeFault.TheVariants.{Exists, Missing, Full}
 use Rattle.apiservice_table.proofs.OrderLemmas.{order_with, order_without, named_with, named_without, length_with, length_without, length_over}
 

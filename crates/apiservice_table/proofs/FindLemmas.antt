@@ -1,6 +1,6 @@
 -- The row of a group and a version, by its name.
-use Rattle.std.proofs.Common.{◌≡◌, ℕ, suc, ◌+◌, ◌<◌, ◌≤◌, ◌==◌, Bool, true, false, List, [], ◌∷◌, ◌++◌, length, get_or, take, drop, Option, Some, None, Ok, Err, refl, sym, ap, subst, ◌∙◌, arith}
-use Rattle.std.specs.Prelude.{◌&&◌, ◌||◌, if◌then◌else◌}
+use Rattle.std.proofs.Common.{◌≡◌, ℕ, ◌<◌, ◌≤◌, Bool, true, false, List, [], ◌∷◌, ◌++◌, length, get_or, take, drop, Option, Some, None, Ok, Err, refl, sym, ap, subst, ◌∙◌, arith}
+use Rattle.std.specs.Prelude.{◌&&◌, if◌then◌else◌}
 use Rattle.std.specs.Cmp.Lexicographic.{slice_cmp}
 use Rattle.std.specs.Str.{bytes_eq}
 use Rattle.std.specs.Ordering.{nat_cmp, ordering_then}
@@ -51,7 +51,7 @@ rest_none (c ∷ rest) group e = absurd (omega (arith, e))
 
 -- ---- the row by its name
 
-both : (a b : Bool) → (a && b) ≡ true → (a ≡ true) × (b ≡ true)
+pub both : (a b : Bool) → (a && b) ≡ true → (a ≡ true) × (b ≡ true)
 both true b e = (refl, e)
 both false b e = absurd (cc e)
 
@@ -60,7 +60,7 @@ abbrev pub kept : List ℕ → List ℕ → Option Row → Option Row
 kept group version None = None
 kept group version (Some r) = if bytes_eq r.group group && bytes_eq r.version version then Some r else None
 
-equal_texts : (a b : List ℕ) → bytes_eq a b ≡ true → a ≡ b
+pub equal_texts : (a b : List ℕ) → bytes_eq a b ≡ true → a ≡ b
 equal_texts a b e = (bytes_eq-Decides a b).0 e
 
 same_text : (a b : List ℕ) → a ≡ b → bytes_eq a b ≡ true

@@ -1,5 +1,6 @@
 pub mod ChangeLemmas
 pub mod FindLemmas
+pub mod IndexLemmas
 pub mod ManyLemmas
 pub mod OrderLemmas
 pub mod PlaceLemmas

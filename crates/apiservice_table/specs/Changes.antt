@@ -1,5 +1,5 @@
 -- Changes of a table.
-use Rattle.std.specs.Prelude.{◌≡◌, ℕ, ◌+◌, ◌^◌, nat_lt, is_some, if◌then◌else◌, List, [], ◌∷◌, ◌++◌, length, Option, Some, None}
+use Rattle.std.specs.Prelude.{◌≡◌, ℕ, ◌+◌, nat_lt, is_some, if◌then◌else◌, List, [], ◌∷◌, ◌++◌, length, Option, Some, None}
 use Rattle.apiservice_rows.specs.Row.{Row, IsRowName}
 use Rattle.apiservice_rows.specs.declared.row_list.TheConstants.{MOST_ROWS}
 use Rattle.apiservice_table.specs.Table.{Table, row_named, with_row, without_row, next}

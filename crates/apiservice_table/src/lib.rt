@@ -7,6 +7,7 @@
 #![tactic(auto)]
 
 mod change;
+mod index;
 mod place;
 mod routes;
 mod table;

@@ -1,11 +1,11 @@
-ghost use Rattle.std.specs.Prelude.{◌≡◌, ◌≤◌, ℕ, List, [], length, None, IfOk, IfErr, OnOk, OnErr, is_some, ◌&&◌, option_map};
-ghost use Rattle.std.specs.Str.{bytes_eq};
+ghost use Rattle.std.specs.Prelude.{◌≡◌, ◌≤◌, ℕ, List, [], length, None, IfOk, IfErr, OnOk, OnErr, is_some, option_map};
 ghost use Rattle.apiservice_rows.specs.declared.row_list.TheConstants.{MOST_ROWS};
 ghost use Rattle.apiservice_table.specs.Changes.{changed, changed_table, refusal, IsDue, IsNamed};
-ghost use Rattle.apiservice_table.specs.Order.{IsInOrder};
+ghost use Rattle.apiservice_table.specs.Order.{AllNamed, IsInOrder};
 ghost use Rattle.apiservice_table.specs.Table as spec;
 
 use crate::change::{Change, ChangeFault};
+use crate::index::{Index, is_of};
 use crate::place::{own_place_of, place_of};
 use apiservice_rows::{MOST_ROWS, Row, Rows};
 use front_base::NoMemory;
@@ -16,14 +16,17 @@ use std::marker::Model;
 /// order of names, and how many changes it has taken.
 #[derive(Debug, Drop)]
 pub struct RouteTable {
-    // In order of names, which is the index: a look-up is a binary search.
+    // In order of names.
     rows: Vec<Row>,
+    // Of these rows, by group and version.
+    index: Index,
     count: u64,
 }
 
 impl Model for RouteTable {
     ghost use Rattle.std.specs.Prelude.{◌≤◌, length};
     ghost use Rattle.apiservice_rows.specs.declared.row_list.TheConstants.{MOST_ROWS};
+    ghost use Rattle.apiservice_table.specs.Index.{LinksAll};
     ghost use Rattle.apiservice_table.specs.Order.{IsInOrder, AllNamed};
     ghost use Rattle.apiservice_table.specs.Table as seen;
 
@@ -32,7 +35,8 @@ impl Model for RouteTable {
     ghost view = { λ t. record { rows = t.rows.items; changes = t.count } };
 
     ghost invariant = { λ t.
-        IsInOrder t.rows.items × AllNamed t.rows.items × (length t.rows.items ≤ MOST_ROWS) };
+        IsInOrder t.rows.items × AllNamed t.rows.items × (length t.rows.items ≤ MOST_ROWS)
+        × LinksAll t.rows.items t.index };
 }
 
 // Puts a row into its place by its name, over a row of that name.
@@ -51,13 +55,6 @@ fn put(rows: &mut Vec<Row>, row: Row) -> Result<(), NoMemory>
             Ok(())
         }
     }
-}
-
-// Whether a row is of that group and version.
-fn is_of(row: &Row, group: &str, version: &str) -> bool
-    ensures { result ≡ (bytes_eq row.now.group group.now && bytes_eq row.now.version version.now) }
-{
-    row.group.as_str() == group && row.version.as_str() == version
 }
 
 // Whether a row of that name is there.
@@ -141,6 +138,25 @@ fn change_rows(rows: &mut Vec<Row>, change: Change) -> Result<(), ChangeFault>
     }
 }
 
+// The row of that group and version, by binary search among names.
+fn find_by_name<'a>(rows: &'a [Row], group: &str, version: &str) -> Option<&'a Row>
+    requires order { IsInOrder rows.now }
+    requires named { AllNamed rows.now }
+    ensures { option_map (λ row. row.now) result ≡ spec.row group.now version.now rows.now }
+{
+    match own_place_of(rows, group, version) {
+        Ok(at) => {
+            let row = &rows[at];
+            if is_of(row, group, version) {
+                Some(row)
+            } else {
+                None
+            }
+        }
+        Err(_) => None,
+    }
+}
+
 impl RouteTable {
     /// A table of these rows, in byte order of names. No change has been taken yet.
     pub fn from_rows(alloc: Global, rows: Rows) -> Result<RouteTable, NoMemory>
@@ -156,8 +172,10 @@ impl RouteTable {
             row.tells_its_name();
             put(&mut ordered, row)?;
         }
+        let index = Index::new(alloc, ordered.as_slice())?;
         Ok(RouteTable {
             rows: ordered,
+            index,
             count: 0,
         })
     }
@@ -166,16 +184,10 @@ impl RouteTable {
     pub fn find(&self, group: &str, version: &str) -> Option<&Row>
         ensures { option_map (λ row. row.now) result ≡ spec.row group.now version.now self.now.rows }
     {
-        match own_place_of(self.rows.as_slice(), group, version) {
-            Ok(at) => {
-                let row = &self.rows[at];
-                if is_of(row, group, version) {
-                    Some(row)
-                } else {
-                    None
-                }
-            }
-            Err(_) => None,
+        let rows = self.rows.as_slice();
+        match self.index.find(rows, group, version) {
+            Some(found) => found,
+            None => find_by_name(rows, group, version),
         }
     }
 
@@ -203,6 +215,7 @@ impl RouteTable {
     {
         tells_names(&change);
         change_rows(&mut self.rows, change)?;
+        self.index.relink(self.rows.as_slice());
         self.count = self.count.saturating_add(1);
         Ok(())
     }

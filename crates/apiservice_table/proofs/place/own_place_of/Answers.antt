@@ -1,6 +1,6 @@
-use Rattle.std.proofs.Common.{◌≡◌, rules}
+use Rattle.std.proofs.Common.{rules}
 use Rattle.std.proofs.lemmas.Fn.{always_returns_same}
-use Rattle.apiservice_rows.specs.Row.{Row, own_name}
+use Rattle.apiservice_rows.specs.Row.{own_name}
 use Rattle.apiservice_table.proofs.PlaceLemmas.{by_name, searched_place}
 use Rattle.apiservice_table.proofs.place.own_place_of.Goals as goal
 

@@ -1,4 +1,4 @@
-use Rattle.std.proofs.Common.{◌≡◌, ◌∙◌}
+use Rattle.std.proofs.Common.{◌∙◌}
 use Rattle.apiservice_table.proofs.OrderLemmas.{holds_is}
 use Rattle.apiservice_table.proofs.table.holds.Goals as goal
 

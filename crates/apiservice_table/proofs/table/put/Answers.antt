@@ -1,4 +1,4 @@
-use Rattle.std.proofs.Common.{◌≡◌, sym, ap, ◌∙◌, rules}
+use Rattle.std.proofs.Common.{◌≡◌, sym, ap, ◌∙◌}
 use Rattle.apiservice_rows.specs.Row.{Row}
 use Rattle.apiservice_table.proofs.OrderLemmas.{with_row-ok, with_row-err}
 use Rattle.apiservice_table.proofs.table.put.Goals as goal

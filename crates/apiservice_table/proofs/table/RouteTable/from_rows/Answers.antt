@@ -1,8 +1,7 @@
-use Rattle.std.proofs.Common.{◌≡◌, ℕ, ◌+◌, ◌≤◌, List, [], ◌∷◌, length, sym, ap, subst, ◌∙◌, refl, rules, arith}
+use Rattle.std.proofs.Common.{◌≡◌, ℕ, ◌≤◌, List, [], ◌∷◌, length, sym, ap, subst, ◌∙◌, refl, rules, arith}
 use Rattle.std.specs.Vec.Iter.{into_iter_items}
 use Rattle.apiservice_rows.specs.Row.{Row}
 use Rattle.apiservice_rows.specs.declared.row_list.TheConstants.{MOST_ROWS}
-use Rattle.apiservice_table.specs.Order.{AllNamed, IsInOrder}
 use Rattle.apiservice_table.specs.Table.{with_rows, row_named}
 use Rattle.apiservice_table.proofs.ManyLemmas.{named_all, length_many}
 use Rattle.apiservice_table.proofs.OrderLemmas.{order_with, named_with}
@@ -57,11 +56,21 @@ all_in left ordered rows empty rest =
     nothing [] e = refl
     nothing (x ∷ xs) e = absurd (omega (arith, e))
 
+pub new-requires : goal.new-requires
+new-requires c =
+    let all = all_in (into_iter_items c.loop-row.row-iterator) c.loop-row.ordered.items c.args.rows
+    (sym c.loop-row.invariant.size ∙ c.in-None.ensures.steps.0) c.loop-row.invariant.rest in
+    rw c.as_slice.ensures.value (at_most c.args.rows c.loop-row.ordered.items all c.requires.few)
+
 pub invariant_of-result : goal.invariant_of-result
 invariant_of-result c =
     let all = all_in (into_iter_items c.loop-row.row-iterator) c.loop-row.ordered.items c.args.rows
-    (sym c.loop-row.invariant.size ∙ c.in-None.ensures.steps.0) c.loop-row.invariant.rest in
-    (c.loop-row.invariant.order, c.loop-row.invariant.named, at_most c.args.rows c.loop-row.ordered.items all c.requires.few)
+    (sym c.loop-row.invariant.size ∙ c.in-None.ensures.steps.0) c.loop-row.invariant.rest in (
+      c.loop-row.invariant.order,
+      c.loop-row.invariant.named,
+      at_most c.args.rows c.loop-row.ordered.items all c.requires.few,
+      rw c.as_slice.ensures.value at c.in_ok-index.ensures,
+    )
 
 pub returns-clause-rows : goal.returns-clause-rows
 returns-clause-rows c =

@@ -1,7 +1,7 @@
-use Rattle.std.proofs.Common.{◌≡◌, ℕ, List, [], ◌∷◌, ◌++◌, ◌+◌, arith, None, length, sym, ap, subst, ◌∙◌, refl, rules}
+use Rattle.std.proofs.Common.{◌≡◌, List, [], ◌∷◌, ◌++◌, ◌+◌, arith, None, length, sym, ap, subst, ◌∙◌}
 use Rattle.std.proofs.lemmas.List.{append-nil}
 use Rattle.apiservice_rows.specs.Row.{Row}
-use Rattle.apiservice_table.specs.Changes.{after, changed, refusal, placed, IsLater, Story, Took}
+use Rattle.apiservice_table.specs.Changes.{after, changed, refusal, placed, Story, Took}
 use Rattle.apiservice_table.specs.Table.{Table}
 use Rattle.apiservice_table.specs.declared.change.Change.{Change}
 use Rattle.apiservice_table.proofs.StoryLemmas.{after_push, placed_push}
