@@ -179,8 +179,9 @@ pub record IsFacts (set : Settings) (number : ℕ) (r : Request) (level : Level)
   pub reply_is : IsKeptIf (reply_due level (info_in r)) (reply_body r.head.method (status_in set r)) reply
   pub facts_are : facts ≡ facts_in set number r request reply
 
--- these are the lines of the request with that number
+-- these are the lines of the request with that number, which isn't for a path that is answered here
 pub record IsLines (set : Settings) (number : ℕ) (r : Request) (text : List ℕ) : Type 0 where
+  pub elsewhere : is_local r ≡ false
   pub facts : Facts
   pub facts_are : IsFacts set number r (decision_in set r).level facts
   pub text_is : text ≡ lines_at (decision_in set r).level (decision_in set r).omit facts

@@ -1,5 +1,5 @@
 // The audit lines that a request owes.
-ghost use Rattle.std.specs.Prelude.{◌≡◌, ◌≢◌, ◌<◌, ◌++◌, [], IfOk, OnOk};
+ghost use Rattle.std.specs.Prelude.{◌≡◌, false, ◌≢◌, ◌<◌, ◌++◌, [], IfOk, OnOk};
 ghost use Rattle.event_text.specs.Line.{line_text};
 ghost use Rattle.stage_event.specs.Due.{stages};
 ghost use Rattle.proxy_server.specs.Exchange as spec;
@@ -157,6 +157,7 @@ fn request_lines(
 ) -> Result<Vec<u8>, NoMemory>
     requires few { number < MOST_REQUESTS }
     requires asked { spec.IsAsked request.now asked }
+    requires elsewhere { spec.is_local request.now ≡ false }
     ensures { IfOk result (λ lines. spec.IsLines settings.now number request.now lines.items) }
 {
     let judged = judge(alloc, settings, request, asked)?;
