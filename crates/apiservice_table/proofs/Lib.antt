@@ -1,6 +1,7 @@
 pub mod ChangeLemmas
 pub mod FindLemmas
 pub mod IndexLemmas
+pub mod LawLemmas
 pub mod ManyLemmas
 pub mod OrderLemmas
 pub mod PlaceLemmas

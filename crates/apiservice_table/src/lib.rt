@@ -8,12 +8,14 @@
 
 mod change;
 mod index;
+mod laws;
 mod place;
 mod routes;
 mod table;
 mod table_routes;
 
 pub use change::{Change, ChangeFault};
+pub use laws::read_rows_fit;
 pub use routes::Routes;
 pub use table::RouteTable;
 pub use table_routes::TableRoutes;
