@@ -1,9 +1,9 @@
-ghost use Rattle.std.specs.Prelude.{◌≡◌};
+ghost use Rattle.std.specs.Prelude.{◌≡◌, IfOk};
 ghost use Rattle.apiservice_table.specs.declared.change.ChangeFault.TheVariants as fault;
 
 use apiservice_rows::Row;
 use front_base::{NoMemory, Text};
-use std::alloc::{AllocError, AllocFailed};
+use std::alloc::{AllocError, AllocFailed, Global};
 
 /// A change of the table, as a client of the API asks for it.
 #[derive(Debug, Drop)]
@@ -14,6 +14,19 @@ pub enum Change {
     Replace(Row),
     /// The row of that name goes.
     Delete(Text),
+}
+
+impl Change {
+    /// An equal change.
+    pub fn copy(&self, alloc: Global) -> Result<Change, NoMemory>
+        ensures { IfOk result (λ copy. copy ≡ self.now) }
+    {
+        Ok(match self {
+            Change::Create(row) => Change::Create(row.copy(alloc)?),
+            Change::Replace(row) => Change::Replace(row.copy(alloc)?),
+            Change::Delete(name) => Change::Delete(name.copy(alloc)?),
+        })
+    }
 }
 
 /// Why a change was not made.

@@ -6,7 +6,7 @@ use crate::change::{Change, ChangeFault};
 use crate::routes::Routes;
 use crate::table::RouteTable;
 use apiservice_rows::{Row, Rows};
-use front_base::{NoMemory, Text};
+use front_base::NoMemory;
 use std::alloc::Global;
 use std::marker::Model;
 
@@ -40,19 +40,6 @@ fn copy_rows(alloc: Global, rows: &[Row]) -> Result<Vec<Row>, NoMemory>
     Ok(copies)
 }
 
-fn copy_change(alloc: Global, change: &Change) -> Result<Change, NoMemory>
-    ensures { IfOk result (λ copy. copy ≡ change.now) }
-{
-    match change {
-        Change::Create(row) => Ok(Change::Create(row.copy(alloc)?)),
-        Change::Replace(row) => Ok(Change::Replace(row.copy(alloc)?)),
-        Change::Delete(name) => Ok(Change::Delete(Text::new(String::from_str(
-            alloc,
-            name.as_str(),
-        )?))),
-    }
-}
-
 // Makes a change of a table, and keeps a copy of it behind the others.
 fn keep_change(
     alloc: Global,
@@ -68,7 +55,7 @@ fn keep_change(
     ensures same { OnErr result (seen.new.items ≡ seen.old.items) }
 {
     let len = seen.len();
-    seen.push(copy_change(alloc, &change)?)?;
+    seen.push(change.copy(alloc)?)?;
     match table.apply(alloc, change) {
         Ok(()) => Ok(()),
         Err(fault) => {
