@@ -1,0 +1,10 @@
+use Rattle.std.proofs.Common.{rules}
+use Rattle.discovery_merge.specs.Order.{group_order}
+use Rattle.discovery_merge.proofs.OrderLemmas.{group_order_total}
+use Rattle.discovery_merge.proofs.SortLemmas.{sorted_by_calls}
+use Rattle.discovery_merge.proofs.order.sort_by_group.Goals as goal
+
+pub returns : goal.returns
+returns c =
+    sorted_by_calls group_order group_order_total _ _ c.in_ok-sort_by.ensures.sorted c.in_ok-sort_by.ensures.stable
+    (λ f a r g call. search rules)

@@ -1,0 +1,22 @@
+-- Groups while their rows are borrowed.
+use Rattle.std.specs.Prelude.{ℕ, List, [], ◌∷◌, map, Option, Some, None, option_map, Vec}
+use Rattle.std.specs.Borrow.{Bor}
+use Rattle.std.specs.BTreeMap.{BTreeMap, get_by}
+use Rattle.std.specs.Cmp.Lexicographic.{slice_cmp}
+use Rattle.std.specs.Ordering.{nat_cmp}
+use Rattle.apiservice_rows.specs.Row.{Row}
+use Rattle.discovery_merge.specs.declared.groups.Group.{Group}
+use Rattle.discovery_merge.specs.declared.lent.LentGroup.{LentGroup}
+
+-- the group that borrowed rows tell
+abbrev pub lent_view : LentGroup → Group
+lent_view g = record { name = g.name.now; versions = map (λ r. r.now.version) g.rows.items }
+
+-- the rows that a tree has for a name
+abbrev pub rows_for : {A : Type 0} → List ℕ → BTreeMap (Bor (List ℕ)) (Vec (Bor Row) A) → Option (List Row)
+rows_for name by_group = option_map (λ v. map (λ r. r.now) v.items) (get_by (λ k. slice_cmp nat_cmp name k.now) by_group)
+
+-- a tree has no empty lists
+abbrev pub unless_empty : List Row → Option (List Row)
+unless_empty [] = None
+unless_empty (r ∷ rows) = Some (r ∷ rows)

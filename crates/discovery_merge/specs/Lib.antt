@@ -1,0 +1,4 @@
+pub mod Documents
+pub mod Groups
+pub mod Lent
+pub mod Order

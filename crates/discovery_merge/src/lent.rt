@@ -1,0 +1,98 @@
+// Groups while their rows are borrowed.
+ghost use Rattle.std.specs.Prelude.{◌≡◌, ℕ, List, [], ◌∷◌, ◌++◌, map, filter, Some, unwrap_or, IfOk, OnOk, if◌then◌else◌};
+ghost use Rattle.discovery_merge.specs.Groups as spec;
+ghost use Rattle.discovery_merge.specs.Lent.{lent_view, rows_for, unless_empty};
+
+use crate::groups::{Group, Groups};
+use crate::order::{in_group_order, sort_by_preference};
+use apiservice_rows::Row;
+use front_base::{NoMemory, Text, Texts};
+use std::alloc::Global;
+use std::collections::BTreeMap;
+
+// A group by its rows, of which there is one at least. The one to prefer comes first.
+#[derive(Drop)]
+pub struct LentGroup<'a> {
+    pub name: &'a str,
+    pub rows: Vec<&'a Row>,
+}
+
+// Puts a row behind those of its group.
+fn add_row<'a>(
+    alloc: Global,
+    by_group: &mut BTreeMap<&'a str, Vec<&'a Row>>,
+    row: &'a Row,
+) -> Result<(), NoMemory>
+    ensures { OnOk result ((name : List ℕ) → rows_for name by_group.new
+        ≡ (if spec.is_of name row.now then Some (unwrap_or (rows_for name by_group.old) [] ++ row.now ∷ [])
+        else rows_for name by_group.old)) }
+{
+    let name = row.group.as_str();
+    if let Some(rows) = by_group.get_mut(name) {
+        rows.push(row)?;
+        return Ok(());
+    }
+    by_group.insert(name, vec![in alloc; row]?)?;
+    Ok(())
+}
+
+// The rows of each group, in the order in which they come.
+fn rows_by_group(alloc: Global, rows: &[Row]) -> Result<BTreeMap<&str, Vec<&Row>>, NoMemory>
+    ensures { IfOk result (λ by_group. (name : List ℕ)
+        → rows_for name by_group ≡ unless_empty (filter (spec.is_of name) rows.now)) }
+{
+    let mut by_group: BTreeMap<&str, Vec<&Row>> = BTreeMap::new(alloc);
+    for row in rows {
+        add_row(alloc, &mut by_group, row)?;
+    }
+    Ok(by_group)
+}
+
+// The groups in order.
+pub fn lent_groups(alloc: Global, rows: &[Row]) -> Result<Vec<LentGroup<'_>>, NoMemory>
+    ensures { IfOk result (λ groups. map lent_view groups.items ≡ spec.sorted_groups rows.now) }
+{
+    let mut by_group = rows_by_group(alloc, rows)?;
+    let mut groups = Vec::new(alloc);
+    for row in in_group_order(alloc, rows)?.as_slice() {
+        let name = row.group.as_str();
+        // The first row of a group takes them all, so the others find none.
+        if let Some(mut rows) = by_group.remove(name) {
+            sort_by_preference(&mut rows)?;
+            groups.push(LentGroup { name, rows })?;
+        }
+    }
+    Ok(groups)
+}
+
+fn copy_versions(alloc: Global, rows: &[&Row]) -> Result<Texts, NoMemory>
+    ensures { IfOk result (λ versions. versions ≡ map (λ r. r.now.version) rows.now) }
+{
+    let mut versions = Vec::new(alloc);
+    for row in rows {
+        versions.push(row.version.copy(alloc)?)?;
+    }
+    Ok(Texts::new(versions))
+}
+
+fn copy_group(alloc: Global, group: &LentGroup) -> Result<Group, NoMemory>
+    ensures { IfOk result (λ copy. copy ≡ lent_view group.now) }
+{
+    Ok(Group {
+        name: Text::copy_of(alloc, group.name)?,
+        versions: copy_versions(alloc, group.rows.as_slice())?,
+    })
+}
+
+/// The groups of rows, in order: a group stands where its first row stands by `groupPriorityMinimum`, the greatest first,
+/// and then by the name of the object. Its versions are in order of `versionPriority`, the greatest first, and then of
+/// `compare_versions`. Unavailable rows count, and the core group is left out.
+pub fn sorted_groups(alloc: Global, rows: &[Row]) -> Result<Groups, NoMemory>
+    ensures { IfOk result (λ groups. groups ≡ spec.sorted_groups rows.now) }
+{
+    let mut groups = Vec::new(alloc);
+    for group in lent_groups(alloc, rows)?.as_slice() {
+        groups.push(copy_group(alloc, group)?)?;
+    }
+    Ok(Groups::new(groups))
+}

@@ -1,0 +1,19 @@
+//! Discovery: the API groups that a table's rows make, in the order of kube-aggregator, and their documents.
+//!
+//! The main contracts are those of `group_list` and `group`: any rows give exactly the bytes of an `APIGroupList`, and of
+//! an `APIGroup` where a row has that group. `sorted_groups` gives the same groups as values.
+//!
+//! Nothing is promised of the resources in a group: those are told by the server that a row names.
+#![tactic(auto)]
+
+mod documents;
+mod groups;
+mod lent;
+mod order;
+
+pub use documents::{GroupFault, group, group_list};
+pub use groups::{Group, Groups};
+pub use lent::sorted_groups;
+
+#[cfg(test)]
+mod tests;
