@@ -1,10 +1,11 @@
 -- What a stable sort leaves is `sorted`, whatever the sort.
-use Rattle.std.proofs.Common.{Bor, ◌≡◌, ℕ, zero, suc, ◌<◌, ◌≤◌, Bool, true, false, cond, not, ◌&&◌, List, [], ◌∷◌, length, get_or, map, filter, refl, sym, ap, ◌∙◌, subst, inl, inr, true≢false, suc-le-suc, zero-le}
+use Rattle.std.proofs.Common.{Bor, ◌≡◌, ℕ, zero, suc, ◌<◌, ◌≤◌, Bool, true, false, cond, not, ◌&&◌, ◌||◌, List, [], ◌∷◌, length, get_or, map, filter, refl, sym, ap, ◌∙◌, subst, inl, inr, true≢false, suc-le-suc, zero-le}
 use Rattle.std.proofs.lemmas.Bool.{cond-true, cond-false, cases_Bool, and_parts, not-true}
 use Rattle.std.proofs.lemmas.Cmp.{on_total}
 use Rattle.std.proofs.lemmas.List.Sorted.{ranks_by, sorted_far, answers_always}
 use Rattle.std.specs.Cmp.{IsTotalOrder, IsStrictWeakOrder}
 use Rattle.std.specs.Fn.{Called, ComparesAs, Mut}
+use Rattle.std.specs.List.{list_any}
 use Rattle.std.specs.List.Sorted.{ties, IsSortedBy, IsStableBy, IsSortedByClosure, IsStableByClosure}
 use Rattle.std.specs.declared.cmp.Ordering.{Ordering}
 use Rattle.std.specs.Ordering.{is_lt}
@@ -17,6 +18,12 @@ module _ {X : Type 0} (p : X → Bool) where
 
   filter-dropped : (y : X) (ys : List X) → p y ≡ false → filter p (y ∷ ys) ≡ filter p ys
   filter-dropped y ys h = cond-false _ _ _ h
+
+or_swapped : (a b c : Bool) → (a || (b || c)) ≡ (b || (a || c))
+or_swapped true true c = refl
+or_swapped true false c = refl
+or_swapped false true c = refl
+or_swapped false false c = refl
 
 module _ {X : Type 0} (lt : X → X → Bool) (o : IsStrictWeakOrder lt) where
   never_less : (x : X) → lt x x ≡ false
@@ -187,6 +194,24 @@ module _ {X : Type 0} (order : X → X → Ordering) where
         (Rises-from_far less weak ys (sorted_far less weak ys up))
         (Rises-sorted xs)
         (λ x. stable x ∙ sym (filter-sorted x xs))
+
+-- the same elements
+module _ {X : Type 0} (order : X → X → Ordering) (p : X → Bool) where
+  list_any-put : (x : X) (ys : List X) → list_any p (put order x ys) ≡ (p x || list_any p ys)
+  list_any-put x [] = ap (list_any p) (put-nil order x)
+  list_any-put x (y ∷ ys) =
+      elim (cases_Bool (is_lt (order y x))) [
+        | inl past ↦
+            ap (list_any p) (put-past order x y ys past) ∙ ap (λ b. p y || b) (list_any-put x ys)
+            ∙ or_swapped (p y) (p x) (list_any p ys)
+        | inr stays ↦ ap (list_any p) (put-stays order x y ys stays)
+      ]
+
+  pub list_any-sorted : (xs : List X) → list_any p (sorted order xs) ≡ list_any p xs
+  list_any-sorted [] = ap (list_any p) (sorted-nil order)
+  list_any-sorted (x ∷ xs) =
+      ap (list_any p) (sorted-cons order x xs) ∙ list_any-put x (sorted order xs)
+      ∙ ap (λ b. p x || b) (list_any-sorted xs)
 
 -- a function of the elements, by which they are in order
 module _ {A B : Type 0} (f : A → B) (order : B → B → Ordering) where

@@ -40,3 +40,15 @@ module _ {A : Type 0} (key : List ℕ) (m n : BTreeMap (Bor (List ℕ)) (Vec (Bo
         | inr other ↦
             cond-false _ _ _ other ∙ sym (cond-false _ _ _ (ap (λ k. bytes_eq k name) (sym own) ∙ other))
       ]
+
+-- the rows of a group were taken
+pub rows_left : {A : Type 0} (key : List ℕ) (m n : BTreeMap (Bor (List ℕ)) (Vec (Bor Row) A))
+    → UpdatesBy (λ x y. slice_cmp nat_cmp x.now y.now) (λ k. slice_cmp nat_cmp key k.now) m n None
+    → (name : List ℕ) → rows_for name n ≡ cond (bytes_eq key name) None (rows_for name m)
+rows_left {A} key m n updates name =
+    ap (option_map seen) (btree_map_updates_str key m n None updates name)
+    ∙ none (bytes_eq key name) _
+  where
+    none : (b : Bool) (o : Option (Vec (Bor Row) A)) → option_map seen (cond b None o) ≡ cond b None (option_map seen o)
+    none true o = refl
+    none false o = refl

@@ -14,7 +14,7 @@ is_of name r = bytes_eq r.group name
 -- each name once, where it comes first
 unfoldable pub once : List (List ℕ) → List (List ℕ)
 once [] = []
-once (name ∷ names) = name ∷ filter (λ other. not (bytes_eq other name)) (once names)
+once (name ∷ names) = name ∷ filter (λ other. not (bytes_eq name other)) (once names)
 
 -- the rows of a group, the one to prefer first
 abbrev pub rows_of : List ℕ → List Row → List Row

@@ -5,12 +5,17 @@ use Rattle.std.specs.BTreeMap.{BTreeMap, get_by}
 use Rattle.std.specs.Cmp.Lexicographic.{slice_cmp}
 use Rattle.std.specs.Ordering.{nat_cmp}
 use Rattle.apiservice_rows.specs.Row.{Row}
+use Rattle.discovery_merge.specs.Order.{preference_order, sorted}
 use Rattle.discovery_merge.specs.declared.groups.Group.{Group}
 use Rattle.discovery_merge.specs.declared.lent.LentGroup.{LentGroup}
 
 -- the group that borrowed rows tell
 abbrev pub lent_view : LentGroup → Group
-lent_view g = record { name = g.name.now; versions = map (λ r. r.now.version) g.rows.items }
+lent_view g = record { name = g.name.now; versions = map (λ r. r.version) (map (λ r. r.now) g.rows.items) }
+
+-- a group of that name and those rows
+abbrev pub told : List ℕ → List Row → Group
+told name rows = record { name = name; versions = map (λ r. r.version) (sorted preference_order rows) }
 
 -- the rows that a tree has for a name
 abbrev pub rows_for : {A : Type 0} → List ℕ → BTreeMap (Bor (List ℕ)) (Vec (Bor Row) A) → Option (List Row)

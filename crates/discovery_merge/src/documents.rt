@@ -62,7 +62,7 @@ fn push_versions(
     rows: &[&Row],
 ) -> Result<(), AllocError>
     ensures { IfOk result (λ _. out.new.items
-        ≡ out.old.items ++ join_with_byte 44 (map (spec.version_text group.now) (map (λ r. r.now.version) rows.now))) }
+        ≡ out.old.items ++ join_with_byte 44 (map (spec.version_text group.now) (map (λ r. r.version) (map (λ r. r.now) rows.now)))) }
 {
     for (i, row) in rows.iter().enumerate() {
         if i > 0 {
@@ -81,7 +81,7 @@ fn push_first(
     rows: &[&Row],
 ) -> Result<(), AllocError>
     ensures { IfOk result (λ _. out.new.items
-        ≡ out.old.items ++ spec.first_text group.now (map (λ r. r.now.version) rows.now)) }
+        ≡ out.old.items ++ spec.first_text group.now (map (λ r. r.version) (map (λ r. r.now) rows.now))) }
 {
     match rows.first() {
         Some(row) => push_version(alloc, out, group, row.version.as_str()),

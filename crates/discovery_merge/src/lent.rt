@@ -1,7 +1,7 @@
 // Groups while their rows are borrowed.
-ghost use Rattle.std.specs.Prelude.{◌≡◌, ℕ, List, [], ◌∷◌, ◌++◌, map, filter, Some, unwrap_or, IfOk, OnOk, if◌then◌else◌};
+ghost use Rattle.std.specs.Prelude.{◌≡◌, ℕ, List, [], ◌∷◌, ◌++◌, map, filter, Some, None, bytes_eq, option_map, unwrap_or, IfOk, OnOk, if◌then◌else◌};
 ghost use Rattle.discovery_merge.specs.Groups as spec;
-ghost use Rattle.discovery_merge.specs.Lent.{lent_view, rows_for, unless_empty};
+ghost use Rattle.discovery_merge.specs.Lent.{lent_view, rows_for, told, unless_empty};
 
 use crate::groups::{Group, Groups};
 use crate::order::{in_group_order, sort_by_preference};
@@ -48,25 +48,43 @@ fn rows_by_group(alloc: Global, rows: &[Row]) -> Result<BTreeMap<&str, Vec<&Row>
     Ok(by_group)
 }
 
+// The group of that name, unless it was taken before.
+fn take_group<'a>(
+    by_group: &mut BTreeMap<&'a str, Vec<&'a Row>>,
+    name: &'a str,
+) -> Result<Option<LentGroup<'a>>, NoMemory>
+    ensures group { IfOk result (λ group.
+        option_map lent_view group ≡ option_map (told name.now) (rows_for name.now by_group.old)) }
+    ensures left { OnOk result ((other : List ℕ) → rows_for other by_group.new
+        ≡ (if bytes_eq name.now other then None else rows_for other by_group.old)) }
+{
+    match by_group.remove(name) {
+        Some(mut rows) => {
+            sort_by_preference(&mut rows)?;
+            Ok(Some(LentGroup { name, rows }))
+        }
+        None => Ok(None),
+    }
+}
+
 // The groups in order.
 pub fn lent_groups(alloc: Global, rows: &[Row]) -> Result<Vec<LentGroup<'_>>, NoMemory>
     ensures { IfOk result (λ groups. map lent_view groups.items ≡ spec.sorted_groups rows.now) }
 {
     let mut by_group = rows_by_group(alloc, rows)?;
+    let ordered = in_group_order(alloc, rows)?;
     let mut groups = Vec::new(alloc);
-    for row in in_group_order(alloc, rows)?.as_slice() {
-        let name = row.group.as_str();
-        // The first row of a group takes them all, so the others find none.
-        if let Some(mut rows) = by_group.remove(name) {
-            sort_by_preference(&mut rows)?;
-            groups.push(LentGroup { name, rows })?;
+    for row in ordered.as_slice() {
+        // The first row of a group takes it, so the others find none.
+        if let Some(group) = take_group(&mut by_group, row.group.as_str())? {
+            groups.push(group)?;
         }
     }
     Ok(groups)
 }
 
 fn copy_versions(alloc: Global, rows: &[&Row]) -> Result<Texts, NoMemory>
-    ensures { IfOk result (λ versions. versions ≡ map (λ r. r.now.version) rows.now) }
+    ensures { IfOk result (λ versions. versions ≡ map (λ r. r.version) (map (λ r. r.now) rows.now)) }
 {
     let mut versions = Vec::new(alloc);
     for row in rows {
