@@ -8,8 +8,8 @@ use Rattle.std.proofs.lemmas.Slice.Eq.{bytes_eq-Decides}
 use Rattle.std.specs.List.{list_any}
 use Rattle.std.specs.Str.{bytes_eq}
 use Rattle.apiservice_rows.specs.Row.{Row}
-use Rattle.discovery_merge.specs.Groups.{group_of, is_named, is_of, once}
-use Rattle.discovery_merge.specs.Order.{group_order, sorted}
+use Rattle.discovery_merge.specs.Groups.{group_of, is_named, is_of, once, rows_of}
+use Rattle.discovery_merge.specs.Order.{group_order, preference_order, sorted}
 use Rattle.discovery_merge.specs.declared.groups.Group.{Group}
 use Rattle.discovery_merge.proofs.SortLemmas.{list_any-sorted}
 use Rattle.discovery_merge.specs.Lent.{unless_empty, told}
@@ -144,8 +144,8 @@ module _ (rows before : List Row) (r : Row) (groups : List Group) (found : Optio
             let own : g ≡ group_of rows r.group = cc same in
             ap (λ x. x ++ g ∷ []) done ∙ ap (λ x. map (group_of rows) (once names) ++ x ∷ []) own
             ∙ sym (
-              ap (map (group_of rows)) (one_more ∙ once-new names r.group new)
-              ∙ map-append (group_of rows) (once names) (r.group ∷ [])
+            ap (map (group_of rows)) (one_more ∙ once-new names r.group new)
+            ∙ map-append (group_of rows) (once names) (r.group ∷ [])
             )
       ]
 
@@ -188,3 +188,29 @@ borrowed_at items i x less is =
     let within : i < length (map now items) = omega arith in
     let at : x.now ≡ get_or (map now items) i x.now = ap now is ∙ sym (get_or-map now items i x x.now less) in
     (within, at, take_more (map now items) i x.now within ∙ ap (λ r. take i (map now items) ++ r ∷ []) (sym at))
+
+any_kept : (p : Row → Bool) (rows : List Row) → list_any (λ _. true) (filter p rows) ≡ list_any p rows
+any_kept p [] = refl
+any_kept p (r ∷ rows) = by (p r) (any_kept p rows)
+  where
+    by : (b : Bool) → list_any (λ _. true) (filter p rows) ≡ list_any p rows
+        → list_any (λ _. true) (cond b (r ∷ filter p rows) (filter p rows)) ≡ (b || list_any p rows)
+    by true rest = refl
+    by false rest = rest
+
+any_found : (name : List ℕ) (rows : List Row) (found : List (Bor Row)) → map (λ r. r.now) found ≡ rows_of name rows
+    → list_any (λ _. true) (map (λ (r : Bor Row). r.now) found) ≡ list_any (is_of name) rows
+any_found name rows found is =
+    ap (list_any (λ _. true)) is ∙ list_any-sorted preference_order (λ _. true) (filter (is_of name) rows)
+    ∙ any_kept (is_of name) rows
+
+-- a group has no rows where none was found
+pub none_found : (name : List ℕ) (rows : List Row) (found : List (Bor Row)) → map (λ r. r.now) found ≡ rows_of name rows
+    → length found ≡ 0 → list_any (is_of name) rows ≡ false
+none_found name rows [] is none = sym (any_found name rows [] is)
+none_found name rows (r ∷ found) is none = absurd (omega arith)
+
+pub some_found : (name : List ℕ) (rows : List Row) (found : List (Bor Row)) → map (λ r. r.now) found ≡ rows_of name rows
+    → (length found ≡ 0 → ⊥) → list_any (is_of name) rows ≡ true
+some_found name rows [] is some = absurd (some refl)
+some_found name rows (r ∷ found) is some = sym (any_found name rows (r ∷ found) is)

@@ -1,4 +1,5 @@
 pub mod GroupLemmas
+pub mod JoinLemmas
 pub mod OrderLemmas
 pub mod SortLemmas
 pub mod TreeLemmas

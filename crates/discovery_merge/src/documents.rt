@@ -2,6 +2,7 @@ ghost use Rattle.std.specs.Prelude.{◌≡◌, ◌++◌, ◌∷◌, map, Some, I
 ghost use Rattle.std.specs.List.{join_with_byte, flat_map};
 ghost use Rattle.discovery_merge.specs.Documents as spec;
 ghost use Rattle.discovery_merge.specs.Lent.{lent_view};
+ghost use Rattle.discovery_merge.specs.declared.documents.GroupFault.TheVariants as fault;
 
 use crate::lent::{LentGroup, lent_groups};
 use crate::order::rows_of;
@@ -13,17 +14,22 @@ use std::alloc::{AllocError, Global};
 /// Why there is no document of a group.
 #[derive(Clone, Copy, Debug, PartialEq, Eq)]
 pub enum GroupFault {
+    /// No row has that group.
     NoGroup,
     NoMemory,
 }
 
 impl From<NoMemory> for GroupFault {
+    ghost from_gives = { λ _ e. e ≡ fault.NoMemory };
+
     fn from(_: NoMemory) -> Self {
         GroupFault::NoMemory
     }
 }
 
 impl From<AllocError> for GroupFault {
+    ghost from_gives = { λ _ e. e ≡ fault.NoMemory };
+
     fn from(_: AllocError) -> Self {
         GroupFault::NoMemory
     }

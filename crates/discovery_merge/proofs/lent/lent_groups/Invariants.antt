@@ -9,5 +9,5 @@ abbrev pub invariant-loop-row : goal.invariant-loop-row
 invariant-loop-row l = record {
   done : map lent_view l.groups.items ≡ map (group_of l.fn.rows) (once (map (λ (r : Row). r.group) (take l.row-index (map (λ r. r.now) l.row-items))));
   left : (name : List ℕ) → rows_for name l.by_group
-  ≡ cond (among name (map (λ (r : Row). r.group) (take l.row-index (map (λ r. r.now) l.row-items)))) None (unless_empty (filter (is_of name) l.fn.rows));
+      ≡ cond (among name (map (λ (r : Row). r.group) (take l.row-index (map (λ r. r.now) l.row-items)))) None (unless_empty (filter (is_of name) l.fn.rows));
 }
