@@ -1,5 +1,5 @@
 -- Groups of rows, one row after another.
-use Rattle.std.proofs.Common.{Bor, arith, ◌≡◌, ℕ, ◌+◌, ◌<◌, Bool, true, false, cond, not, ◌||◌, List, [], ◌∷◌, ◌++◌, map, filter, length, take, get_or, Option, Some, None, option_map, unwrap_or, refl, sym, ap, subst, ◌∙◌, inl, inr}
+use Rattle.std.proofs.Common.{Bor, arith, ◌≡◌, ℕ, ◌+◌, ◌<◌, Bool, true, false, cond, not, ◌||◌, List, [], ◌∷◌, ◌++◌, map, filter, length, take, get_or, Option, Some, None, option_map, unwrap_or, refl, sym, ap, ◌∙◌, inl, inr}
 use Rattle.std.proofs.lemmas.Bool.{false≢true, cond-true, cond-false, cases_Bool, or_parts, or_left, or_right}
 use Rattle.std.proofs.lemmas.List.{take_more, append-nil, map-append, length-map, get_or-map}
 use Rattle.std.proofs.lemmas.List.Elements.{filter-append}

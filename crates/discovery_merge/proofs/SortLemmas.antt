@@ -1,5 +1,5 @@
 -- What a stable sort leaves is `sorted`, whatever the sort.
-use Rattle.std.proofs.Common.{Bor, ◌≡◌, ℕ, zero, suc, ◌<◌, ◌≤◌, Bool, true, false, cond, not, ◌&&◌, ◌||◌, List, [], ◌∷◌, length, get_or, map, filter, refl, sym, ap, ◌∙◌, subst, inl, inr, true≢false, suc-le-suc, zero-le}
+use Rattle.std.proofs.Common.{Bor, ◌≡◌, ℕ, zero, suc, ◌+◌, ◌<◌, ◌≤◌, Bool, true, false, cond, not, ◌&&◌, ◌||◌, List, [], ◌∷◌, length, get_or, map, filter, refl, sym, ap, ◌∙◌, subst, inl, inr, true≢false, suc-le-suc, zero-le, arith}
 use Rattle.std.proofs.lemmas.Bool.{cond-true, cond-false, cases_Bool, and_parts, not-true}
 use Rattle.std.proofs.lemmas.Cmp.{on_total}
 use Rattle.std.proofs.lemmas.List.Sorted.{ranks_by, sorted_far, answers_always}
@@ -61,6 +61,14 @@ module _ {X : Type 0} (lt : X → X → Bool) (o : IsStrictWeakOrder lt) where
     NoneLess-at y ys (λ j less. h zero (suc j) y zero-le (suc-le-suc less)),
     Rises-from_far ys (λ i j d le less. h (suc i) (suc j) d (suc-le-suc le) (suc-le-suc less)),
   )
+
+  Rises-at : (ys : List X) → Rises ys → (k : ℕ) (d : X) → k + 1 < length ys → lt (get_or ys (k + 1) d) (get_or ys k d) ≡ false
+  Rises-at [] up k d within = absurd (omega arith)
+  Rises-at (y ∷ []) up k d within = absurd (omega arith)
+  Rises-at (y ∷ z ∷ zs) up zero d within = up.0.0
+  Rises-at (y ∷ z ∷ zs) up (suc k) d within =
+      ap (λ n. lt (get_or (y ∷ z ∷ zs) n d) (get_or (z ∷ zs) k d)) {x = suc k + 1} {y = suc (k + 1)} (omega arith)
+      ∙ Rises-at (z ∷ zs) up.1 k d (omega arith)
 
   -- where an element that ties with y is among them, y isn't less than x
   NoneLess-found : (x y : X) (zs : List X) (w : X) (ws : List X)
@@ -188,7 +196,13 @@ module _ {X : Type 0} (order : X → X → Ordering) where
     Rises-sorted [] = subst (Rises less weak) (sym sorted-nil) tt
     Rises-sorted (x ∷ xs) = subst (Rises less weak) (sym (sorted-cons x xs)) (Rises-put x (sorted order xs) (Rises-sorted xs))
 
-    sorted_is : (xs ys : List X) → IsSortedBy less ys → IsStableBy less xs ys → ys ≡ sorted order xs
+    pub sorted_rises : (xs : List X) → IsSortedBy less (sorted order xs)
+    sorted_rises xs = λ k d from within. Rises-at less weak (sorted order xs) (Rises-sorted xs) k d within
+
+    pub sorted_stable : (xs : List X) → IsStableBy less xs (sorted order xs)
+    sorted_stable xs = λ z. filter-sorted z xs
+
+    pub sorted_is : (xs ys : List X) → IsSortedBy less ys → IsStableBy less xs ys → ys ≡ sorted order xs
     sorted_is xs ys up stable =
         same_from_ties less weak ys (sorted order xs)
         (Rises-from_far less weak ys (sorted_far less weak ys up))

@@ -1,5 +1,5 @@
 -- The orders of discovery, and lists put in order.
-use Rattle.std.specs.Prelude.{ℕ, if◌then◌else◌, List, [], ◌∷◌}
+use Rattle.std.specs.Prelude.{if◌then◌else◌, List, [], ◌∷◌}
 use Rattle.std.specs.Cmp.Lexicographic.{slice_cmp}
 use Rattle.std.specs.declared.cmp.Ordering.{Ordering}
 use Rattle.std.specs.Ordering.{is_lt, nat_cmp, on, then_cmp, flip_args}
@@ -18,7 +18,7 @@ preference_order =
     then_cmp (on (λ r. r.version_priority) (flip_args nat_cmp))
     (on (λ r. r.version) version_order)
 
--- a list in order with an element more, in front of those that aren't before it
+-- a list in order with one element more, in front of all that don't come before it
 unfoldable pub put : {X : Type 0} → (X → X → Ordering) → X → List X → List X
 put order x [] = x ∷ []
 put order x (y ∷ ys) = if is_lt (order y x) then y ∷ put order x ys else x ∷ y ∷ ys

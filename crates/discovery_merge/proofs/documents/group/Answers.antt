@@ -1,9 +1,8 @@
-use Rattle.std.proofs.Common.{◌≡◌, Some, None, true, false, cond, length, map, ap, sym, ◌∙◌, arith, rules}
+use Rattle.std.proofs.Common.{Some, map, ap, sym, ◌∙◌, arith}
 use Rattle.std.proofs.lemmas.Bool.{cond-true, cond-false}
 use Rattle.std.proofs.lemmas.Bool.Decides.{nat_tests}
 use Rattle.apiservice_rows.specs.Row.{Row}
 use Rattle.discovery_merge.specs.Documents.{group_text, group_document}
-use Rattle.discovery_merge.specs.Groups.{group_of}
 use Rattle.discovery_merge.proofs.GroupLemmas.{none_found, some_found}
 use Rattle.discovery_merge.proofs.documents.group.Goals as goal
 

@@ -1,6 +1,5 @@
 use Rattle.std.proofs.Common.{◌≡◌, ◌++◌, map, take}
 use Rattle.std.specs.List.{join_with_byte}
-use Rattle.apiservice_rows.specs.Row.{Row}
 use Rattle.discovery_merge.specs.Documents.{version_text}
 use Rattle.discovery_merge.proofs.documents.push_versions.Given as goal
 

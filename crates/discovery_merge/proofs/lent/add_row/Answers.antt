@@ -1,4 +1,4 @@
-use Rattle.std.proofs.Common.{◌≡◌, ℕ, List, [], ◌∷◌, ◌++◌, cond, map, Some, None, BTreeMap, Global, Vec, unwrap_or, option_map, ap, sym, subst, ◌∙◌, rules, Bor}
+use Rattle.std.proofs.Common.{◌≡◌, ℕ, List, [], ◌∷◌, ◌++◌, cond, map, Some, None, unwrap_or, option_map, ap, sym, subst, ◌∙◌, rules, Bor}
 use Rattle.std.proofs.lemmas.List.{map-append}
 use Rattle.apiservice_rows.specs.Row.{Row}
 use Rattle.discovery_merge.specs.Groups.{is_of}

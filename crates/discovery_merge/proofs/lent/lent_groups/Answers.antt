@@ -1,4 +1,4 @@
-use Rattle.std.proofs.Common.{◌≡◌, ◌<◌, ℕ, List, [], ◌∷◌, ◌++◌, map, take, filter, cond, bytes_eq, length, get_or, Some, None, Option, option_map, sym, ap, subst, refl, ◌∙◌, Bor, arith, rules}
+use Rattle.std.proofs.Common.{◌≡◌, ◌<◌, List, [], ◌∷◌, map, take, filter, cond, bytes_eq, length, get_or, None, option_map, sym, ap, subst, ◌∙◌, Bor, arith, rules}
 use Rattle.std.proofs.lemmas.List.{take_all, map-append, length-map}
 use Rattle.apiservice_rows.specs.Row.{Row}
 use Rattle.discovery_merge.specs.Groups.{group_of, is_named, is_of, once}

@@ -1,4 +1,4 @@
-use Rattle.std.proofs.Common.{◌≡◌, ℕ, List, [], ◌∷◌, map, Some, None, Option, option_map, sym, ap, ◌∙◌, Bor}
+use Rattle.std.proofs.Common.{ℕ, List, map, Some, option_map, ap, ◌∙◌, Bor}
 use Rattle.apiservice_rows.specs.Row.{Row}
 use Rattle.discovery_merge.specs.Lent.{told}
 use Rattle.discovery_merge.specs.declared.groups.Group.{Group}
