@@ -15,7 +15,8 @@ use Rattle.discovery_merge.proofs.SortLemmas.{list_any-sorted}
 use Rattle.discovery_merge.specs.Lent.{unless_empty, told}
 
 -- a row more in a list of rows that isn't told where it is empty
-unless_empty-push : (rows : List Row) (r : Row) → unless_empty (rows ++ r ∷ []) ≡ Some (unwrap_or (unless_empty rows) [] ++ r ∷ [])
+unless_empty-push : (rows : List Row) (r : Row) → unless_empty (rows ++ r ∷ [])
+    ≡ Some (unwrap_or (unless_empty rows) [] ++ r ∷ [])
 unless_empty-push [] r = refl
 unless_empty-push (x ∷ rows) r = refl
 
@@ -99,7 +100,8 @@ any-filter p q (r ∷ rows) h =
           or_right (p r) (list_any p rows) (any-filter p q rows (sym (ap (list_any p) (cond-false _ _ _ dropped)) ∙ h))
     ]
 
-some-rows : (p : Row → Bool) (rows : List Row) → list_any p rows ≡ true → unless_empty (filter p rows) ≡ Some (filter p rows)
+some-rows : (p : Row → Bool) (rows : List Row) → list_any p rows ≡ true
+    → unless_empty (filter p rows) ≡ Some (filter p rows)
 some-rows p [] h = absurd (false≢true h)
 some-rows p (r ∷ rows) h =
     elim (cases_Bool (p r)) [
@@ -170,7 +172,9 @@ left_more rows before r name had h =
     let rest = unless_empty (filter (is_of name) rows) in
     ap (cond (bytes_eq r.group name) None) h
     ∙ either (bytes_eq r.group name) (among name names) rest
-    ∙ sym (ap (λ b. cond b None rest) (ap (among name) (map-append (λ (x : Row). x.group) before (r ∷ [])) ∙ list_any-append own names (r.group ∷ [])))
+    ∙ sym (ap (λ b. cond b None rest) (
+    ap (among name) (map-append (λ (x : Row). x.group) before (r ∷ [])) ∙ list_any-append own names (r.group ∷ [])
+    ))
   where
     either : (a b : Bool) (o : Option (List Row)) → cond a None (cond b None o) ≡ cond (b || (a || false)) None o
     either true true o = refl

@@ -62,7 +62,8 @@ module _ {X : Type 0} (lt : X → X → Bool) (o : IsStrictWeakOrder lt) where
     Rises-from_far ys (λ i j d le less. h (suc i) (suc j) d (suc-le-suc le) (suc-le-suc less)),
   )
 
-  Rises-at : (ys : List X) → Rises ys → (k : ℕ) (d : X) → k + 1 < length ys → lt (get_or ys (k + 1) d) (get_or ys k d) ≡ false
+  Rises-at : (ys : List X) → Rises ys → (k : ℕ) (d : X) → k + 1 < length ys
+      → lt (get_or ys (k + 1) d) (get_or ys k d) ≡ false
   Rises-at [] up k d within = absurd (omega arith)
   Rises-at (y ∷ []) up k d within = absurd (omega arith)
   Rises-at (y ∷ z ∷ zs) up zero d within = up.0.0

@@ -1,7 +1,7 @@
 ghost use Rattle.std.specs.Prelude.{◌≡◌, ◌++◌, ◌∷◌, map, Some, IfOk, IfErr, string_bytes};
-ghost use Rattle.std.specs.List.{join_with_byte, flat_map};
+ghost use Rattle.std.specs.List.{join_with_byte};
 ghost use Rattle.discovery_merge.specs.Documents as spec;
-ghost use Rattle.discovery_merge.specs.Lent.{lent_view};
+ghost use Rattle.discovery_merge.specs.Lent.{lent_versions, lent_view};
 ghost use Rattle.discovery_merge.specs.declared.documents.GroupFault.TheVariants as fault;
 
 use crate::lent::{LentGroup, lent_groups};
@@ -42,7 +42,6 @@ fn group_version(alloc: Global, group: &str, version: &str) -> Result<String, Al
     format!(in alloc; "{group}/{version}")
 }
 
-#[tactic(auto, unfolding(crate::specs::Documents::version_text))]
 fn push_version(
     alloc: Global,
     out: &mut Vec<u8>,
@@ -68,7 +67,7 @@ fn push_versions(
     rows: &[&Row],
 ) -> Result<(), AllocError>
     ensures { IfOk result (λ _. out.new.items
-        ≡ out.old.items ++ join_with_byte 44 (map (spec.version_text group.now) (map (λ r. r.version) (map (λ r. r.now) rows.now)))) }
+        ≡ out.old.items ++ join_with_byte 44 (map (spec.version_text group.now) (lent_versions rows.now))) }
 {
     for (i, row) in rows.iter().enumerate() {
         if i > 0 {
@@ -86,8 +85,7 @@ fn push_first(
     group: &str,
     rows: &[&Row],
 ) -> Result<(), AllocError>
-    ensures { IfOk result (λ _. out.new.items
-        ≡ out.old.items ++ spec.first_text group.now (map (λ r. r.version) (map (λ r. r.now) rows.now))) }
+    ensures { IfOk result (λ _. out.new.items ≡ out.old.items ++ spec.first_text group.now (lent_versions rows.now)) }
 {
     match rows.first() {
         Some(row) => push_version(alloc, out, group, row.version.as_str()),
@@ -95,7 +93,6 @@ fn push_first(
     }
 }
 
-#[tactic(auto, unfolding(crate::specs::Documents::group_members))]
 fn push_members(alloc: Global, out: &mut Vec<u8>, group: &LentGroup) -> Result<(), AllocError>
     ensures { IfOk result (λ _. out.new.items ≡ out.old.items ++ spec.group_members (lent_view group.now)) }
 {
@@ -108,7 +105,6 @@ fn push_members(alloc: Global, out: &mut Vec<u8>, group: &LentGroup) -> Result<(
     Ok(())
 }
 
-#[tactic(auto, unfolding(crate::specs::Documents::group_item))]
 fn push_item(alloc: Global, out: &mut Vec<u8>, group: &LentGroup) -> Result<(), AllocError>
     ensures { IfOk result (λ _. out.new.items ≡ out.old.items ++ spec.group_item (lent_view group.now)) }
 {
@@ -133,7 +129,6 @@ fn push_items(alloc: Global, out: &mut Vec<u8>, groups: &[LentGroup]) -> Result<
 }
 
 /// The `APIGroupList` of `/apis`: the groups of `sorted_groups`, each with the version to prefer.
-#[tactic(auto, unfolding(crate::specs::Documents::group_list_text))]
 pub fn group_list(alloc: Global, rows: &[Row]) -> Result<Bytes, NoMemory>
     ensures { IfOk result (λ text. text ≡ spec.group_list_text rows.now) }
 {
@@ -145,7 +140,6 @@ pub fn group_list(alloc: Global, rows: &[Row]) -> Result<Bytes, NoMemory>
     Ok(Bytes::new(out))
 }
 
-#[tactic(auto, unfolding(crate::specs::Documents::group_document))]
 fn document(alloc: Global, group: &LentGroup) -> Result<Bytes, NoMemory>
     ensures { IfOk result (λ text. text ≡ spec.group_document (lent_view group.now)) }
 {

@@ -1,7 +1,8 @@
 // Groups while their rows are borrowed.
-ghost use Rattle.std.specs.Prelude.{◌≡◌, ℕ, List, [], ◌∷◌, ◌++◌, map, filter, Some, None, bytes_eq, option_map, unwrap_or, IfOk, OnOk, if◌then◌else◌};
+ghost use Rattle.std.specs.Prelude.{◌≡◌, ℕ, List, [], ◌∷◌, ◌++◌, map, filter, bytes_eq, if◌then◌else◌};
+ghost use Rattle.std.specs.Prelude.{Some, None, option_map, unwrap_or, IfOk, OnOk};
 ghost use Rattle.discovery_merge.specs.Groups as spec;
-ghost use Rattle.discovery_merge.specs.Lent.{lent_view, rows_for, told, unless_empty};
+ghost use Rattle.discovery_merge.specs.Lent.{lent_versions, lent_view, rows_for, told, unless_empty};
 
 use crate::groups::{Group, Groups};
 use crate::order::{in_group_order, sort_by_preference};
@@ -84,7 +85,7 @@ pub fn lent_groups(alloc: Global, rows: &[Row]) -> Result<Vec<LentGroup<'_>>, No
 }
 
 fn copy_versions(alloc: Global, rows: &[&Row]) -> Result<Texts, NoMemory>
-    ensures { IfOk result (λ versions. versions ≡ map (λ r. r.version) (map (λ r. r.now) rows.now)) }
+    ensures { IfOk result (λ versions. versions ≡ lent_versions rows.now) }
 {
     let mut versions = Vec::new(alloc);
     for row in rows {
@@ -102,9 +103,9 @@ fn copy_group(alloc: Global, group: &LentGroup) -> Result<Group, NoMemory>
     })
 }
 
-/// The groups of rows, in order: a group stands where its first row stands by `groupPriorityMinimum`, the greatest first,
-/// and then by the name of the object. Its versions are in order of `versionPriority`, the greatest first, and then of
-/// `compare_versions`. Unavailable rows count, and the core group is left out.
+/// The groups of rows, in order: a group stands where its first row stands by `groupPriorityMinimum`, the greatest
+/// first, and then by the name of the object. Its versions are in order of `versionPriority`, the greatest first, and
+/// then of `compare_versions`. Unavailable rows count, and the core group is left out.
 pub fn sorted_groups(alloc: Global, rows: &[Row]) -> Result<Groups, NoMemory>
     ensures { IfOk result (λ groups. groups ≡ spec.sorted_groups rows.now) }
 {

@@ -1,6 +1,7 @@
 // Rows put in order.
-ghost use Rattle.std.specs.Prelude.{◌≡◌, map, filter, OnOk, IfOk};
+ghost use Rattle.std.specs.Prelude.{◌≡◌, filter, OnOk, IfOk};
 ghost use Rattle.discovery_merge.specs.Groups as spec;
+ghost use Rattle.discovery_merge.specs.Lent.{lent_rows};
 ghost use Rattle.discovery_merge.specs.Order.{group_order, preference_order, sorted};
 
 use apiservice_rows::Row;
@@ -27,7 +28,7 @@ fn compare_preference(a: &Row, b: &Row) -> Ordering
 }
 
 fn sort_by_group(rows: &mut Vec<&Row>) -> Result<(), NoMemory>
-    ensures { OnOk result (map (λ r. r.now) rows.new.items ≡ sorted group_order (map (λ r. r.now) rows.old.items)) }
+    ensures { OnOk result (lent_rows rows.new.items ≡ sorted group_order (lent_rows rows.old.items)) }
 {
     rows.sort_by(|a, b| compare_groups(a, b))?;
     Ok(())
@@ -35,7 +36,7 @@ fn sort_by_group(rows: &mut Vec<&Row>) -> Result<(), NoMemory>
 
 // Puts the row to prefer first.
 pub fn sort_by_preference(rows: &mut Vec<&Row>) -> Result<(), NoMemory>
-    ensures { OnOk result (map (λ r. r.now) rows.new.items ≡ sorted preference_order (map (λ r. r.now) rows.old.items)) }
+    ensures { OnOk result (lent_rows rows.new.items ≡ sorted preference_order (lent_rows rows.old.items)) }
 {
     versions_are_ordered();
     rows.sort_by(|a, b| compare_preference(a, b))?;
@@ -44,7 +45,7 @@ pub fn sort_by_preference(rows: &mut Vec<&Row>) -> Result<(), NoMemory>
 
 // The rows but those of the core group.
 fn named(alloc: Global, rows: &[Row]) -> Result<Vec<&Row>, AllocError>
-    ensures { IfOk result (λ named. map (λ r. r.now) named.items ≡ filter spec.is_named rows.now) }
+    ensures { IfOk result (λ named. lent_rows named.items ≡ filter spec.is_named rows.now) }
 {
     rows.iter()
         .filter(|row| !row.group.as_str().is_empty())
@@ -52,7 +53,7 @@ fn named(alloc: Global, rows: &[Row]) -> Result<Vec<&Row>, AllocError>
 }
 
 fn of_group<'a>(alloc: Global, rows: &'a [Row], name: &str) -> Result<Vec<&'a Row>, AllocError>
-    ensures { IfOk result (λ found. map (λ r. r.now) found.items ≡ filter (spec.is_of name.now) rows.now) }
+    ensures { IfOk result (λ found. lent_rows found.items ≡ filter (spec.is_of name.now) rows.now) }
 {
     rows.iter()
         .filter(|row| row.group.as_str() == name)
@@ -61,7 +62,7 @@ fn of_group<'a>(alloc: Global, rows: &'a [Row], name: &str) -> Result<Vec<&'a Ro
 
 // The rows but those of the core group, in the order of groups.
 pub fn in_group_order(alloc: Global, rows: &[Row]) -> Result<Vec<&Row>, NoMemory>
-    ensures { IfOk result (λ ordered. map (λ r. r.now) ordered.items
+    ensures { IfOk result (λ ordered. lent_rows ordered.items
         ≡ sorted group_order (filter spec.is_named rows.now)) }
 {
     let mut ordered = named(alloc, rows)?;
@@ -71,7 +72,7 @@ pub fn in_group_order(alloc: Global, rows: &[Row]) -> Result<Vec<&Row>, NoMemory
 
 // The rows of a group, the one to prefer first.
 pub fn rows_of<'a>(alloc: Global, rows: &'a [Row], name: &str) -> Result<Vec<&'a Row>, NoMemory>
-    ensures { IfOk result (λ found. map (λ r. r.now) found.items ≡ spec.rows_of name.now rows.now) }
+    ensures { IfOk result (λ found. lent_rows found.items ≡ spec.rows_of name.now rows.now) }
 {
     let mut found = of_group(alloc, rows, name)?;
     sort_by_preference(&mut found)?;

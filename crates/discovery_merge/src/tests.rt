@@ -16,8 +16,10 @@ fn rows_of(alloc: Global, lines: &str) -> Result<Rows, Fail> {
         let comma = if i > 0 { "," } else { "" };
         let head =
             r#"{"apiVersion":"apiregistration.k8s.io/v1","kind":"APIService","metadata":{"name":""#;
+        let first = format!(in alloc; "\"groupPriorityMinimum\":{first}")?;
+        let second = format!(in alloc; "\"versionPriority\":{second}")?;
         let item = format!(in alloc;
-            "{comma}{head}{version}.{group}\"}},\"spec\":{{\"group\":\"{group}\",\"version\":\"{version}\",\"groupPriorityMinimum\":{first},\"versionPriority\":{second}}}}}"
+            "{comma}{head}{version}.{group}\"}},\"spec\":{{\"group\":\"{group}\",\"version\":\"{version}\",{first},{second}}}}}"
         )?;
         text.push_str(item.as_str())?;
     }

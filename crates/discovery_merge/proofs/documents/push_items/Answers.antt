@@ -29,4 +29,5 @@ pub returns : goal.returns
 returns c =
     c.loop-i.invariant
     ∙ ap (λ l. c.args.out.now.items ++ join_with_byte 44 l)
-    (ap (map text) (take_all c.loop-i.i c.args.groups.now (omega arith)) ∙ sym (map_twice group_item lent_view c.args.groups.now))
+    (ap (map text) (take_all c.loop-i.i c.args.groups.now (omega arith))
+    ∙ sym (map_twice group_item lent_view c.args.groups.now))

@@ -24,7 +24,9 @@ loop-row-preserved c =
     let at = borrowed_at items i x c.loop-row-test.true c.row-item.is in
     let ordered : all ≡ sorted group_order (filter is_named rows) =
     ap (map (λ (r : Bor Row). r.now)) c.as_slice-row-items.ensures.value ∙ c.in_ok-ordered.ensures in
-    let has = has_rows rows i r (subst (λ (l : List Row). i < length l) ordered at.0) (subst (λ (l : List Row). r ≡ get_or l i r) ordered at.1) in
+    let has =
+    has_rows rows i r (subst (λ (l : List Row). i < length l) ordered at.0)
+    (subst (λ (l : List Row). r ≡ get_or l i r) ordered at.1) in
     let name : c.as_str.result.now ≡ r.group = search rules in
     let left = c.loop-row.invariant.left r.group in
     let gives : option_map lent_view c.in_ok-group.field-0 ≡ option_map (told r.group) (rows_for r.group c.loop-row.by_group) =

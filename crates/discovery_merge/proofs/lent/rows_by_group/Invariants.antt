@@ -4,4 +4,5 @@ use Rattle.discovery_merge.specs.Lent.{rows_for, unless_empty}
 use Rattle.discovery_merge.proofs.lent.rows_by_group.Given as goal
 
 abbrev pub invariant-loop-row : goal.invariant-loop-row
-invariant-loop-row l = (name : List ℕ) → rows_for name l.by_group ≡ unless_empty (filter (is_of name) (take l.row-index l.rows))
+invariant-loop-row l = (name : List ℕ)
+    → rows_for name l.by_group ≡ unless_empty (filter (is_of name) (take l.row-index l.rows))

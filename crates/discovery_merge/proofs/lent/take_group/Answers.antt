@@ -11,7 +11,8 @@ of_versions name rows = record { name = name; versions = map (λ (r : Row). r.ve
 pub returns-in_ok-sort_by_preference-in-Some-clause-group : goal.returns-in_ok-sort_by_preference-in-Some-clause-group
 returns-in_ok-sort_by_preference-in-Some-clause-group c =
     ap (λ rows. Some (of_versions c.args.name.now rows)) c.in_ok-sort_by_preference-in-Some.ensures
-    ∙ ap (λ o. option_map (told c.args.name.now) (option_map (λ v. map (λ (r : Bor Row). r.now) v.items) o)) c.in-Some.ensures.value
+    ∙ ap (λ o. option_map (told c.args.name.now) (option_map (λ v. map (λ (r : Bor Row). r.now) v.items) o))
+    c.in-Some.ensures.value
 
 pub returns-in_ok-sort_by_preference-in-Some-clause-left : goal.returns-in_ok-sort_by_preference-in-Some-clause-left
 returns-in_ok-sort_by_preference-in-Some-clause-left c =

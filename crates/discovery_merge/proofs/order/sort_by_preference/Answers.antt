@@ -6,5 +6,6 @@ use Rattle.discovery_merge.proofs.order.sort_by_preference.Goals as goal
 
 pub returns : goal.returns
 returns c =
-    sorted_by_calls preference_order (preference_order_total c.versions_are_ordered.ensures.total) _ _ c.in_ok-sort_by.ensures.sorted c.in_ok-sort_by.ensures.stable
+    sorted_by_calls preference_order (preference_order_total c.versions_are_ordered.ensures.total) _ _
+    c.in_ok-sort_by.ensures.sorted c.in_ok-sort_by.ensures.stable
     (λ f a r g call. search rules)
