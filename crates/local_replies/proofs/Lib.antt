@@ -1,5 +1,6 @@
 pub mod EndsLemmas
 pub mod BehindLemmas
 pub mod RouteLemmas
+pub mod RowLemmas
 pub mod SeekLemmas
 pub mod TableLemmas

@@ -1,6 +1,9 @@
 pub mod Content
 pub mod Ends
+pub mod Errand
 pub mod Kind
+pub mod Looked
 pub mod Paths
 pub mod Router
+pub mod Serve
 pub mod Status

@@ -1,25 +1,33 @@
-//! What this server answers itself: which paths are local, and the bodies of its own replies.
+//! What this server answers itself: which paths are local, what requests on them want, and the replies.
 //!
 //! The main contracts are those of `LocalPaths::local`, which finds the local path that a path is by the table of the
-//! definition `local_of`, and of `refusal`, which gives the Status of every code byte for byte.
+//! definition `local_of`; of `serve_local`, which answers a request on a local path, and makes the change that it asks
+//! for, as the relation `IsServed` states; and of `refusal`, which gives the Status of every code byte for byte.
 //!
-//! Nothing is promised of who may ask for a local path, and by which methods.
+//! Nothing is promised of who asks: the caller knows the user.
 #![tactic(auto)]
 
 mod cut;
 mod ends;
+mod errand;
 mod kind;
 mod laws;
 mod local;
+mod looked;
 mod paths;
 mod reply;
+mod serve;
 mod status;
 
-pub use laws::{lengths_of_refusals, slashes_at_ends_do_not_count};
+pub use errand::{LocalErrand, local_errand};
+pub use laws::{lengths_of_refusals, only_masters_write, slashes_at_ends_do_not_count};
 pub use local::Local;
 pub use paths::LocalPaths;
 pub use reply::{Content, LocalReply};
+pub use serve::serve_local;
 pub use status::{refusal, status_reply, success};
 
+#[cfg(test)]
+mod serve_tests;
 #[cfg(test)]
 mod tests;

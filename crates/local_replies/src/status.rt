@@ -68,13 +68,13 @@ fn status_text(alloc: Global, code: u16, reason: &str, message: &str) -> Result<
     Ok(text)
 }
 
-fn json_reply(status: u16, body: Vec<u8>) -> LocalReply
-    ensures { result ≡ spec.json_reply status body.items }
+pub fn json_reply(status: u16, body: Bytes) -> LocalReply
+    ensures { result ≡ spec.json_reply status body }
 {
     LocalReply {
         status,
         content: Content::Json,
-        body: Bytes::new(body),
+        body,
     }
 }
 
@@ -88,7 +88,7 @@ pub fn status_reply(
     ensures { IfOk result (λ reply. reply ≡ spec.status_reply code reason.now message.now) }
 {
     let body = status_text(alloc, code, reason, message)?;
-    Ok(json_reply(code, body))
+    Ok(json_reply(code, Bytes::new(body)))
 }
 
 /// The refusal with a code. A code that has no cause of its own has no reason and a message that tells nothing.
@@ -106,7 +106,5 @@ pub fn success(alloc: Global) -> Result<LocalReply, NoMemory>
 {
     let text =
         b"{\"kind\":\"Status\",\"apiVersion\":\"v1\",\"metadata\":{},\"status\":\"Success\",\"code\":200}";
-    let mut body = Vec::new(alloc);
-    body.extend_from_slice(text.as_slice())?;
-    Ok(json_reply(200, body))
+    Ok(json_reply(200, Bytes::new(text.to_vec(alloc)?)))
 }

@@ -18,7 +18,7 @@ fn line_of(alloc: Global, local: Option<Local>) -> Result<String, Fail> {
     Ok(line)
 }
 
-fn made(alloc: Global) -> Result<LocalPaths, Fail> {
+pub fn made(alloc: Global) -> Result<LocalPaths, Fail> {
     match LocalPaths::new(alloc) {
         Ok(paths) => Ok(paths),
         Err(_) => Err("no memory")?,
@@ -172,7 +172,7 @@ const REFUSALS: [(u16, &str); 14] = [
 ];
 
 // What a reply holds: its status, its media type and its body, in one line.
-fn held(alloc: Global, reply: Result<LocalReply, NoMemory>) -> Result<String, Fail> {
+pub fn held(alloc: Global, reply: Result<LocalReply, NoMemory>) -> Result<String, Fail> {
     let Ok(reply) = reply else {
         return Err("no memory")?;
     };

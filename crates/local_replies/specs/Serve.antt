@@ -1,0 +1,49 @@
+-- What a request on a local path is answered, and which change it makes of the table of APIs (Kubernetes, "API
+-- conventions": status codes).
+use Rattle.std.specs.Prelude.{◌≡◌, ℕ, List, Option, Some, None}
+use Rattle.apiservice_rows.specs.Row.{Row}
+use Rattle.apiservice_table.specs.Changes.{after, IsLater, Took}
+use Rattle.apiservice_table.specs.Changes as table
+use Rattle.apiservice_table.specs.declared.change.Change.{Change}
+use Rattle.apiservice_table.specs.declared.change.Change.TheVariants.{Create, Replace, Delete}
+use Rattle.apiservice_table.specs.declared.change.ChangeFault.{ChangeFault}
+use Rattle.apiservice_table.specs.declared.change.ChangeFault.TheVariants.{Exists, Missing, Full, NoMemory}
+use Rattle.local_replies.specs.Looked.{looked}
+use Rattle.local_replies.specs.Status.{json_reply, refusal, success}
+use Rattle.local_replies.specs.declared.errand.LocalErrand.{LocalErrand}
+use Rattle.local_replies.specs.declared.errand.LocalErrand.TheVariants.{Deny, Look, Write}
+use Rattle.local_replies.specs.declared.local.Local.{Local}
+use Rattle.local_replies.specs.declared.reply.LocalReply.{LocalReply}
+
+-- a change that was made
+abbrev pub done : Change → LocalReply
+done (Create row) = json_reply 201 row.object
+done (Replace row) = json_reply 200 row.object
+done (Delete name) = success
+
+-- a change that the rows don't take; they never lack memory, and no reply says so
+abbrev pub refused : ChangeFault → LocalReply
+refused Exists = refusal 409
+refused Missing = refusal 404
+refused Full = refusal 422
+refused NoMemory = refusal 500
+
+-- what became of a change: the routes took it, or they refused it by the rows that were seen, and took none
+abbrev pub IsDecided : Change → List Row → List Change → List (ℕ × Change) → List Change → List (ℕ × Change)
+    → LocalReply → Option Change → Type 0
+IsDecided change opening seen own new_seen new_own reply (Some made) =
+    (made ≡ change) × (reply ≡ done change) × Took opening seen own change new_seen new_own
+IsDecided change opening seen own new_seen new_own reply None =
+    (fault : ChangeFault) × (table.refusal (after opening new_seen) change ≡ Some fault) × (reply ≡ refused fault)
+    × (new_own ≡ own)
+
+-- the reply to an errand and the change that was made, over routes that had seen so much, and have seen so much then:
+-- a denial touches no routes, and a look is answered by the rows that are seen then
+abbrev pub IsServed : Local → LocalErrand → List Row → List Change → List (ℕ × Change) → List Change → List (ℕ × Change)
+    → LocalReply → Option Change → Type 0
+IsServed local (Deny code) opening seen own new_seen new_own reply change =
+    (reply ≡ refusal code) × (change ≡ None) × (new_seen ≡ seen) × (new_own ≡ own)
+IsServed local Look opening seen own new_seen new_own reply change =
+    (reply ≡ looked local (after opening new_seen)) × (change ≡ None) × (new_own ≡ own)
+IsServed local (Write asked) opening seen own new_seen new_own reply change =
+    IsDecided asked opening seen own new_seen new_own reply change

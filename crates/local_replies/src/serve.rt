@@ -1,0 +1,87 @@
+// Replies to requests on local paths.
+ghost use Rattle.std.specs.Prelude.{◌≡◌, Some, Option, IfOk, OnErr};
+ghost use Rattle.apiservice_table.specs.Changes.{IsDue, IsLater};
+ghost use Rattle.apiservice_table.specs.declared.change.ChangeFault.{ChangeFault};
+ghost use Rattle.local_replies.specs.Errand.{local_errand};
+ghost use Rattle.local_replies.specs.Serve as spec;
+
+use crate::errand::{LocalErrand, local_errand};
+use crate::local::Local;
+use crate::looked::look;
+use crate::reply::LocalReply;
+use crate::status::{json_reply, refusal, success};
+use apiservice_table::{Change, ChangeFault, Routes};
+use front_base::{Info, NoMemory, User};
+use std::alloc::Global;
+
+// The reply to a change that is made.
+fn done(alloc: Global, change: &Change) -> Result<LocalReply, NoMemory>
+    ensures { IfOk result (λ reply. reply ≡ spec.done change.now) }
+{
+    match change {
+        Change::Create(row) => Ok(json_reply(201, row.object.copy(alloc)?)),
+        Change::Replace(row) => Ok(json_reply(200, row.object.copy(alloc)?)),
+        Change::Delete(_) => success(alloc),
+    }
+}
+
+// The reply to a change that the rows don't take.
+fn refused(alloc: Global, fault: ChangeFault) -> Result<LocalReply, NoMemory>
+    ensures reply { IfOk result (λ reply. reply ≡ spec.refused fault) }
+    ensures due { IfOk result (λ _. (due : Option ChangeFault) → IsDue fault due → due ≡ Some fault) }
+{
+    match fault {
+        ChangeFault::Exists => refusal(alloc, 409),
+        ChangeFault::Missing => refusal(alloc, 404),
+        ChangeFault::Full => refusal(alloc, 422),
+        ChangeFault::NoMemory => Err(NoMemory),
+    }
+}
+
+// Makes a change. The reply and the copy that is handed out are made before it, so that none is made where memory lacks.
+fn write<R: Routes>(
+    alloc: Global,
+    change: Change,
+    routes: &mut R,
+) -> Result<(LocalReply, Option<Change>), NoMemory>
+    ensures decided { IfOk result (λ served. spec.IsDecided change
+        (R.opening routes.old) (R.seen routes.old) (R.own routes.old) (R.seen routes.new) (R.own routes.new)
+        served.0 served.1) }
+    ensures kept { OnErr result (R.own routes.new ≡ R.own routes.old) }
+    ensures later { IsLater (R.seen routes.old) (R.seen routes.new) }
+    ensures fixed { R.opening routes.new ≡ R.opening routes.old }
+{
+    let reply = done(alloc, &change)?;
+    let made = change.copy(alloc)?;
+    match routes.change(alloc, change) {
+        Ok(()) => Ok((reply, Some(made))),
+        Err(fault) => Ok((refused(alloc, fault)?, None)),
+    }
+}
+
+/// Serves a request on a local path, whose information is that of its method and target: the reply, and the change that
+/// was made, if one was. A HEAD request is given the reply that GET would get, since its Content-Length is needed; its
+/// body isn't to be sent. Where memory ran out, no change was made.
+pub fn serve_local<R: Routes>(
+    alloc: Global,
+    local: &Local,
+    info: &Info,
+    method: &str,
+    body: &[u8],
+    user: &User,
+    routes: &mut R,
+) -> Result<(LocalReply, Option<Change>), NoMemory>
+    ensures served { IfOk result (λ served. spec.IsServed local.now
+        (local_errand local.now info.now method.now body.now user.now)
+        (R.opening routes.old) (R.seen routes.old) (R.own routes.old) (R.seen routes.new) (R.own routes.new)
+        served.0 served.1) }
+    ensures kept { OnErr result (R.own routes.new ≡ R.own routes.old) }
+    ensures later { IsLater (R.seen routes.old) (R.seen routes.new) }
+    ensures fixed { R.opening routes.new ≡ R.opening routes.old }
+{
+    match local_errand(alloc, local, info, method, body, user)? {
+        LocalErrand::Deny(code) => Ok((refusal(alloc, code)?, None)),
+        LocalErrand::Look => Ok((look(alloc, local, routes)?, None)),
+        LocalErrand::Write(change) => write(alloc, change, routes),
+    }
+}
