@@ -1,5 +1,12 @@
+mod ClapLemmas
 mod DigitLemmas
+mod DistinctLemmas
+mod DoubtLemmas
 mod FaultLemmas
 mod LoadLemmas
 mod OptionLemmas
+mod ParserLemmas
+mod RuleLemmas
 mod SpellingLemmas
+mod WalkLemmas
+mod WordLemmas

@@ -1,3 +1,4 @@
 pub mod Load
+pub mod Parser
 pub mod Spelling
 pub mod Words

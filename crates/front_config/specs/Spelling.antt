@@ -1,9 +1,8 @@
 -- How words spell options: `--NAME=VALUE`, or `--NAME` and `VALUE`.
-use Rattle.std.specs.Prelude.{ℕ, ◌==◌, ◌&&◌, not, nat_eq, nat_lt, Bool, false, if◌then◌else◌, List, [], ◌∷◌, length, drop, Option, Some, None, codes, map}
+use Rattle.std.specs.Prelude.{ℕ, ◌==◌, ◌&&◌, not, nat_eq, nat_lt, Bool, false, if◌then◌else◌, List, [], ◌∷◌, length, drop, Option, Some, None, codes}
 use Rattle.std.specs.List.{list_any, starts_with}
 use Rattle.std.specs.Str.{bytes_eq}
 use Rattle.front_base.specs.Address.{◌>>=◌, cut}
-use Rattle.front_config.specs.declared.spelling.Given.{Given}
 
 -- an option: its name, and the value that it is given
 abbrev pub Named : Type 0
@@ -51,16 +50,3 @@ options_of names (word ∷ []) = if has_equals_sign word then with_option (joine
 options_of names (word ∷ next ∷ words) =
     if has_equals_sign word then with_option (joined names word) (options_of names (next ∷ words))
     else with_option (apart names word next) (options_of names words)
-
--- ---- as the code keeps them
-
-abbrev pub named : Given → Named
-named option = (option.name.now, option.value.now)
-
-abbrev pub all_named : List Given → List Named
-all_named options = map named options
-
--- an option, and the options of the words behind it
-abbrev pub with_behind : List (List ℕ) → Option (Named × List (List ℕ)) → Option (List Named)
-with_behind names None = None
-with_behind names (Some found) = with_option (Some found.0) (options_of names found.1)

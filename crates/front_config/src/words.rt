@@ -1,13 +1,11 @@
 // The commands of the program.
 ghost use Rattle.std.specs.Prelude.{◌≡◌, IfOk, Some, map, string_bytes};
-ghost use Rattle.front_config.specs.Spelling.{all_named};
 ghost use Rattle.front_config.specs.Words as spec;
 ghost use Rattle.front_config.specs.declared.fault.WordsFault.TheVariants.{Limits};
 
 use crate::command::{Command, ExplainWords, FileNames};
 use crate::fault::WordsFault;
-use crate::given::{given_of, number_or, text_of};
-use crate::spelling::Given;
+use crate::given::{Options, given_of, number_or, text_of};
 use front_base::{Moment, NoMemory, Text};
 use std::alloc::Global;
 
@@ -35,8 +33,8 @@ fn moment_of(alloc: Global, micros: u64) -> Result<Moment, WordsFault>
     }
 }
 
-fn file_names(alloc: Global, options: &[Given]) -> Result<FileNames, NoMemory>
-    ensures { IfOk result (λ names. names ≡ spec.file_names (all_named options.now)) }
+fn file_names(alloc: Global, options: &Options) -> Result<FileNames, NoMemory>
+    ensures { IfOk result (λ names. names ≡ spec.file_names options.now) }
 {
     Ok(FileNames {
         tokens: text_of(alloc, TOKENS, options)?,
@@ -45,8 +43,8 @@ fn file_names(alloc: Global, options: &[Given]) -> Result<FileNames, NoMemory>
 }
 
 #[tactic(auto, unfolding(crate::specs::Words::explain_by))]
-fn explain_by(alloc: Global, options: &[Given]) -> Result<ExplainWords, WordsFault>
-    ensures { spec.Gives (λ v. v) result (spec.explain_by (all_named options.now)) }
+fn explain_by(alloc: Global, options: &Options) -> Result<ExplainWords, WordsFault>
+    ensures { spec.Gives (λ v. v) result (spec.explain_by options.now) }
 {
     let micros = number_or(0, MOMENT, options)?;
     let moment = moment_of(alloc, micros)?;
@@ -59,7 +57,7 @@ fn explain_of(alloc: Global, words: &[String]) -> Result<ExplainWords, WordsFaul
     ensures { spec.Gives (λ v. v) result (spec.explain_of (map string_bytes words.now)) }
 {
     match given_of(alloc, &[TOKENS, POLICY, MOMENT], words) {
-        Ok(options) => explain_by(alloc, options.as_slice()),
+        Ok(options) => explain_by(alloc, &options),
         Err(fault) => Err(fault),
     }
 }
