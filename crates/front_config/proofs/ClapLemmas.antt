@@ -1,17 +1,17 @@
 -- What `clap` takes of words, and what it finds, is what the definition states.
-use Rattle.std.proofs.Common.{◌≡◌, ℕ, ◌&&◌, Bool, true, false, cond, not, List, [], ◌∷◌, map, Option, Some, None, Ok, Err, String, string_bytes, fold, is_some, refl, sym, ap, ap₂, ◌∙◌}
-use Rattle.std.specs.List.{list_any}
+use Rattle.std.proofs.Common.{◌≡◌, ℕ, ◌&&◌, Bool, true, false, true≢false, cond, not, List, [], ◌∷◌, map, Option, Some, None, Ok, Err, IsOk, IsUtf8, String, string_bytes, arith, suc, fold, is_some, refl, sym, ap, ap₂, ◌∙◌}
+use Rattle.std.specs.List.{All, list_any}
 use Rattle.std.proofs.lemmas.Str.{IsUtf8-string_bytes}
 use Rattle.clap.specs.Faults.{built_fault, entered_fault, fault_of, level_fault, settle_fault, walk_fault}
 use Rattle.clap.specs.Kinds.{Kinds, check_kinds, or_else}
 use Rattle.clap.specs.Simple.{App, entered, matches_of}
 use Rattle.clap.specs.Takes.{is_given}
-use Rattle.clap.specs.Walk.{Held, Row, Rule, Text, finished, has_row, nothing_held, rows_after, settled, walk, walk_from, with_default}
+use Rattle.clap.specs.Walk.{Held, Row, Rule, Text, finished, first_of, has_row, nothing_held, rows_after, settled, walk, walk_from, with_default}
 use Rattle.front_config.specs.Parser.{app_with, bare, given_in, is_doubtful, row_for}
 use Rattle.front_config.specs.Spelling.{Named, is_among, options_of}
-use Rattle.front_config.specs.Words.{given_of, if_distinct, usage_or}
+use Rattle.front_config.specs.Words.{given_of, if_distinct, usage_or, value_of}
 use Rattle.front_config.specs.declared.fault.WordsFault.TheVariants.{Usage}
-use Rattle.front_config.proofs.DistinctLemmas.{added_is}
+use Rattle.front_config.proofs.DistinctLemmas.{added_is, value_is}
 use Rattle.front_config.proofs.DoubtLemmas.{doubtful_is_none}
 use Rattle.front_config.proofs.ParserLemmas.{AreTexts, goes}
 use Rattle.front_config.proofs.RuleLemmas.{Agrees, built_rules, no_defaults, or_nothing, read_rules, rows_for}
@@ -78,7 +78,7 @@ texts (word ∷ words) = (IsUtf8-string_bytes word, texts words)
 
 -- ---- as the code reads it
 
-pub given_back : (given : List Named) → given_in (rows_for given) ≡ given
+given_back : (given : List Named) → given_in (rows_for given) ≡ given
 given_back [] = refl
 given_back (option ∷ given) = ap (λ others. option ∷ others) (given_back given)
 
@@ -100,7 +100,7 @@ module _ (names words : List (List ℕ)) (sure : list_any is_doubtful words ≡ 
   found = matches_of (app_with names) words
 
   -- where nothing is refused, options are held
-  pub taken : faults_of ≡ [] → (given : List Named) × (options ≡ Some given) × (found ≡ rows_for given)
+  taken : faults_of ≡ [] → (given : List Named) × (options ≡ Some given) × (found ≡ rows_for given)
   taken none = go options refl (agrees names words sure utf8)
     where
       go : (o : Option (List Named)) → options ≡ o → Agrees o faults_of found → (given : List Named) × (options ≡ Some given) × (found ≡ rows_for given)
@@ -127,6 +127,32 @@ module _ (names words : List (List ℕ)) (sure : list_any is_doubtful words ≡ 
       go : (o : Option (List Named)) → options ≡ o → Agrees o faults_of found → usage_or options ≡ Err Usage
       go None e a = rw e refl
       go (Some given) e a = absurd (fails a.0)
+
+  -- what is taken, and the values that are found
+  pub takes : (faults_of ≡ [] → IsOk (given_of names words)) × (IsOk (given_of names words) → faults_of ≡ [])
+  unfolding given_of
+  takes = go options refl (agrees names words sure utf8)
+    where
+      go : (o : Option (List Named)) → options ≡ o → Agrees o faults_of found → (faults_of ≡ [] → IsOk (usage_or options)) × (IsOk (usage_or options) → faults_of ≡ [])
+      go None e fails = ((λ none. absurd (fails none)), (λ ok. absurd (true≢false (sym (rw e at ok)))))
+      go (Some given) e a = ((λ none. rw e refl), (λ ok. a.0))
+
+  pub finds : (given : List Named) (name : List ℕ) → given_of names words ≡ Ok given → first_of name found ≡ value_of name given
+  unfolding given_of
+  finds given name h = go options refl (agrees names words sure utf8)
+    where
+      go : (o : Option (List Named)) → options ≡ o → Agrees o faults_of found → first_of name found ≡ value_of name given
+      go None e fails =
+          let none = sym (ap usage_or e) ∙ h in
+          cc none
+      go (Some held) e a =
+          let ok = sym (ap usage_or e) ∙ h in
+          let same : held ≡ given = cc ok in
+          ap (first_of name) a.1 ∙ value_is name held ∙ ap (value_of name) same
+
+pub as_texts : (words : List (List ℕ)) → All IsUtf8 words → AreTexts words
+as_texts [] all = tt
+as_texts (word ∷ words) all = (all 0 [] (omega arith), as_texts words (λ k d below. all (suc k) d (omega arith)))
 
 -- doubtful words are none either
 pub doubts : (names words : List (List ℕ)) → is_among names [] ≡ false → list_any is_doubtful words ≡ true → given_of names words ≡ Err Usage

@@ -19,7 +19,7 @@ mod words;
 pub use command::{Command, ExplainWords, FileNames};
 pub use fault::{FileFault, LoadFault, Which, WordsFault};
 pub use files::{Loaded, load};
-pub use laws::both_spellings;
+pub use laws::{both_spellings, clap_agrees};
 pub use words::read_words;
 
 #[cfg(test)]
