@@ -69,14 +69,17 @@ module _ (names : List (List ℕ)) where
   abbrev waits : List Named → Text → Walk
   waits given name = standing (held (rows_for given) (Some (name, []))) (option name)
 
+  -- such an option is one of the command's
   abbrev pub IsOwn : Option Named → Type 0
   IsOwn None = Unit {0}
   IsOwn (Some last) = is_among names last.0 ≡ true
 
+  -- wherever the walk stands, these words lead it to the options that the definition states
   abbrev pub Goes : List Text → Type 0
   Goes words = (given : List Named) (last : Option Named) → IsOwn last
       → AgreesAfter names (with_last given last >>= (λ now. with_all now (options_of names words))) (start given last) words
 
+  -- the last option is held, or there was one of its name
   last_agrees : (given : List Named) (last : Option Named) → IsOwn last
       → Agrees (with_last given last) (settle_fault (rules names) false (start given last).held) (settled (rules names) (start given last).held).rows
   last_agrees given None own = (refl, refl)
@@ -84,10 +87,12 @@ module _ (names : List (List ℕ)) where
       subst (λ (o : Option Rule). Agrees (with_one given last) (option_map_or (λ a. use_fault false a (last.1 ∷ []) (rows_for given)) o []) (used_by_id o (last.1 ∷ []) (rows_for given)))
       (sym (found_by_id names last.0 own)) (use_agrees last.0 last.1 given)
 
+  -- an option without its value is a fault
   waiting_fails : (rows : List Row) (name : Text) → is_among names name ≡ true → Fails (settle_fault (rules names) false (held rows (Some (name, []))))
   waiting_fails rows name own =
       fails_as _ (InvalidValue ∷ []) (ap (λ (o : Option Rule). option_map_or (λ a. use_fault false a [] rows) o []) (found_by_id names name own)) (one_kind InvalidValue)
 
+  -- words that spell no options spell none behind others
   no_more : (given : List Named) (last : Option Named) (words : List Text) → options_of names words ≡ None
       → (with_last given last >>= (λ now. with_all now (options_of names words))) ≡ None
   no_more given last words e = ap (λ o. with_last given last >>= (λ now. with_all now o)) e ∙ none_follow (with_last given last)
@@ -112,12 +117,14 @@ module _ (names : List (List ℕ)) where
   abbrev option_in : Text → Named
   option_in text = (name_in text, value_in text)
 
+  -- its value isn't empty
   value_there : (word text : Text) → IsLong word text → has_equals_sign text ≡ true → is_doubtful word ≡ false → is_some_text (value_in text) ≡ true
   value_there word text l sign sure =
       let ends : has_empty_end (Some (option_in text)) ≡ has_empty_value word =
       sym (ap (λ (o : Option Text). has_empty_end (o >>= cut 61)) l.behind ∙ ap has_empty_end (cut_at_sign text sign)) in
       not_false (is_some_text (value_in text)) (ends ∙ some_value word sure)
 
+  -- what the definition states of such a word
   joined_is : (word text : Text) (words : List Text) → IsLong word text → has_equals_sign text ≡ true → is_doubtful word ≡ false → is_among names (name_in text) ≡ true
       → with_option (Some (option_in text)) (options_of names words) ≡ options_of names (word ∷ words)
   joined_is word text words l sign sure own =
@@ -187,8 +194,8 @@ module _ (names : List (List ℕ)) where
   apart_isnt : (word text value : Text) (words : List Text) → IsLong word text → has_equals_sign text ≡ false → is_among names text ≡ false → options_of names (word ∷ value ∷ words) ≡ None
   apart_isnt word text value words l sign other = sym (apart_first names word value words None (l.sign ∙ sign) (sym (apart_other names word text l.behind value other)))
 
-  no_dash_is : (word text value : Text) (words : List Text) → IsLong word text → has_equals_sign text ≡ false → begins_with_dash value ≡ true → options_of names (word ∷ value ∷ words) ≡ None
-  no_dash_is word text value words l sign dash = sym (apart_first names word value words None (l.sign ∙ sign) (sym (no_dashed_value names word value dash)))
+  dash_isnt : (word text value : Text) (words : List Text) → IsLong word text → has_equals_sign text ≡ false → begins_with_dash value ≡ true → options_of names (word ∷ value ∷ words) ≡ None
+  dash_isnt word text value words l sign dash = sym (apart_first names word value words None (l.sign ∙ sign) (sym (no_dashed_value names word value dash)))
 
   -- the options before it are held, and its value is awaited
   abbrev AwaitsAll : Text → Text → List Text → Type 0
@@ -246,10 +253,10 @@ module _ (names : List (List ℕ)) where
       agrees_next names _ (waits now text) (start now (Some (text, value))) value words t.0 t.1
       (subst (λ (o : Option (List Named)). AgreesAfter names o (start now (Some (text, value))) words) all (rest now (Some (text, value)) own))
   awaits word text value words l sign own sure utf8 (short c flags s) rest now =
-      refused names _ (waits now text) value words (ap (with_all now) (no_dash_is word text value words l sign s.dash))
+      refused names _ (waits now text) value words (ap (with_all now) (dash_isnt word text value words l sign s.dash))
       (short_fails names value c flags (option text) (rows_for now) (Some (text, [])) s utf8)
   awaits word text value words l sign own sure utf8 (long other m) rest now =
-      refused names _ (waits now text) value words (ap (with_all now) (no_dash_is word text value words l sign m.dash))
+      refused names _ (waits now text) value words (ap (with_all now) (dash_isnt word text value words l sign m.dash))
       (long_fails value other (option text) (waits now text).held m (waiting_fails (rows_for now) text own))
 
   -- ---- all words
