@@ -19,6 +19,7 @@ mod watch;
 
 pub use fault::InfoFault;
 pub use laws::{end_slashes_do_not_count, paths_name_resources};
+pub use parts::{parts_of, split};
 pub use request::{audit_info, info};
 pub use running::long_running;
 
