@@ -17,6 +17,7 @@ explain    reads HTTP/1.1 requests from standard input, one after another, and
 
   --token-auth-file=FILE     the bearer tokens that are known, as CSV
   --audit-policy-file=FILE   the audit policy, as JSON; else all is Metadata
+  --apiservices=FILE         the APIServices, as JSON; else there are none
   --moment=MICROSECONDS      what the clock shows, since 1970; else 0
 
 Statuses: 0 done, 2 usage, 3 configuration, 4 read fault, 6 no memory,

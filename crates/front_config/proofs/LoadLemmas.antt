@@ -6,7 +6,11 @@ use Rattle.token_users.specs.File.{file_records}
 use Rattle.token_users.specs.declared.record.Record.{Record}
 use Rattle.token_users.specs.declared.fault.TokenFault.{TokenFault}
 use Rattle.token_users.specs.declared.fault.TokenFault.TheVariants as token
-use Rattle.front_config.specs.Load.{◌>>=◌, Read, IsRead, fault_of, Fails, Gives, HasCause, token_answer, tokens_in, policy_answer, policy_in}
+use Rattle.front_config.specs.Load.{◌>>=◌, Read, IsRead, fault_of, Fails, Gives, HasCause, token_answer, tokens_in, policy_answer, policy_in, rows_answer, opened, table_in}
+use Rattle.apiservice_rows.specs.Row.{Row}
+use Rattle.apiservice_rows.specs.RowList.{read_rows}
+use Rattle.apiservice_rows.specs.declared.fault.RowFault.{RowFault}
+use Rattle.apiservice_rows.specs.declared.fault.RowFault.TheVariants as row
 use Rattle.policy_rules.specs.Reading.{read_policy}
 use Rattle.policy_rules.specs.declared.policy.Policy.{Policy}
 use Rattle.policy_rules.specs.declared.fault.PolicyFault.{PolicyFault}
@@ -30,46 +34,54 @@ pub gives_next : {A B : Type 0} (first : Result A LoadFault) (a : A) (next : A �
     → first ≡ Ok a → Gives result (next a) → Gives result (first >>= next)
 gives_next first a next result e h = rw e h
 
--- a token file that was read is no fault of reading
-no_fault : (which : Which) (answer : Result (List Record) TokenFault) → fault_of (token_answer answer) ≡ Some (ReadFault which) → ⊥
-no_fault which (Ok records) e = cc e
-no_fault which (Err (token.BadRow row)) e = cc e
-no_fault which (Err token.NoMemory) e = cc e
+-- bytes that were read are no fault of reading
+pub cause_of_bytes : {A : Type 0} (names : FileNames) (before after : ℕ) (failed now : Option (Option (List ℕ)))
+    (due result : Result A LoadFault) → ((which : Which) → fault_of due ≡ Some (ReadFault which) → ⊥)
+    → now ≡ failed → Gives result due → HasCause names before after failed now result
+cause_of_bytes names before after failed now due (Ok a) none e h = e
+cause_of_bytes names before after failed now due (Err NoMemory) none e h = e
+cause_of_bytes names before after failed now due (Err (BadFile which why)) none e h = e
+cause_of_bytes names before after failed now due (Err (ReadFault which)) none e h = absurd (none which h)
 
-tokens_are_read : (which : Which) (bytes : Option (List ℕ)) → fault_of (tokens_in bytes) ≡ Some (ReadFault which) → ⊥
-tokens_are_read which None e = cc e
-tokens_are_read which (Some bytes) e = no_fault which (file_records bytes) e
+tokens_answered : (answer : Result (List Record) TokenFault) (which : Which)
+    → fault_of (token_answer answer) ≡ Some (ReadFault which) → ⊥
+tokens_answered (Ok records) which e = cc e
+tokens_answered (Err (token.BadRow row)) which e = cc e
+tokens_answered (Err token.NoMemory) which e = cc e
 
-pub cause_of_tokens : (names : FileNames) (before after : ℕ) (failed now : Option (Option (List ℕ))) (bytes : Option (List ℕ))
-    (result : Result (List Record) LoadFault) → now ≡ failed → Gives result (tokens_in bytes)
-    → HasCause names before after failed now result
-cause_of_tokens names before after failed now bytes (Ok records) e h = e
-cause_of_tokens names before after failed now bytes (Err NoMemory) e h = e
-cause_of_tokens names before after failed now bytes (Err (BadFile which why)) e h = e
-cause_of_tokens names before after failed now bytes (Err (ReadFault which)) e h = absurd (tokens_are_read which bytes h)
+pub tokens_are_read : (bytes : Option (List ℕ)) (which : Which) → fault_of (tokens_in bytes) ≡ Some (ReadFault which) → ⊥
+tokens_are_read None which e = cc e
+tokens_are_read (Some bytes) which e = tokens_answered (file_records bytes) which e
 
--- a policy file that was read is no fault of reading
-no_policy_fault : (which : Which) (answer : Result Policy PolicyFault) → fault_of (policy_answer answer) ≡ Some (ReadFault which) → ⊥
-no_policy_fault which (Ok rules) e = cc e
-no_policy_fault which (Err policy.NoMemory) e = cc e
-no_policy_fault which (Err policy.NotJson) e = cc e
-no_policy_fault which (Err policy.NoRules) e = cc e
-no_policy_fault which (Err (policy.BadField rule name)) e = cc e
-no_policy_fault which (Err (policy.BothKinds rule)) e = cc e
-no_policy_fault which (Err (policy.BadUrl rule)) e = cc e
-no_policy_fault which (Err (policy.NamesWithoutResources rule)) e = cc e
+policy_answered : (answer : Result Policy PolicyFault) (which : Which)
+    → fault_of (policy_answer answer) ≡ Some (ReadFault which) → ⊥
+policy_answered (Ok rules) which e = cc e
+policy_answered (Err policy.NoMemory) which e = cc e
+policy_answered (Err policy.NotJson) which e = cc e
+policy_answered (Err policy.NoRules) which e = cc e
+policy_answered (Err (policy.BadField rule name)) which e = cc e
+policy_answered (Err (policy.BothKinds rule)) which e = cc e
+policy_answered (Err (policy.BadUrl rule)) which e = cc e
+policy_answered (Err (policy.NamesWithoutResources rule)) which e = cc e
 
-policy_is_read : (which : Which) (bytes : Option (List ℕ)) → fault_of (policy_in bytes) ≡ Some (ReadFault which) → ⊥
-policy_is_read which None e = cc e
-policy_is_read which (Some bytes) e = no_policy_fault which (read_policy bytes) e
+pub policy_is_read : (bytes : Option (List ℕ)) (which : Which) → fault_of (policy_in bytes) ≡ Some (ReadFault which) → ⊥
+policy_is_read None which e = cc e
+policy_is_read (Some bytes) which e = policy_answered (read_policy bytes) which e
 
-pub cause_of_policy : (names : FileNames) (before after : ℕ) (failed now : Option (Option (List ℕ))) (bytes : Option (List ℕ))
-    (result : Result Policy LoadFault) → now ≡ failed → Gives result (policy_in bytes)
-    → HasCause names before after failed now result
-cause_of_policy names before after failed now bytes (Ok rules) e h = e
-cause_of_policy names before after failed now bytes (Err NoMemory) e h = e
-cause_of_policy names before after failed now bytes (Err (BadFile which why)) e h = e
-cause_of_policy names before after failed now bytes (Err (ReadFault which)) e h = absurd (policy_is_read which bytes h)
+rows_answered : (answer : Result (List Row) RowFault) (which : Which)
+    → fault_of (rows_answer answer >>= (λ rows. Ok (opened rows))) ≡ Some (ReadFault which) → ⊥
+rows_answered (Ok rows) which e = cc e
+rows_answered (Err row.NoMemory) which e = cc e
+rows_answered (Err row.NotJson) which e = cc e
+rows_answered (Err (row.BadField name)) which e = cc e
+rows_answered (Err row.NameMismatch) which e = cc e
+rows_answered (Err (row.Range name)) which e = cc e
+rows_answered (Err (row.Repeated name)) which e = cc e
+rows_answered (Err row.Full) which e = cc e
+
+pub table_is_read : (bytes : Option (List ℕ)) (which : Which) → fault_of (table_in bytes) ≡ Some (ReadFault which) → ⊥
+table_is_read None which e = cc e
+table_is_read (Some bytes) which e = rows_answered (read_rows bytes) which e
 
 -- a read may always fail
 pub fault_may_be_read : (told : Option (List (List ℕ × List ℕ))) (name : Option (List ℕ)) → IsRead told name (Err fail.Fault)

@@ -9,6 +9,11 @@ use Rattle.token_users.specs.File.{file_records}
 use Rattle.token_users.specs.declared.record.Record.{Record}
 use Rattle.token_users.specs.declared.fault.TokenFault.{TokenFault}
 use Rattle.token_users.specs.declared.fault.TokenFault.TheVariants as token
+use Rattle.apiservice_rows.specs.Row.{Row}
+use Rattle.apiservice_rows.specs.RowList.{read_rows}
+use Rattle.apiservice_rows.specs.declared.fault.RowFault.{RowFault}
+use Rattle.apiservice_rows.specs.declared.fault.RowFault.TheVariants as row
+use Rattle.apiservice_table.specs.Table.{Table, with_rows}
 use Rattle.policy_rules.specs.Policy.{all_metadata}
 use Rattle.policy_rules.specs.Reading.{read_policy}
 use Rattle.policy_rules.specs.declared.policy.Policy.{Policy}
@@ -16,7 +21,7 @@ use Rattle.policy_rules.specs.declared.fault.PolicyFault.{PolicyFault}
 use Rattle.policy_rules.specs.declared.fault.PolicyFault.TheVariants as policy
 use Rattle.front_config.specs.declared.command.FileNames.{FileNames}
 use Rattle.front_config.specs.declared.files.Loaded.{Loaded}
-use Rattle.front_config.specs.declared.fault.FileFault.TheVariants.{TooLong, Token, PolicyFile}
+use Rattle.front_config.specs.declared.fault.FileFault.TheVariants.{TooLong, Token, PolicyFile, RowsFile}
 use Rattle.front_config.specs.declared.fault.LoadFault.{LoadFault}
 use Rattle.front_config.specs.declared.fault.LoadFault.TheVariants.{ReadFault, BadFile, NoMemory}
 use Rattle.front_config.specs.declared.fault.Which.{Which}
@@ -73,12 +78,30 @@ policy_in (Some bytes) = policy_answer (read_policy bytes)
 abbrev pub policy_of : Option (List ℕ) → Read → Result Policy LoadFault
 policy_of name read = bytes_in file.Policy name read >>= policy_in
 
+abbrev pub rows_answer : Result (List Row) RowFault → Result (List Row) LoadFault
+rows_answer (Ok rows) = Ok rows
+rows_answer (Err row.NoMemory) = Err NoMemory
+rows_answer (Err fault) = Err (BadFile file.Services (RowsFile fault))
+
+-- the table of these rows, before any change
+abbrev pub opened : List Row → Table
+opened rows = record { rows = with_rows rows []; changes = 0 }
+
+-- the table of a file of APIService objects; of no rows where no file is named
+abbrev pub table_in : Option (List ℕ) → Result Table LoadFault
+table_in None = Ok (opened [])
+table_in (Some bytes) = rows_answer (read_rows bytes) >>= (λ rows. Ok (opened rows))
+
+abbrev pub table_of : Option (List ℕ) → Read → Result Table LoadFault
+table_of name read = bytes_in file.Services name read >>= table_in
+
 -- what the files that are named give, one after the other: the first that isn't read or is refused is the answer
-unfoldable pub load_of : FileNames → Read → Read → Result Loaded LoadFault
-load_of names tokens policy = do
+unfoldable pub load_of : FileNames → Read → Read → Read → Result Loaded LoadFault
+load_of names tokens policy services = do
   records ← tokens_of names.tokens tokens
   rules ← policy_of names.policy policy
-  Ok (record { tokens = records; policy = rules })
+  table ← table_of names.services services
+  Ok (record { tokens = records; policy = rules; table = table })
 
 -- ---- answers
 
@@ -101,6 +124,7 @@ Gives (Err fault) due = Fails fault (fault_of due)
 abbrev pub name_for : FileNames → Which → Option (List ℕ)
 name_for names file.Tokens = names.tokens
 name_for names file.Policy = names.policy
+name_for names file.Services = names.services
 
 -- only where the count of faults rose is a file said not to be read, and the name told then is that of this file.
 -- Otherwise what is told of the last failure stays

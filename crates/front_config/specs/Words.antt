@@ -56,12 +56,13 @@ number_or default (Some text) = usage_or (number_of text)
 
 -- the options of `explain`
 abbrev pub explain_names : List (List ℕ)
-explain_names = codes "token-auth-file" ∷ codes "audit-policy-file" ∷ codes "moment" ∷ []
+explain_names = codes "token-auth-file" ∷ codes "audit-policy-file" ∷ codes "apiservices" ∷ codes "moment" ∷ []
 
 abbrev pub file_names : List Named → FileNames
 file_names given = record {
   tokens = value_of (codes "token-auth-file") given;
   policy = value_of (codes "audit-policy-file") given;
+  services = value_of (codes "apiservices") given;
 }
 
 -- a moment is below the year 9999 in UTC

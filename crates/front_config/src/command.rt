@@ -1,11 +1,12 @@
 // What a command line asks for.
 use front_base::{Moment, Text};
 
-/// The files that a command line names, by `--token-auth-file` and `--audit-policy-file`.
+/// The files that a command line names, by `--token-auth-file`, `--audit-policy-file` and `--apiservices`.
 #[derive(Debug, Drop)]
 pub struct FileNames {
     pub tokens: Option<Text>,
     pub policy: Option<Text>,
+    pub services: Option<Text>,
 }
 
 /// What `explain` was told.

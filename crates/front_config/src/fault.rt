@@ -2,6 +2,7 @@ ghost use Rattle.std.specs.Prelude.{◌≡◌};
 ghost use Rattle.front_config.specs.declared.fault.LoadFault.TheVariants as load_fault;
 ghost use Rattle.front_config.specs.declared.fault.WordsFault.TheVariants as words_fault;
 
+use apiservice_rows::RowFault;
 use front_base::{NoMemory as OutOfMemory, Text};
 use policy_rules::PolicyFault;
 use std::alloc::{AllocError, AllocFailed};
@@ -49,6 +50,7 @@ impl From<OutOfMemory> for WordsFault {
 pub enum Which {
     Tokens,
     Policy,
+    Services,
 }
 
 /// Why the bytes of a file are refused.
@@ -60,6 +62,8 @@ pub enum FileFault {
     Token(u32),
     /// A policy file states no policy.
     PolicyFile(PolicyFault),
+    /// A file of APIService objects is refused.
+    RowsFile(RowFault),
 }
 
 /// Why files were not loaded.

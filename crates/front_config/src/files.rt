@@ -5,6 +5,8 @@ ghost use Rattle.front_config.specs.Load as spec;
 
 use crate::command::FileNames;
 use crate::fault::{FileFault, LoadFault, Which};
+use apiservice_rows::{RowFault, Rows, read_rows};
+use apiservice_table::{RouteTable, read_rows_fit};
 use front_base::{Bytes, Text};
 use front_ports::{FileFail, Files, MOST_FILE_BYTES};
 use policy_rules::{Policy, PolicyFault, read_policy};
@@ -18,6 +20,8 @@ pub struct Loaded {
     pub tokens: Tokens,
     /// That of the policy file; `Policy::all_metadata` where no file is named.
     pub policy: Policy,
+    /// Of the rows of the file of APIService objects, before any change; of no rows where no file is named.
+    pub table: RouteTable,
 }
 
 fn name_for(names: &FileNames, which: Which) -> Option<&Text>
@@ -26,6 +30,7 @@ fn name_for(names: &FileNames, which: Which) -> Option<&Text>
     match which {
         Which::Tokens => names.tokens.as_ref(),
         Which::Policy => names.policy.as_ref(),
+        Which::Services => names.services.as_ref(),
     }
 }
 
@@ -85,10 +90,8 @@ fn tokens_of<F: Files>(alloc: Global, names: &FileNames, files: &mut F) -> Resul
     ensures kept { KeepsFiles (F.files files.old) (F.files files.new) }
     ensures later { F.faults files.old ≤ F.faults files.new }
 {
-    match bytes_of(alloc, names, Which::Tokens, files) {
-        Ok(bytes) => tokens_in(alloc, bytes),
-        Err(fault) => Err(fault),
-    }
+    let bytes = bytes_of(alloc, names, Which::Tokens, files)?;
+    tokens_in(alloc, bytes)
 }
 
 fn policy_in(alloc: Global, bytes: Option<Bytes>) -> Result<Policy, LoadFault>
@@ -116,19 +119,52 @@ fn policy_of<F: Files>(alloc: Global, names: &FileNames, files: &mut F) -> Resul
     ensures kept { KeepsFiles (F.files files.old) (F.files files.new) }
     ensures later { F.faults files.old ≤ F.faults files.new }
 {
-    match bytes_of(alloc, names, Which::Policy, files) {
-        Ok(bytes) => policy_in(alloc, bytes),
-        Err(fault) => Err(fault),
+    let bytes = bytes_of(alloc, names, Which::Policy, files)?;
+    policy_in(alloc, bytes)
+}
+
+fn table_in(alloc: Global, bytes: Option<Bytes>) -> Result<RouteTable, LoadFault>
+    ensures { spec.Gives result (spec.table_in bytes) }
+{
+    read_rows_fit();
+    let Some(bytes) = bytes else {
+        return Ok(RouteTable::from_rows(alloc, Rows::new(Vec::new(alloc)))?);
+    };
+    match read_rows(alloc, bytes.as_slice()) {
+        Ok(rows) => Ok(RouteTable::from_rows(alloc, rows)?),
+        Err(RowFault::NoMemory) => Err(LoadFault::NoMemory),
+        Err(fault) => Err(LoadFault::BadFile {
+            which: Which::Services,
+            fault: FileFault::RowsFile(fault),
+        }),
     }
+}
+
+fn table_of<F: Files>(
+    alloc: Global,
+    names: &FileNames,
+    files: &mut F,
+) -> Result<RouteTable, LoadFault>
+    ensures loaded { (read : spec.Read)
+        × spec.IsRead (F.files files.old) names.now.services read
+        × spec.Gives result (spec.table_of names.now.services read) }
+    ensures cause { spec.HasCause names.now (F.faults files.old) (F.faults files.new)
+        (F.failed files.old) (F.failed files.new) result }
+    ensures kept { KeepsFiles (F.files files.old) (F.files files.new) }
+    ensures later { F.faults files.old ≤ F.faults files.new }
+{
+    let bytes = bytes_of(alloc, names, Which::Services, files)?;
+    table_in(alloc, bytes)
 }
 
 /// What the named files say. They are read and checked one after the other, in the order of `Which`, and the first
 /// refusal is the answer.
 pub fn load<F: Files>(alloc: Global, names: &FileNames, files: &mut F) -> Result<Loaded, LoadFault>
-    ensures loaded { (tokens : spec.Read) × (policy : spec.Read)
+    ensures loaded { (tokens : spec.Read) × (policy : spec.Read) × (services : spec.Read)
         × spec.IsRead (F.files files.old) names.now.tokens tokens
         × spec.IsRead (F.files files.old) names.now.policy policy
-        × spec.Gives result (spec.load_of names.now tokens policy) }
+        × spec.IsRead (F.files files.old) names.now.services services
+        × spec.Gives result (spec.load_of names.now tokens policy services) }
     ensures cause { spec.HasCause names.now (F.faults files.old) (F.faults files.new)
         (F.failed files.old) (F.failed files.new) result }
 
@@ -136,12 +172,12 @@ pub fn load<F: Files>(alloc: Global, names: &FileNames, files: &mut F) -> Result
     ensures kept { KeepsFiles (F.files files.old) (F.files files.new) }
     ensures later { F.faults files.old ≤ F.faults files.new }
 {
-    let tokens = match tokens_of(alloc, names, files) {
-        Ok(tokens) => tokens,
-        Err(fault) => return Err(fault),
-    };
-    match policy_of(alloc, names, files) {
-        Ok(policy) => Ok(Loaded { tokens, policy }),
-        Err(fault) => Err(fault),
-    }
+    let tokens = tokens_of(alloc, names, files)?;
+    let policy = policy_of(alloc, names, files)?;
+    let table = table_of(alloc, names, files)?;
+    Ok(Loaded {
+        tokens,
+        policy,
+        table,
+    })
 }

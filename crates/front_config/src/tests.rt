@@ -1,10 +1,11 @@
 use crate::{Command, FileNames, Loaded, WordsFault, load, read_words};
-use front_base::{Bytes, Text};
+use apiservice_rows::MOST_ROWS;
+use front_base::{Bytes, NoMemory, Text};
 use front_ports::{MOST_FILE_BYTES, MemFiles};
 use std::alloc::{AllocError, Global};
 use std::test::Fail;
 
-// Command lines whose words stand between bars, and what they ask for: the names of the files and the moment.
+// Command lines whose words stand between bars, and what they ask for: the files of tokens and policy, and the moment.
 const LINES: [(&str, &str); 58] = [
     ("explain", "explain - - 0"),
     ("explain|--moment=7", "explain - - 7"),
@@ -135,35 +136,144 @@ fn command_lines_and_what_they_ask_for(rt: HostRuntime) -> Result<(), Fail> {
     Ok(())
 }
 
-fn name(alloc: Global, name: &str) -> Result<Option<Text>, Fail> {
-    if name.is_empty() {
-        return Ok(None);
+// Command lines whose words stand between bars, and the file of APIService objects that they name.
+const SERVICES: &str = "explain -
+explain|--moment=7 -
+explain|--apiservices=s s
+explain|--apiservices|s s
+explain|--apiservices|apiservices apiservices
+explain|--moment|7|--apiservices=--a=b|--audit-policy-file|p --a=b
+explain|--token-auth-file=t|--apiservices|s|--audit-policy-file=p s
+explain|--apiservices=s|--apiservices=s usage
+explain|--apiservices|s|--apiservices=r usage
+explain|--apiservices= usage
+explain|--apiservices| usage
+explain|--apiservices usage
+explain|--apiservices|-s usage
+explain|--apiservice=s usage";
+
+fn services_named(alloc: Global, words: &Vec<String>) -> Result<String, AllocError> {
+    match read_words(alloc, words) {
+        Ok(Command::Explain(told)) => String::from_str(alloc, name_or_dash(&told.files.services)),
+        Err(WordsFault::Usage) => String::from_str(alloc, "usage"),
+        Err(fault) => format!(in alloc; "{fault:?}"),
     }
-    Ok(Some(Text::copy_of(alloc, name)?))
 }
 
-fn names_of(alloc: Global, tokens: &str, policy: &str) -> Result<FileNames, Fail> {
+#[test]
+fn the_file_of_services_is_named_by_an_option(rt: HostRuntime) -> Result<(), Fail> {
+    let alloc = rt.alloc();
+    for row in SERVICES.lines() {
+        let (line, answer) = row.split_once(' ').ok_or("two words")?;
+        let words = words_of(alloc, line)?;
+        assert_eq!(rt; services_named(alloc, &words)?.as_str(), answer, "{row}");
+    }
+    Ok(())
+}
+
+const TWO_RULES: &str = r#"{"kind":"Policy","apiVersion":"audit.k8s.io/v1",
+"rules":[{"level":"None","users":["ann"]},{"level":"Metadata"}]}"#;
+
+// An APIService object of version v1, by its name, its group and its group's priority.
+fn push_object(
+    text: &mut String,
+    name: &str,
+    group: &str,
+    priority: &str,
+) -> Result<(), AllocError> {
+    text.push_str(
+        r#"{"apiVersion":"apiregistration.k8s.io/v1","kind":"APIService","metadata":{"name":""#,
+    )?;
+    text.push_str(name)?;
+    text.push_str(r#""},"spec":{"version":"v1","versionPriority":10,"group":""#)?;
+    text.push_str(group)?;
+    text.push_str(r#"","groupPriorityMinimum":"#)?;
+    text.push_str(priority)?;
+    text.push_str("}}")
+}
+
+// A list of the objects that stand in words, as `NAME/GROUP/PRIORITY`.
+fn list_of(alloc: Global, told: &str) -> Result<String, Fail> {
+    let mut text = String::from_str(alloc, r#"{"apiVersion":"v1","kind":"List","items":["#)?;
+    for word in told.split(' ') {
+        let parts: Vec<&str> = word.split('/').collect(alloc)?;
+        let [name, group, priority] = parts.as_slice() else {
+            return Err("three parts".into());
+        };
+        if text.ends_with('}') {
+            text.push(',')?;
+        }
+        push_object(&mut text, name, group, priority)?;
+    }
+    text.push_str("]}")?;
+    Ok(text)
+}
+
+// A list of one row more than a table holds.
+fn full_list(alloc: Global) -> Result<String, Fail> {
+    let mut told = String::from_str(alloc, "v1.//1")?;
+    for i in 0..MOST_ROWS {
+        let word = format!(in alloc; " v1.g{i}/g{i}/1")?;
+        told.push_str(word.as_str())?;
+    }
+    list_of(alloc, told.as_str())
+}
+
+// The bytes of a file, by what a table says of it.
+fn held(alloc: Global, told: &str) -> Result<Bytes, Fail> {
+    let text = match told {
+        "EMPTY" => String::new(alloc),
+        "TWO ROWS" => String::from_str(alloc, "a,b,c\nx\n")?,
+        "TWO RULES" => String::from_str(alloc, TWO_RULES)?,
+        "LONG" => return Ok(Bytes::new(vec![in alloc; b'\n'; MOST_FILE_BYTES as usize + 1]?)),
+        "FULL" => full_list(alloc)?,
+        _ if told.starts_with("v1.") => list_of(alloc, told)?,
+        _ => String::from_str(alloc, told)?,
+    };
+    Ok(Bytes::new(text.into_bytes()))
+}
+
+// The name of a file: none where nothing is said of it, and another than its own where it is missing.
+fn name_of(alloc: Global, own: &str, told: &str) -> Result<Option<Text>, NoMemory> {
+    match told {
+        "" => Ok(None),
+        "?" => Ok(Some(Text::copy_of(alloc, "q")?)),
+        _ => Ok(Some(Text::copy_of(alloc, own)?)),
+    }
+}
+
+fn names_of(alloc: Global, tokens: &str, policy: &str, services: &str) -> Result<FileNames, Fail> {
     Ok(FileNames {
-        tokens: name(alloc, tokens)?,
-        policy: name(alloc, policy)?,
+        tokens: name_of(alloc, "t", tokens)?,
+        policy: name_of(alloc, "p", policy)?,
+        services: name_of(alloc, "s", services)?,
     })
 }
 
-// The file `t` and the file `p`, of which the read with that number fails.
-fn files_of(alloc: Global, t: Vec<u8>, p: Vec<u8>, fails: u64) -> Result<MemFiles, Fail> {
-    let first = (Text::copy_of(alloc, "t")?, Bytes::new(t));
-    let second = (Text::copy_of(alloc, "p")?, Bytes::new(p));
-    Ok(MemFiles::new(vec![in alloc; first, second]?, vec![in alloc; fails]?))
+// The files `t`, `p` and `s`, of which the read with that number fails.
+fn files_of(alloc: Global, t: &str, p: &str, s: &str, fails: u64) -> Result<MemFiles, Fail> {
+    let tokens = (Text::copy_of(alloc, "t")?, held(alloc, t)?);
+    let policy = (Text::copy_of(alloc, "p")?, held(alloc, p)?);
+    let services = (Text::copy_of(alloc, "s")?, held(alloc, s)?);
+    Ok(MemFiles::new(
+        vec![in alloc; tokens, policy, services]?,
+        vec![in alloc; fails]?,
+    ))
 }
 
-// The user of the token `a`, and how many rules there are.
+// The user of the token `a`, how many rules there are, and the names of the rows.
 fn said(alloc: Global, loaded: &Loaded) -> Result<String, Fail> {
     let user = match loaded.tokens.user(b"a") {
         Some(user) => user.name.as_str(),
         None => "-",
     };
     let rules = loaded.policy.rules.as_slice().len();
-    Ok(format!(in alloc; "{user} {rules}")?)
+    let mut text = format!(in alloc; "{user} {rules}")?;
+    for row in loaded.table.rows() {
+        text.push(' ')?;
+        text.push_str(row.name.as_str())?;
+    }
+    Ok(text)
 }
 
 fn loaded(alloc: Global, names: &FileNames, files: &mut MemFiles) -> Result<String, Fail> {
@@ -173,80 +283,55 @@ fn loaded(alloc: Global, names: &FileNames, files: &mut MemFiles) -> Result<Stri
     }
 }
 
-const ROWS: &str = "a,ann,1\n";
-
-const TWO_RULES: &str = r#"{"kind":"Policy","apiVersion":"audit.k8s.io/v1",
-"rules":[{"level":"None","users":["ann"]},{"level":"Metadata"}]}"#;
-
-// The names of the files, what the files `t` and `p` hold, which read fails, and what loading gives.
-const FILES: [(&str, &str, &str, &str, u64, &str); 13] = [
-    ("", "", "x", "x", 1, "- 1"),
-    ("t", "", ROWS, "x", 2, "ann 1"),
-    ("", "p", "x", TWO_RULES, 0, "- 2"),
-    ("t", "p", ROWS, TWO_RULES, 0, "ann 2"),
-    ("t", "p", "", TWO_RULES, 3, "- 2"),
-    (
-        "t",
-        "p",
-        "a,b,c\nx\n",
-        "x",
-        2,
-        "BadFile { which: Tokens, fault: Token(1) }",
-    ),
-    (
-        "t",
-        "p",
-        ROWS,
-        "{",
-        0,
-        "BadFile { which: Policy, fault: PolicyFile(NotJson) }",
-    ),
-    (
-        "t",
-        "p",
-        ROWS,
-        r#"{"kind":"Policy","apiVersion":"audit.k8s.io/v1"}"#,
-        0,
-        "BadFile { which: Policy, fault: PolicyFile(NoRules) }",
-    ),
-    ("q", "p", ROWS, "{", 0, "ReadFault { which: Tokens }"),
-    ("t", "q", ROWS, TWO_RULES, 0, "ReadFault { which: Policy }"),
-    ("t", "p", "x", "{", 1, "ReadFault { which: Tokens }"),
-    ("t", "p", ROWS, TWO_RULES, 2, "ReadFault { which: Policy }"),
-    (
-        "t",
-        "q",
-        "x",
-        TWO_RULES,
-        0,
-        "BadFile { which: Tokens, fault: Token(0) }",
-    ),
-];
+// What the files of tokens, policy and services hold, which read fails, and what loading gives. Where nothing stands, no
+// file is named; a file `?` is missing.
+const FILES: &str = r#"|||1|- 1
+a,ann,1|||2|ann 1
+|TWO RULES||0|- 2
+||v1.g/g/100|0|- 1 v1.g
+||{"kind":"List"}|0|BadFile { which: Services, fault: RowsFile(BadField { name: Text("items") }) }
+a,ann,1|TWO RULES||3|ann 2
+a,ann,1|TWO RULES|v1.h/h/100 v1.g/g/100 v1.//100|4|ann 2 v1. v1.g v1.h
+EMPTY|TWO RULES|v1.//1|0|- 2 v1.
+TWO ROWS|x|x|2|BadFile { which: Tokens, fault: Token(1) }
+a,ann,1|{|x|0|BadFile { which: Policy, fault: PolicyFile(NotJson) }
+a,ann,1|{"kind":"Policy","apiVersion":"audit.k8s.io/v1"}|{|0|BadFile { which: Policy, fault: PolicyFile(NoRules) }
+a,ann,1|TWO RULES|{|0|BadFile { which: Services, fault: RowsFile(NotJson) }
+||{}|0|BadFile { which: Services, fault: RowsFile(BadField { name: Text("kind") }) }
+||v1.g/G/100|0|BadFile { which: Services, fault: RowsFile(BadField { name: Text("group") }) }
+||v1.h/g/100|0|BadFile { which: Services, fault: RowsFile(NameMismatch) }
+||v1.g/g/0|0|BadFile { which: Services, fault: RowsFile(Range { name: Text("groupPriorityMinimum") }) }
+||v1.g/g/100 v1.h/h/100 v1.g/g/1|0|BadFile { which: Services, fault: RowsFile(Repeated { name: Text("v1.g") }) }
+||FULL|0|BadFile { which: Services, fault: RowsFile(Full) }
+?|{|{|0|ReadFault { which: Tokens }
+a,ann,1|?|{|0|ReadFault { which: Policy }
+a,ann,1|TWO RULES|?|0|ReadFault { which: Services }
+x|{|{|1|ReadFault { which: Tokens }
+a,ann,1|TWO RULES|{|2|ReadFault { which: Policy }
+a,ann,1|TWO RULES|v1.g/g/100|3|ReadFault { which: Services }
+|TWO RULES|v1.g/g/100|2|ReadFault { which: Services }
+x|?|?|0|BadFile { which: Tokens, fault: Token(0) }
+|{|?|0|BadFile { which: Policy, fault: PolicyFile(NotJson) }
+LONG|?||0|BadFile { which: Tokens, fault: TooLong }
+|LONG|?|0|BadFile { which: Policy, fault: TooLong }
+||LONG|0|BadFile { which: Services, fault: TooLong }"#;
 
 #[test]
 fn files_and_what_they_give(rt: HostRuntime) -> Result<(), Fail> {
     let alloc = rt.alloc();
-    for (tokens, policy, t, p, fails, answer) in FILES {
-        let names = names_of(alloc, tokens, policy)?;
-        let (t, p) = (t.as_bytes().to_vec(alloc)?, p.as_bytes().to_vec(alloc)?);
-        let mut files = files_of(alloc, t, p, fails)?;
-        assert_eq!(rt; loaded(alloc, &names, &mut files)?.as_str(), answer);
+    for row in FILES.lines() {
+        let parts: Vec<&str> = row.split('|').collect(alloc)?;
+        let [tokens, policy, services, fails, answer] = parts.as_slice() else {
+            return Err("five parts".into());
+        };
+        let names = names_of(alloc, tokens, policy, services)?;
+        let fails = fails.parse::<u64>().map_err(|_| "a number")?;
+        let mut files = files_of(alloc, tokens, policy, services, fails)?;
+        assert_eq!(rt;
+            loaded(alloc, &names, &mut files)?.as_str(),
+            *answer,
+            "{row}"
+        );
     }
-    Ok(())
-}
-
-#[test]
-fn files_that_are_too_long(rt: HostRuntime) -> Result<(), Fail> {
-    let alloc = rt.alloc();
-    let long = vec![in alloc; b'\n'; MOST_FILE_BYTES as usize + 1]?;
-    let names = names_of(alloc, "", "p")?;
-    let mut files = files_of(alloc, Vec::new(alloc), long, 0)?;
-    let answer = "BadFile { which: Policy, fault: TooLong }";
-    assert_eq!(rt; loaded(alloc, &names, &mut files)?.as_str(), answer);
-    let long = vec![in alloc; b'\n'; MOST_FILE_BYTES as usize + 1]?;
-    let names = names_of(alloc, "t", "q")?;
-    let mut files = files_of(alloc, long, Vec::new(alloc), 0)?;
-    let answer = "BadFile { which: Tokens, fault: TooLong }";
-    assert_eq!(rt; loaded(alloc, &names, &mut files)?.as_str(), answer);
     Ok(())
 }

@@ -13,6 +13,8 @@ const TOKENS: &str = "token-auth-file";
 
 const POLICY: &str = "audit-policy-file";
 
+const SERVICES: &str = "apiservices";
+
 const MOMENT: &str = "moment";
 
 fn out_of_range(alloc: Global, name: &str) -> WordsFault
@@ -39,6 +41,7 @@ fn file_names(alloc: Global, options: &Options) -> Result<FileNames, NoMemory>
     Ok(FileNames {
         tokens: text_of(alloc, TOKENS, options)?,
         policy: text_of(alloc, POLICY, options)?,
+        services: text_of(alloc, SERVICES, options)?,
     })
 }
 
@@ -56,7 +59,7 @@ fn explain_by(alloc: Global, options: &Options) -> Result<ExplainWords, WordsFau
 fn explain_of(alloc: Global, words: &[String]) -> Result<ExplainWords, WordsFault>
     ensures { spec.Gives (λ v. v) result (spec.explain_of (map string_bytes words.now)) }
 {
-    match given_of(alloc, &[TOKENS, POLICY, MOMENT], words) {
+    match given_of(alloc, &[TOKENS, POLICY, SERVICES, MOMENT], words) {
         Ok(options) => explain_by(alloc, &options),
         Err(fault) => Err(fault),
     }

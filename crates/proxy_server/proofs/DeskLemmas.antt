@@ -1,5 +1,6 @@
 -- How a run ends by its words and files.
 use Rattle.std.proofs.Common.{◌≡◌, ℕ, ◌⊎◌, List, Option, Some, Result, Ok, Err, refl, inl, inr, ⊎_elim}
+use Rattle.apiservice_rows.specs.Row.{Row}
 use Rattle.front_ports.specs.Cause.{Rose}
 use Rattle.front_config.specs.Load as load
 use Rattle.front_config.specs.Load.{Read, IsRead, load_of}
@@ -36,32 +37,35 @@ words_refused line told failed0 failed FilesRose (words_fault.Limits name) h =
 words_refused line told failed0 failed FilesRose words_fault.NoMemory h = tt
 
 -- what the reads of files gave
-abbrev pub loads_of : (line : List (List ℕ)) (told : Told) (explain : ExplainWords) (tokens policy : Read) (loaded : Result Loaded LoadFault)
+abbrev pub loads_of : (line : List (List ℕ)) (told : Told) (explain : ExplainWords) (tokens policy services : Read) (loaded : Result Loaded LoadFault)
     → command_of line ≡ Ok (Explain explain) → IsRead told explain.files.tokens tokens → IsRead told explain.files.policy policy
-    → load_of explain.files tokens policy ≡ loaded → Loads line told loaded
-loads_of line told explain tokens policy loaded c t p l = record {
+    → IsRead told explain.files.services services → load_of explain.files tokens policy services ≡ loaded → Loads line told loaded
+loads_of line told explain tokens policy services loaded c t p s l = record {
   explain = explain;
   command = c;
   tokens = tokens;
   policy = policy;
+  services = services;
   tokens_read = t;
   policy_read = p;
+  services_read = s;
   load = l;
 }
 
 -- files that are not loaded are refused so
-pub load_refused : (line : List (List ℕ)) (told : Told) (failed0 failed : Option (Option (List ℕ))) (before after : ℕ) (explain : ExplainWords) (tokens policy : Read)
-    (fault : LoadFault) → command_of line ≡ Ok (Explain explain) → IsRead told explain.files.tokens tokens → IsRead told explain.files.policy policy
-    → load.Fails fault (load.fault_of (load_of explain.files tokens policy))
+pub load_refused : (line : List (List ℕ)) (told : Told) (failed0 failed : Option (Option (List ℕ))) (before after : ℕ) (explain : ExplainWords)
+    (tokens policy services : Read) (fault : LoadFault) → command_of line ≡ Ok (Explain explain) → IsRead told explain.files.tokens tokens
+    → IsRead told explain.files.policy policy → IsRead told explain.files.services services
+    → load.Fails fault (load.fault_of (load_of explain.files tokens policy services))
     → load.HasCause {A = Loaded} explain.files before after failed0 failed (Err fault)
     → IsRefused line told failed0 failed (Rose before after) (status_of_load fault)
-load_refused line told failed0 failed before after explain tokens policy (load_fault.ReadFault which) c t p h cause =
-    let e : load_of explain.files tokens policy ≡ Err (load_fault.ReadFault which) = load_fault_is _ _ h in
-    (cause.0, (which, loads_of line told explain tokens policy (Err (load_fault.ReadFault which)) c t p e, cause.1))
-load_refused line told failed0 failed before after explain tokens policy (load_fault.BadFile which fault) c t p h cause =
-    let e : load_of explain.files tokens policy ≡ Err (load_fault.BadFile which fault) = load_fault_is _ _ h in
-    inr (which, fault, loads_of line told explain tokens policy (Err (load_fault.BadFile which fault)) c t p e)
-load_refused line told failed0 failed before after explain tokens policy load_fault.NoMemory c t p h cause = tt
+load_refused line told failed0 failed before after explain tokens policy services (load_fault.ReadFault which) c t p s h cause =
+    let e : load_of explain.files tokens policy services ≡ Err (load_fault.ReadFault which) = load_fault_is _ _ h in
+    (cause.0, (which, loads_of line told explain tokens policy services (Err (load_fault.ReadFault which)) c t p s e, cause.1))
+load_refused line told failed0 failed before after explain tokens policy services (load_fault.BadFile which fault) c t p s h cause =
+    let e : load_of explain.files tokens policy services ≡ Err (load_fault.BadFile which fault) = load_fault_is _ _ h in
+    inr (which, fault, loads_of line told explain tokens policy services (Err (load_fault.BadFile which fault)) c t p s e)
+load_refused line told failed0 failed before after explain tokens policy services load_fault.NoMemory c t p s h cause = tt
 
 -- ---- what the words alone decide
 
@@ -77,23 +81,24 @@ module _ (line : List (List ℕ)) (told : Told) (failed0 failed : Option (Option
   usage_by NumbersSpent e h = absurd h
   usage_by Input e h = absurd h
 
-  served_not : (set : Settings) (status : Status) → code_of status ≡ 2 → Serves set left0 left w0 w ReadRose WriteRose status → command_of line ≡ Err words_fault.Usage
-  served_not set Usage e h = absurd h
-  served_not set Done e h = absurd (cc e)
-  served_not set Configuration e h = absurd h
-  served_not set ReadFault e h = absurd (cc e)
-  served_not set PortFault e h = absurd h
-  served_not set NoMemory e h = absurd (cc e)
-  served_not set WriteFault e h = absurd (cc e)
-  served_not set NumbersSpent e h = absurd (cc e)
-  served_not set Input e h = absurd (cc e)
+  served_not : (set : Settings) (rows : List Row) (status : Status) → code_of status ≡ 2 → Serves set rows left0 left w0 w ReadRose WriteRose status → command_of line ≡ Err words_fault.Usage
+  served_not set rows Usage e h = absurd h
+  served_not set rows Done e h = absurd (cc e)
+  served_not set rows Configuration e h = absurd h
+  served_not set rows ReadFault e h = absurd (cc e)
+  served_not set rows PortFault e h = absurd h
+  served_not set rows NoMemory e h = absurd (cc e)
+  served_not set rows WriteFault e h = absurd (cc e)
+  served_not set rows NumbersSpent e h = absurd (cc e)
+  served_not set rows Input e h = absurd (cc e)
 
   pub usage_is : (status : Status) → code_of status ≡ 2 → Run line told failed0 failed left0 left w0 w FilesRose ReadRose WriteRose status
       → command_of line ≡ Err words_fault.Usage
   usage_is status e run =
       ⊎_elim
       (λ (q : IsRefused line told failed0 failed FilesRose status × (left ≡ left0) × (w ≡ w0)). usage_by status e q.0)
-      (λ (q : (set : Settings) × Configures line told set × Serves set left0 left w0 w ReadRose WriteRose status). served_not q.0 status e q.2)
+      (λ (q : (set : Settings) × (rows : List Row) × Configures line told set rows × Serves set rows left0 left w0 w ReadRose WriteRose status).
+      served_not q.0 q.1 status e q.3)
       run
 
   misused_by : (status : Status) → command_of line ≡ Err words_fault.Usage → IsRefused line told failed0 failed FilesRose status
@@ -117,5 +122,6 @@ module _ (line : List (List ℕ)) (told : Told) (failed0 failed : Option (Option
   misused_is status e run =
       ⊎_elim
       (λ (q : IsRefused line told failed0 failed FilesRose status × (left ≡ left0) × (w ≡ w0)). misused_by status e q.0)
-      (λ (q : (set : Settings) × Configures line told set × Serves set left0 left w0 w ReadRose WriteRose status). absurd (cc (e, q.1.loads.command)))
+      (λ (q : (set : Settings) × (rows : List Row) × Configures line told set rows × Serves set rows left0 left w0 w ReadRose WriteRose status).
+      absurd (cc (e, q.2.loads.command)))
       run

@@ -1,5 +1,7 @@
+mod AnswerLemmas
 mod DeskLemmas
 mod HeaderLemmas
 mod JudgeLemmas
 mod ListLemmas
 mod ServingLemmas
+mod TableLemmas

@@ -4,6 +4,8 @@ use Rattle.http_edge.specs.Requests.{StartsWith, asks, on_asks, IsRequests, IsSt
 use Rattle.http_edge.specs.declared.request.End.{End}
 use Rattle.http_edge.specs.declared.request.End.TheVariants as end
 use Rattle.http_edge.specs.declared.request.Request.{Request}
+use Rattle.apiservice_rows.specs.Row.{Row}
+use Rattle.proxy_server.specs.Answer.{rows_after, rows_after_all}
 use Rattle.proxy_server.specs.Exchange.{IsLines}
 use Rattle.proxy_server.specs.Serving.{AreLines, FirstOf}
 use Rattle.proxy_server.specs.declared.settings.Settings.{Settings}
@@ -84,20 +86,22 @@ stop_whole law bytes ys end.BodyTooLarge P s n f = law bytes ys end.BodyTooLarge
 
 -- ---- their lines
 
-pub lines_none : (set : Settings) (n : ℕ) → AreLines set n [] []
-lines_none set n = refl
+pub rows_after_one : (set : Settings) (rows : List Row) (rs : List Request) (r : Request)
+    → rows_after_all set rows (rs ++ r ∷ []) ≡ rows_after set (rows_after_all set rows rs) r
+rows_after_one set rows [] r = refl
+rows_after_one set rows (q ∷ rs) r = rows_after_one set (rows_after set rows q) rs r
 
-pub lines_one : (set : Settings) (n m : ℕ) (rs : List Request) (r : Request) (text own : List ℕ) → n + length rs ≡ m
-    → AreLines set n rs text → IsLines set m r own → AreLines set n (rs ++ r ∷ []) (text ++ own)
-lines_one set n m [] r text own e h is =
+pub lines_one : (set : Settings) (n m : ℕ) (rows : List Row) (rs : List Request) (r : Request) (text own : List ℕ) → n + length rs ≡ m
+    → AreLines set n rows rs text → IsLines set (rows_after_all set rows rs) m r own → AreLines set n rows (rs ++ r ∷ []) (text ++ own)
+lines_one set n m rows [] r text own e h is =
     let place : m ≡ n = sym e ∙ omega arith in
-    (own, [], subst (λ k. IsLines set k r own) place is, refl, ap (λ l. l ++ own) h ∙ sym (append-nil own))
-lines_one set n m (q ∷ rs) r text own e h is =
+    (own, [], subst (λ k. IsLines set rows k r own) place is, refl, ap (λ l. l ++ own) h ∙ sym (append-nil own))
+lines_one set n m rows (q ∷ rs) r text own e h is =
     let place : (n + 1) + length rs ≡ m = omega arith in (
       h.0,
       h.1 ++ own,
       h.2,
-      lines_one set (n + 1) m rs r h.1 own place h.3 is,
+      lines_one set (n + 1) m (rows_after set rows q) rs r h.1 own place h.3 is,
       ap (λ l. l ++ own) h.4 ∙ append_assoc h.0 h.1 own,
     )
 

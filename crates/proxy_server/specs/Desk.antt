@@ -1,5 +1,6 @@
 -- A run of the command `explain`: its words, the files that they name, and the requests of its input.
 use Rattle.std.specs.Prelude.{◌≡◌, ℕ, ◌⊎◌, List, Option, Result, Ok, Err}
+use Rattle.apiservice_rows.specs.Row.{Row}
 use Rattle.front_ports.specs.FileMap.{Notes}
 use Rattle.front_config.specs.Load.{Read, IsRead, load_of, name_for}
 use Rattle.front_config.specs.Words.{command_of}
@@ -27,19 +28,22 @@ pub record Loads (words : List (List ℕ)) (told : Told) (loaded : Result Loaded
   pub command : command_of words ≡ Ok (Explain explain)
   pub tokens : Read
   pub policy : Read
+  pub services : Read
   pub tokens_read : IsRead told explain.files.tokens tokens
   pub policy_read : IsRead told explain.files.policy policy
-  pub load : load_of explain.files tokens policy ≡ loaded
+  pub services_read : IsRead told explain.files.services services
+  pub load : load_of explain.files tokens policy services ≡ loaded
 
 -- what words and files tell a run
 abbrev pub settings_of : ExplainWords → Loaded → Settings
 settings_of explain loaded = record { tokens = loaded.tokens; policy = loaded.policy; moment = explain.moment }
 
--- the words are a command line, the files that it names are accepted, and together they tell this
-pub record Configures (words : List (List ℕ)) (told : Told) (set : Settings) : Type 0 where
+-- the words are a command line, the files that it names are accepted, and together they tell this, and the first rows
+pub record Configures (words : List (List ℕ)) (told : Told) (set : Settings) (rows : List Row) : Type 0 where
   pub loaded : Loaded
   pub loads : Loads words told (Ok loaded)
   pub are : set ≡ settings_of loads.explain loaded
+  pub rows_are : rows ≡ loaded.table.rows
 
 -- why a run ends before its input is read, by its status. `failed0` and `failed` are what the files told of their last
 -- failure before and after, and `FilesRose` says that their count of faults rose
@@ -61,7 +65,7 @@ abbrev pub Run : List (List ℕ) → Told → Option (Option (List ℕ)) → Opt
     → Option (List ℕ) → Option (List ℕ) → Type 0 → Type 0 → Type 0 → Status → Type 0
 Run words told failed0 failed left0 left w0 w FilesRose ReadRose WriteRose status =
     (IsRefused words told failed0 failed FilesRose status × (left ≡ left0) × (w ≡ w0))
-    ⊎ ((set : Settings) × Configures words told set × Serves set left0 left w0 w ReadRose WriteRose status)
+    ⊎ ((set : Settings) × (rows : List Row) × Configures words told set rows × Serves set rows left0 left w0 w ReadRose WriteRose status)
 
 -- ---- the statuses of faults
 

@@ -1,94 +1,33 @@
--- What a request is answered, what is known of it, and the audit lines that it owes (Kubernetes, "Auditing").
-use Rattle.std.specs.Prelude.{◌≡◌, ℕ, ◌||◌, Bool, true, false, if◌then◌else◌, List, [], ◌∷◌, ◌++◌, Option, Some, None, Result, Ok, Err, codes}
-use Rattle.std.specs.List.{flat_map, list_any}
-use Rattle.std.specs.Str.{bytes_eq}
+-- What is known of a request, and the audit lines that it owes (Kubernetes, "Auditing").
+use Rattle.std.specs.Prelude.{◌≡◌, ℕ, Bool, true, false, if◌then◌else◌, List, [], ◌∷◌, ◌++◌, Option, Some, None, codes}
+use Rattle.std.specs.List.{flat_map}
 use Rattle.std.specs.Str.Lossy.{utf8_lossy}
+use Rattle.apiservice_rows.specs.Row.{Row}
 use Rattle.event_text.specs.Line.{line_text}
 use Rattle.front_base.specs.AuditId.{AuditId}
 use Rattle.front_base.specs.Info.{is_long_running}
-use Rattle.front_base.specs.declared.info.Info.{Info}
 use Rattle.front_base.specs.declared.level.Level.{Level}
 use Rattle.front_base.specs.declared.level.Level.TheVariants as level
 use Rattle.front_base.specs.declared.stage.Stage.{Stage}
 use Rattle.front_base.specs.declared.stage.Stage.TheVariants.{RequestReceived, ResponseStarted, ResponseComplete, Panic}
-use Rattle.front_base.specs.declared.user.User.{User}
 use Rattle.http_edge.specs.declared.request.Request.{Request}
-use Rattle.http_head.specs.Name.{is_named, name_begins}
 use Rattle.http_head.specs.declared.header.Header.{Header}
-use Rattle.local_replies.specs.Paths.{local_of}
-use Rattle.local_replies.specs.Status.{refusal_text}
+use Rattle.local_replies.specs.declared.reply.LocalReply.{LocalReply}
 use Rattle.policy_rules.specs.Policy.{first}
 use Rattle.policy_rules.specs.declared.decision.Decision.{Decision}
 use Rattle.policy_rules.specs.declared.omit.Omit.{Omit}
-use Rattle.request_info.specs.Request.{info_of, audit_info}
-use Rattle.request_info.specs.declared.fault.InfoFault.{InfoFault}
+use Rattle.request_info.specs.Request.{info_of}
 use Rattle.stage_event.specs.Due.{stages, request_due, reply_due}
 use Rattle.stage_event.specs.Events.{event}
 use Rattle.stage_event.specs.Kept.{IsKept}
 use Rattle.stage_event.specs.declared.facts.Facts.{Facts}
 use Rattle.stage_event.specs.declared.facts.Kept.{Kept}
 use Rattle.stage_event.specs.declared.facts.Kept.TheVariants.{NotAsked}
-use Rattle.token_users.specs.Who.{first_value, who, user_of}
-use Rattle.token_users.specs.declared.asker.Who.{Who}
-use Rattle.token_users.specs.declared.asker.Who.TheVariants.{Known, Anonymous, BadToken}
-use Rattle.proxy_server.specs.declared.answer.Asked.{Asked}
-use Rattle.proxy_server.specs.declared.answer.Judged.{Judged}
+use Rattle.token_users.specs.Who.{first_value}
+use Rattle.proxy_server.specs.Answer.{user_in, info_in, is_refused, refusal_in, reply_in, reply_body}
+use Rattle.proxy_server.specs.declared.judge.Asked.{Asked}
+use Rattle.proxy_server.specs.declared.judge.Judged.{Judged}
 use Rattle.proxy_server.specs.declared.settings.Settings.{Settings}
-
--- ---- who asks for what
-
-abbrev pub who_asks : Settings → Request → Who
-who_asks set r = who set.tokens r.head
-
-unfoldable pub user_in : Settings → Request → User
-user_in set r = user_of (who_asks set r)
-
-unfoldable pub info_in : Request → Info
-info_in r = audit_info r.head.method r.head.target
-
--- the path is one that is answered here
-abbrev pub is_some_local : {A : Type 0} → Option A → Bool
-is_some_local None = false
-is_some_local (Some local) = true
-
-abbrev pub is_local : Request → Bool
-is_local r = is_some_local (local_of (info_in r).path)
-
-abbrev pub IsLocal : Request → Type 0
-IsLocal r = is_local r ≡ true
-
--- ---- the answer
-
--- the request asks for another protocol, or to act as somebody else
-abbrev pub is_unserved : Header → Bool
-is_unserved header = is_named (codes "upgrade") header.name || name_begins (codes "impersonate-") header.name
-
--- the target is refused
-abbrev pub is_refused : Result Info InfoFault → Bool
-is_refused (Ok info) = false
-is_refused (Err fault) = true
-
-abbrev pub is_unknown : Who → Bool
-is_unknown (Known user) = false
-is_unknown Anonymous = false
-is_unknown BadToken = true
-
--- the status of a request that no API serves, the first cause that stands
-abbrev pub status_by : Bool → Bool → Bool → ℕ
-status_by refused unknown unserved =
-    if refused then 400
-    else if unknown then 401
-    else if unserved then 501
-    else 404
-
-unfoldable pub status_in : Settings → Request → ℕ
-status_in set r =
-    status_by
-    (is_refused (info_of r.head.method r.head.target)) (is_unknown (who_asks set r)) (list_any is_unserved r.head.headers)
-
--- the body of the reply, which a HEAD request doesn't get
-abbrev pub reply_body : List ℕ → ℕ → List ℕ
-reply_body method status = if bytes_eq method (codes "HEAD") then [] else refusal_text status
 
 -- ---- what is known of it
 
@@ -112,15 +51,15 @@ own_address = 127 ∷ 0 ∷ 0 ∷ 1 ∷ []
 abbrev pub id_of : ℕ → AuditId
 id_of number = record { boot = 0; bay = 0; number = number }
 
-unfoldable pub facts_in : Settings → ℕ → Request → Kept → Kept → Facts
-facts_in set number r request reply = record {
+unfoldable pub facts_in : Settings → ℕ → Request → LocalReply → Kept → Kept → Facts
+facts_in set number r answer request reply = record {
   id = id_of number;
   target = r.head.target;
   info = info_in r;
   user = user_in set r;
   peer = own_address;
   agent = agent_in r.head.headers;
-  status = status_in set r;
+  status = answer.status;
   request = request;
   reply = reply;
   received = set.moment;
@@ -168,20 +107,19 @@ abbrev pub IsJudged : Settings → Request → Judged → Type 0
 IsJudged set r judged =
     (judged.info ≡ info_in r)
     × (judged.user ≡ user_in set r)
-    × (judged.status ≡ status_in set r)
+    × (judged.refusal ≡ refusal_in set r)
     × (judged.decision ≡ decision_in set r)
 
--- these are the facts of the request with that number, where a level looks at the bodies
-pub record IsFacts (set : Settings) (number : ℕ) (r : Request) (level : Level) (facts : Facts) : Type 0 where
+-- these are the facts of the request with that number and that answer, where a level looks at the bodies
+pub record IsFacts (set : Settings) (number : ℕ) (r : Request) (answer : LocalReply) (level : Level) (facts : Facts) : Type 0 where
   pub request : Kept
   pub reply : Kept
   pub request_is : IsKeptIf (request_due level (info_in r)) r.body request
-  pub reply_is : IsKeptIf (reply_due level (info_in r)) (reply_body r.head.method (status_in set r)) reply
-  pub facts_are : facts ≡ facts_in set number r request reply
+  pub reply_is : IsKeptIf (reply_due level (info_in r)) (reply_body r.head.method answer) reply
+  pub facts_are : facts ≡ facts_in set number r answer request reply
 
--- these are the lines of the request with that number, which isn't for a path that is answered here
-pub record IsLines (set : Settings) (number : ℕ) (r : Request) (text : List ℕ) : Type 0 where
-  pub elsewhere : is_local r ≡ false
+-- these are the lines of the request with that number, which these rows answer
+pub record IsLines (set : Settings) (rows : List Row) (number : ℕ) (r : Request) (text : List ℕ) : Type 0 where
   pub facts : Facts
-  pub facts_are : IsFacts set number r (decision_in set r).level facts
+  pub facts_are : IsFacts set number r (reply_in set rows r) (decision_in set r).level facts
   pub text_is : text ≡ lines_at (decision_in set r).level (decision_in set r).omit facts

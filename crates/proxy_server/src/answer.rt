@@ -1,166 +1,118 @@
-// What a request is answered while no API is served, and what is known of it.
-ghost use Rattle.std.specs.Prelude.{◌≡◌, true, IfOk, option_map};
-ghost use Rattle.std.specs.List.{list_any};
-ghost use Rattle.request_info.specs.Request.{audit_info};
-ghost use Rattle.token_users.specs.Who.{first_value};
-ghost use Rattle.proxy_server.specs.Exchange as spec;
+// What a request is answered.
+ghost use Rattle.std.specs.Prelude.{◌≡◌, IfOk, OnOk, is_some};
+ghost use Rattle.apiservice_table.specs.Table.{row};
+ghost use Rattle.local_replies.specs.Errand.{local_errand};
+ghost use Rattle.proxy_server.specs.Answer as spec;
+ghost use Rattle.proxy_server.specs.Exchange.{IsJudged};
+ghost use Rattle.proxy_server.specs.Route.{route_of};
 
+use crate::judge::Judged;
+use crate::route::route_by;
 use crate::settings::Settings;
-use front_base::{Info, NoMemory, Text, User};
+use apiservice_table::{Routes, TableRoutes};
+use front_base::NoMemory;
 use http_edge::Request;
-use http_head::Header;
-use local_replies::refusal;
-use policy_rules::{Decision, decide};
-use request_info::{InfoFault, audit_info, info};
-use stage_event::{Facts, Kept, kept};
+use local_replies::{Local, LocalPaths, LocalReply, serve_local};
+use request_info::{parts_of, split};
 use std::alloc::Global;
-use token_users::{Who, user_of, who};
 
-/// What a request asks for, and whether its target is refused.
+/// What a request is answered. A refusal's body is made only where somebody looks at it.
 #[derive(Debug, Drop)]
-pub struct Asked {
-    pub info: Info,
-    pub refused: bool,
+pub enum Reply {
+    /// By the refusal with that code.
+    Refused(u16),
+    Served(LocalReply),
 }
 
-// What is recorded of a request whose target is refused.
-fn refused(alloc: Global, method: &str, target: &str) -> Result<Asked, NoMemory>
-    ensures { IfOk result (λ asked.
-        (asked.info ≡ audit_info method.now target.now) × (asked.refused ≡ true)) }
-{
-    Ok(Asked {
-        info: audit_info(alloc, method, target)?,
-        refused: true,
-    })
-}
-
-/// What a request asks for, as it is recorded.
-pub fn ask(alloc: Global, request: &Request) -> Result<Asked, NoMemory>
-    ensures { IfOk result (spec.IsAsked request.now) }
-{
-    let method = request.head.method.as_str();
-    let target = request.head.target.as_str();
-    match info(alloc, method, target) {
-        Ok(info) => Ok(Asked {
-            info,
-            refused: false,
-        }),
-        Err(InfoFault::BadTarget) => refused(alloc, method, target),
-        Err(InfoFault::NoKind) => refused(alloc, method, target),
-        Err(InfoFault::NoMemory) => Err(NoMemory),
-    }
-}
-
-/// Who asks for what, how it is answered, and how it is recorded.
-#[derive(Debug, Drop)]
-pub struct Judged {
-    pub info: Info,
-    pub user: User,
-    pub status: u16,
-    pub decision: Decision,
-}
-
-/// Judges a request.
-pub fn judge(
-    alloc: Global,
-    settings: &Settings,
-    request: &Request,
-    asked: Asked,
-) -> Result<Judged, NoMemory>
-    requires { spec.IsAsked request.now asked }
-    ensures { IfOk result (spec.IsJudged settings.now request.now) }
-{
-    let who = who(alloc, &settings.tokens, &request.head)?;
-    let user = user_of(alloc, &who)?;
-    let decision = decide(&settings.policy, &user, &asked.info);
-    let unserved = has_unserved(request.head.headers.as_slice());
-    Ok(Judged {
-        info: asked.info,
-        user,
-        status: status_by(asked.refused, is_unknown(&who), unserved),
-        decision,
-    })
-}
-
-fn is_unserved(header: &Header) -> bool
-    ensures { result ≡ spec.is_unserved header.now }
-{
-    header.is_named("upgrade") || header.name_begins("impersonate-")
-}
-
-// Whether a header asks for what isn't served.
-fn has_unserved(headers: &[Header]) -> bool
-    ensures { result ≡ list_any spec.is_unserved headers.now }
-{
-    headers.iter().any(|header| is_unserved(header))
-}
-
-// Whether the token is nobody's.
-fn is_unknown(who: &Who) -> bool
-    ensures { result ≡ spec.is_unknown who.now }
-{
-    match who {
-        Who::Known(_) | Who::Anonymous => false,
-        Who::BadToken => true,
-    }
-}
-
-// The status of a request, by the causes of refusals.
-fn status_by(refused: bool, unknown: bool, unserved: bool) -> u16
-    ensures { result ≡ spec.status_by refused unknown unserved }
-{
-    if refused {
-        return 400;
-    }
-    if unknown {
-        return 401;
-    }
-    if unserved { 501 } else { 404 }
-}
-
-// The value of the first header of a name.
-fn first_value<'h>(name: &str, headers: &'h [Header]) -> Option<&'h [u8]>
-    ensures { option_map (λ value. value.now) result ≡ first_value name.now headers.now }
-{
-    for header in headers {
-        if header.is_named(name) {
-            return Some(header.value.as_slice());
+impl Reply {
+    /// The status code.
+    pub fn status(&self) -> u16
+        ensures { result ≡ (spec.reply_of self.now).status }
+    {
+        match self {
+            Reply::Refused(code) => *code,
+            Reply::Served(reply) => reply.status,
         }
     }
-    None
 }
 
-/// The User-Agent header that stands first, with U+FFFD for what isn't UTF-8, or nothing.
-pub fn agent_in(alloc: Global, headers: &[Header]) -> Result<Text, NoMemory>
-    ensures { IfOk result (λ agent. agent ≡ spec.agent_in headers.now) }
+// Whether the table has a row of that API.
+fn has_row(
+    alloc: Global,
+    group: &str,
+    version: &str,
+    routes: &mut TableRoutes,
+) -> Result<bool, NoMemory>
+    ensures value { IfOk result (λ has. has ≡ is_some (row group.now version.now (spec.rows_of routes.old))) }
+    ensures rows { OnOk result (spec.rows_of routes.new ≡ spec.rows_of routes.old) }
 {
-    match first_value("user-agent", headers) {
-        Some(value) => Ok(Text::new(String::from_utf8_lossy(alloc, value)?)),
-        None => Text::copy_of(alloc, ""),
-    }
+    let found = routes.find(alloc, group, version)?;
+    Ok(found.is_some())
 }
 
-/// What is kept of a body, where it is asked for.
-pub fn kept_if(alloc: Global, due: bool, body: &[u8]) -> Result<Kept, NoMemory>
-    ensures { IfOk result (λ kept. spec.IsKeptIf due body.now kept) }
+// The code for a request to an API. No row has an endpoint yet.
+fn api_code(alloc: Global, path: &str, routes: &mut TableRoutes) -> Result<u16, NoMemory>
+    ensures code { IfOk result (λ code. code ≡ spec.api_code (spec.rows_of routes.old) (route_of path.now)) }
+    ensures rows { OnOk result (spec.rows_of routes.new ≡ spec.rows_of routes.old) }
 {
-    if due {
-        kept(alloc, body)
+    let cut = split(alloc, path)?;
+    let Some(route) = route_by(parts_of(cut.as_slice())) else {
+        return Ok(404);
+    };
+    if has_row(alloc, route.group, route.version, routes)? {
+        Ok(503)
     } else {
-        Ok(Kept::NotAsked)
+        Ok(404)
     }
 }
 
-/// What is kept of the reply's body, where it is asked for.
-pub fn reply_kept_if(alloc: Global, due: bool, method: &str, status: u16) -> Result<Kept, NoMemory>
-    ensures { IfOk result (λ kept. spec.IsKeptIf due (spec.reply_body method.now status) kept) }
+// The reply to a request for a local path.
+fn local_reply(
+    alloc: Global,
+    local: &Local,
+    request: &Request,
+    judged: &Judged,
+    routes: &mut TableRoutes,
+) -> Result<LocalReply, NoMemory>
+    ensures reply { IfOk result (λ reply. reply ≡ spec.local_reply (spec.rows_of routes.old) local.now
+        (local_errand local.now judged.now.info request.now.head.method request.now.body judged.now.user)) }
+    ensures rows { OnOk result (spec.rows_of routes.new ≡ spec.local_rows (spec.rows_of routes.old)
+        (local_errand local.now judged.now.info request.now.head.method request.now.body judged.now.user)) }
 {
-    if !due {
-        return Ok(Kept::NotAsked);
+    let method = request.head.method.as_str();
+    let body = request.body.as_slice();
+    let (reply, _) = serve_local(
+        alloc,
+        local,
+        &judged.info,
+        method,
+        body,
+        &judged.user,
+        routes,
+    )?;
+    Ok(reply)
+}
+
+/// Answers a request, and makes the change of the table that it asks for where the table takes it.
+pub fn answer(
+    alloc: Global,
+    settings: &Settings,
+    paths: &LocalPaths,
+    routes: &mut TableRoutes,
+    request: &Request,
+    judged: &Judged,
+) -> Result<Reply, NoMemory>
+    requires { IsJudged settings.now request.now judged.now }
+    ensures reply { IfOk result (λ answer.
+        spec.reply_of answer ≡ spec.reply_in settings.now (spec.rows_of routes.old) request.now) }
+    ensures rows { OnOk result (spec.rows_of routes.new ≡ spec.rows_after settings.now (spec.rows_of routes.old) request.now) }
+{
+    if let Some(code) = judged.refusal {
+        return Ok(Reply::Refused(code));
     }
-    if method == "HEAD" {
-        return kept(alloc, b"".as_slice());
+    let path = judged.info.path.as_str();
+    match paths.local(alloc, path)? {
+        Some(local) => Ok(Reply::Served(local_reply(alloc, &local, request, judged, routes)?)),
+        None => Ok(Reply::Refused(api_code(alloc, path, routes)?)),
     }
-    let reply = refusal(alloc, status)?;
-    kept(alloc, reply.body.as_slice())
 }

@@ -12,6 +12,7 @@ ghost use Rattle.proxy_server.specs.declared.status.Status.{Status};
 use crate::serving::serve_requests;
 use crate::settings::Settings;
 use crate::status::Status;
+use apiservice_table::{RouteTable, TableRoutes};
 use front_config::{Command, ExplainWords, LoadFault, Loaded, WordsFault, load, read_words};
 use front_ports::{ByteSink, Files, Source};
 use local_replies::LocalPaths;
@@ -47,23 +48,31 @@ fn explain_words(alloc: Global, words: &Vec<String>) -> Result<ExplainWords, Wor
     }
 }
 
-fn settings_of(explain: ExplainWords, loaded: Loaded) -> Settings
-    ensures { result ≡ spec.settings_of explain loaded }
+// What a run begins with.
+#[derive(Drop)]
+struct Start {
+    settings: Settings,
+    table: RouteTable,
+}
+
+fn start_of(explain: ExplainWords, loaded: Loaded) -> Start
+    ensures settings { result.settings ≡ spec.settings_of explain loaded }
+    ensures table { result.table ≡ loaded.table }
 {
-    Settings {
-        tokens: loaded.tokens,
-        policy: loaded.policy,
-        moment: explain.moment,
+    Start {
+        settings: Settings {
+            tokens: loaded.tokens,
+            policy: loaded.policy,
+            moment: explain.moment,
+        },
+        table: loaded.table,
     }
 }
 
-// What words and files tell a run, or why it is refused.
-fn configure<F: Files>(
-    alloc: Global,
-    words: &Vec<String>,
-    files: &mut F,
-) -> Result<Settings, Status>
-    ensures ok { IfOk result (spec.Configures (map string_bytes words.now.items) (F.files files.old)) }
+// What words and files tell a run, and the table that it begins with, or why it is refused.
+fn configure<F: Files>(alloc: Global, words: &Vec<String>, files: &mut F) -> Result<Start, Status>
+    ensures ok { IfOk result (λ told.
+        spec.Configures (map string_bytes words.now.items) (F.files files.old) told.settings told.table.rows) }
     ensures err { IfErr result (spec.IsRefused (map string_bytes words.now.items) (F.files files.old)
         (F.failed files.old) (F.failed files.new) (Rose (F.faults files.old) (F.faults files.new))) }
     ensures kept { KeepsFiles (F.files files.old) (F.files files.new) }
@@ -74,7 +83,7 @@ fn configure<F: Files>(
         Err(fault) => return Err(status_of_words(&fault)),
     };
     match load(alloc, &explain.files, files) {
-        Ok(loaded) => Ok(settings_of(explain, loaded)),
+        Ok(loaded) => Ok(start_of(explain, loaded)),
         Err(fault) => Err(status_of_load(&fault)),
     }
 }
@@ -98,24 +107,28 @@ fn desk<F: Files, S: Source, O: ByteSink>(
     ensures read_later { S.read_faults input.old ≤ S.read_faults input.new }
     ensures write_later { O.write_faults out.old ≤ O.write_faults out.new }
 {
-    let settings = match configure(alloc, words, files) {
-        Ok(settings) => settings,
+    let told = match configure(alloc, words, files) {
+        Ok(told) => told,
         Err(status) => return status,
     };
     let Ok(paths) = LocalPaths::new(alloc) else {
         return Status::NoMemory;
     };
-    serve_requests(alloc, &settings, &paths, input, out)
+    let Ok(mut routes) = TableRoutes::new(alloc, told.table) else {
+        return Status::NoMemory;
+    };
+    serve_requests(alloc, &told.settings, &paths, &mut routes, input, out)
 }
 
 /// The command `explain`: reads the requests of an input and writes the audit lines that each of them owes, each with a
-/// line feed, under the policy and the tokens of the files that the words name.
+/// line feed, under the policy and the tokens of the files that the words name, and by the APIServices of the third one,
+/// which the requests may change.
 ///
 /// It answers the code of a `Status`: `Done` where the input was read to its end, or to a request that asks to close;
 /// `Usage` where the words, which are those after the program's name, are no command line; `Configuration` where an
 /// option is out of its range or a file says what can't be; `ReadFault` where a file or the input could not be read;
-/// `WriteFault`; `Input` where a request is refused, cut short, or for a path that is answered here; `NumbersSpent`
-/// after 2^48 requests; `NoMemory`. Memory is bounded by one request and the files.
+/// `WriteFault`; `Input` where a request is refused or cut short; `NumbersSpent` after 2^48 requests; `NoMemory`. Memory
+/// is bounded by one request, the files, and the changes of the table that were made.
 pub fn run_desk<F: Files, S: Source, O: ByteSink>(
     alloc: Global,
     words: &Vec<String>,

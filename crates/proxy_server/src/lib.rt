@@ -2,7 +2,8 @@
 //!
 //! The main contract is that of `run_desk`, the command `explain`: how it ended, what it read, and what it wrote, which
 //! is the audit lines that the requests of its input owe, one after another, under the tokens and the policy of the files
-//! that its words name. It takes no leave to wait, and always returns.
+//! that its words name, and by the APIServices of a third one as the requests before left them. It takes no leave to wait,
+//! and always returns.
 //!
 //! Nothing is promised of what a real file or terminal holds, nor of time.
 #![tactic(auto)]
@@ -10,7 +11,10 @@
 mod adapters;
 mod answer;
 mod desk;
+mod facts;
+mod judge;
 mod lines;
+mod route;
 mod serving;
 mod settings;
 mod status;

@@ -1,32 +1,24 @@
 // The audit lines that a request owes.
-ghost use Rattle.std.specs.Prelude.{◌≡◌, false, ◌≢◌, ◌<◌, ◌++◌, [], IfOk, OnOk};
+ghost use Rattle.std.specs.Prelude.{◌≡◌, ◌≢◌, ◌<◌, ◌++◌, IfOk, OnErr, OnOk};
 ghost use Rattle.event_text.specs.Line.{line_text};
 ghost use Rattle.stage_event.specs.Due.{stages};
+ghost use Rattle.proxy_server.specs.Answer.{rows_after, rows_of};
 ghost use Rattle.proxy_server.specs.Exchange as spec;
 ghost use Rattle.proxy_server.specs.Serving.{Adds};
 
-use crate::answer::{Asked, Judged, agent_in, ask, judge, kept_if, reply_kept_if};
+use crate::answer::answer;
+use crate::facts::facts_of;
+use crate::judge::{ask, judge};
 use crate::serving::MOST_REQUESTS;
 use crate::settings::Settings;
+use apiservice_table::TableRoutes;
 use event_text::line;
-use front_base::{AuditId, Level, NoMemory, Stage};
+use front_base::{Level, NoMemory, Stage};
 use http_edge::Request;
 use local_replies::LocalPaths;
 use policy_rules::{Decision, Omit};
-use stage_event::{Facts, event_at, reply_due, request_due};
+use stage_event::{Facts, event_at};
 use std::alloc::Global;
-
-// The address that all requests of a run come from, since it has no connection.
-const OWN_ADDRESS: [u8; 4] = [127, 0, 0, 1];
-
-/// What became of the lines of a request.
-#[derive(Clone, Copy, Debug, PartialEq, Eq)]
-pub enum Added {
-    Lines,
-    /// The request is for a path that is answered here.
-    Local,
-    NoMemory,
-}
 
 fn omits(omit: Omit, stage: Stage) -> bool
     ensures { result ≡ spec.omits omit stage }
@@ -106,89 +98,44 @@ fn lines_at(alloc: Global, decision: Decision, facts: &Facts) -> Result<Vec<u8>,
     Ok(lines)
 }
 
-// The facts of a request, its bodies looked at where the level shows them.
-fn facts_of(
-    alloc: Global,
-    settings: &Settings,
-    number: u64,
-    request: &Request,
-    judged: Judged,
-) -> Result<Facts, NoMemory>
-    requires few { number < MOST_REQUESTS }
-    requires judged { spec.IsJudged settings.now request.now judged }
-    ensures { IfOk result (spec.IsFacts settings.now number request.now judged.decision.level) }
-{
-    let level = judged.decision.level;
-    let method = request.head.method.as_str();
-    let request_kept = kept_if(
-        alloc,
-        request_due(level, &judged.info),
-        request.body.as_slice(),
-    )?;
-    let reply_due = reply_due(level, &judged.info);
-    let reply_kept = reply_kept_if(alloc, reply_due, method, judged.status)?;
-    Ok(Facts {
-        id: AuditId {
-            boot: 0,
-            bay: 0,
-            number,
-        },
-        target: request.head.target.copy(alloc)?,
-        info: judged.info,
-        user: judged.user,
-        peer: OWN_ADDRESS,
-        agent: agent_in(alloc, request.head.headers.as_slice())?,
-        status: judged.status,
-        request: request_kept,
-        reply: reply_kept,
-        received: settings.moment,
-        started: settings.moment,
-        complete: settings.moment,
-    })
-}
-
-// The lines of a request.
+// The lines of a request, which may change the table.
 fn request_lines(
     alloc: Global,
     settings: &Settings,
+    paths: &LocalPaths,
+    routes: &mut TableRoutes,
     number: u64,
     request: &Request,
-    asked: Asked,
 ) -> Result<Vec<u8>, NoMemory>
     requires few { number < MOST_REQUESTS }
-    requires asked { spec.IsAsked request.now asked }
-    requires elsewhere { spec.is_local request.now ≡ false }
-    ensures { IfOk result (λ lines. spec.IsLines settings.now number request.now lines.items) }
+    ensures lines { IfOk result (λ lines.
+        spec.IsLines settings.now (rows_of routes.old) number request.now lines.items) }
+    ensures rows { OnOk result (rows_of routes.new ≡ rows_after settings.now (rows_of routes.old) request.now) }
 {
+    let asked = ask(alloc, request)?;
     let judged = judge(alloc, settings, request, asked)?;
     let decision = judged.decision;
-    let facts = facts_of(alloc, settings, number, request, judged)?;
+    let answer = answer(alloc, settings, paths, routes, request, &judged)?;
+    let facts = facts_of(alloc, settings, number, request, judged, &answer)?;
     lines_at(alloc, decision, &facts)
 }
 
-/// Adds the lines of a request, which has that number, unless it is for a path that is answered here.
+/// Answers a request, which has that number and may change the table, and adds the lines that it owes.
 pub fn add_lines(
     alloc: Global,
     settings: &Settings,
     paths: &LocalPaths,
+    routes: &mut TableRoutes,
     number: u64,
     request: &Request,
     lines: &mut Vec<u8>,
-) -> Added
+) -> Result<(), NoMemory>
     requires { number < MOST_REQUESTS }
-    ensures { Adds settings.now number request.now lines.old.items lines.new.items result }
+    ensures adds { OnOk result
+        (Adds settings.now number request.now (rows_of routes.old) (rows_of routes.new) lines.old.items lines.new.items) }
+    ensures kept { OnErr result (lines.new.items ≡ lines.old.items) }
 {
-    let Ok(asked) = ask(alloc, request) else {
-        return Added::NoMemory;
-    };
-    if paths.is_local(asked.info.path.as_str()) {
-        return Added::Local;
-    }
-    let Ok(own) = request_lines(alloc, settings, number, request, asked) else {
-        return Added::NoMemory;
-    };
-    match lines.extend_from_slice(own.as_slice()) {
-        Ok(()) => Added::Lines,
-        Err(_) => Added::NoMemory,
-    }
+    let own = request_lines(alloc, settings, paths, routes, number, request)?;
+    lines.extend_from_slice(own.as_slice())?;
+    Ok(())
 }

@@ -1,12 +1,14 @@
 // A run over the requests of an input, one after another.
 ghost use Rattle.std.specs.Prelude.{◌≡◌, ◌≤◌, OnErr, OnOk};
 ghost use Rattle.front_ports.specs.Cause.{Rose};
+ghost use Rattle.proxy_server.specs.Answer.{rows_of};
 ghost use Rattle.proxy_server.specs.Serving as spec;
 ghost use Rattle.front_ports.specs.Written.{AppendsFront};
 
-use crate::lines::{Added, add_lines};
+use crate::lines::add_lines;
 use crate::settings::Settings;
 use crate::status::Status;
+use apiservice_table::TableRoutes;
 use front_ports::{ByteSink, PortFault, Source, write_all};
 use http_edge::{Edge, End, Stop, asks, requests_stay};
 use local_replies::LocalPaths;
@@ -56,16 +58,18 @@ fn spill<O: ByteSink>(out: &mut O, pending: &mut Vec<u8>) -> Result<(), PortFaul
     Ok(())
 }
 
-/// Writes the audit lines of each request of the input, up to the end of its list of requests, or to one that is for a
-/// path which is answered here. Requests have the numbers from 0 on.
+/// Writes the audit lines of each request of the input, up to the end of its list of requests. Requests have the numbers
+/// from 0 on, and each is answered by the table as those before it left it.
 pub fn serve_requests<S: Source, O: ByteSink>(
     alloc: Global,
     settings: &Settings,
     paths: &LocalPaths,
+    routes: &mut TableRoutes,
     input: &mut S,
     out: &mut O,
 ) -> Status
-    ensures run { spec.Serves settings.now (S.left input.old) (S.left input.new) (O.written out.old) (O.written out.new)
+    ensures run { spec.Serves settings.now (rows_of routes.old)
+        (S.left input.old) (S.left input.new) (O.written out.old) (O.written out.new)
         (Rose (S.read_faults input.old) (S.read_faults input.new))
         (Rose (O.write_faults out.old) (O.write_faults out.new)) result }
     ensures read_later { S.read_faults input.old ≤ S.read_faults input.new }
@@ -85,10 +89,17 @@ pub fn serve_requests<S: Source, O: ByteSink>(
         if number == MOST_REQUESTS {
             return close(out, pending.as_slice(), Status::NumbersSpent);
         }
-        match add_lines(alloc, settings, paths, number, &request, &mut pending) {
-            Added::Lines => {}
-            Added::Local => return close(out, pending.as_slice(), Status::Input),
-            Added::NoMemory => return close(out, pending.as_slice(), Status::NoMemory),
+        match add_lines(
+            alloc,
+            settings,
+            paths,
+            routes,
+            number,
+            &request,
+            &mut pending,
+        ) {
+            Ok(()) => {}
+            Err(_) => return close(out, pending.as_slice(), Status::NoMemory),
         }
         number += 1;
         if asks(&request) {

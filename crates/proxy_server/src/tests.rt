@@ -18,7 +18,14 @@ const POLICY: &str = "{\"kind\":\"Policy\",\"apiVersion\":\"audit.k8s.io/v1\",\"
 {\"level\":\"Metadata\",\"omitStages\":[\"RequestReceived\"],\"namespaces\":[\"b\"]},\
 {\"level\":\"Metadata\"}]}";
 
-const TOKENS: &str = "t1,ann,7,\"dev,ops\"\n";
+const TOKENS: &str = "t1,ann,7,\"dev,ops\"\nt2,root,1,\"system:masters\"\n";
+
+// The core API, and one of a group whose service is down.
+const SERVICES: &str = "{\"apiVersion\":\"v1\",\"kind\":\"List\",\"items\":[\
+{\"metadata\":{\"name\":\"v1.\"},\"spec\":{\"version\":\"v1\",\"groupPriorityMinimum\":18000,\"versionPriority\":1}},\
+{\"metadata\":{\"name\":\"v1.down\"},\"spec\":{\"group\":\"down\",\"version\":\"v1\",\"groupPriorityMinimum\":100,\
+\"versionPriority\":10,\"service\":{\"namespace\":\"s\",\"name\":\"x\"}},\
+\"status\":{\"conditions\":[{\"type\":\"Available\",\"status\":\"False\"}]}}]}";
 
 // How a run ended, and what it wrote.
 #[derive(Drop)]
@@ -36,7 +43,7 @@ fn words_of(alloc: Global, line: &str) -> Result<Vec<String>, AllocError> {
     Ok(words)
 }
 
-// A policy `p`, tokens `t`, and a file `bad` that is neither. It tells nothing.
+// A policy `p`, tokens `t`, APIServices `s`, and a file `bad` that is none of them. It tells nothing.
 #[derive(Drop)]
 struct Shelf {
     faults: u64,
@@ -53,6 +60,7 @@ impl Files for Shelf {
         let text = match name {
             "p" => POLICY,
             "t" => TOKENS,
+            "s" => SERVICES,
             "bad" => "x",
             _ => {
                 self.faults = self.faults.saturating_add(1);
@@ -142,8 +150,9 @@ explain|POST /api/v1/pods HTTP/1.1~Content-Length: 9~~12345|9|
 explain|POST /api/v1/pods HTTP/1.1~Transfer-Encoding: chunked~~x|9|
 explain|~~|0|
 explain --moment=1735689600123456|GET /api/v1/namespaces/a/pods HTTP/1.1~~|0|468 513
-explain|GET /healthz HTTP/1.1~~|9|
-explain|GET /apis/apiregistration.k8s.io/v1/watch HTTP/1.1~Authorization: Bearer nobody~~|9|
+explain|GET /healthz HTTP/1.1~~|0|384 429
+explain --apiservices=bad|GET / HTTP/1.1~~|3|
+explain --apiservices=none|GET / HTTP/1.1~~|4|
 explain --token-auth-file=t|GET /api/v1/pods HTTP/1.1~Authorization: Bearer t1~~|0|446 491
 explain --token-auth-file t|GET /api/v1/pods HTTP/1.1~Authorization: Bearer nobody~~|0|374 419
 explain --audit-policy-file=p|POST /api/v1/namespaces/a/secrets HTTP/1.1~Content-Length: 7~~{\"a\":1}|0|
@@ -265,6 +274,120 @@ fn a_refused_update_shows_its_reply(rt: HostRuntime) -> Result<(), Fail> {
         \"the request is not served\",\"reason\":\"NotImplemented\",\"code\":501},"
         )
     );
+    Ok(())
+}
+
+// Requests, one after another over one table, and the code of each: by whom, method, path and body. The last two parts
+// may lack.
+const CODES: &str = "\
+none GET /healthz|200
+none GET //livez/|200
+none HEAD /apis|200
+none GET /apis/down|200
+none GET /apis/g|404
+none PATCH /apis|405
+none GET /apis/apiregistration.k8s.io/v1|200
+none DELETE /apis/apiregistration.k8s.io/v1/nothing|404
+none GET /apis/apiregistration.k8s.io/v1/apiservices?watch=1|405
+none GET /api/v1/pods|503
+none GET /api|503
+none GET /apis//v1/pods|503
+none GET /api//x|503
+none GET /apis/down/v1/things|503
+none GET /apis/down/v1|503
+none GET /apis/down/v2/things|404
+none GET /apis/g/v1/things|404
+none GET /nothing|404
+none GET /|404
+t2 POST /apis/apiregistration.k8s.io/v1/apiservices row|201
+none GET /apis/g/v1/things|503
+none GET /apis/g|200
+none DELETE /apis/apiregistration.k8s.io/v1/apiservices/v1.g|403
+t1 DELETE /apis/apiregistration.k8s.io/v1/apiservices/v1.g|403
+t2 POST /apis/apiregistration.k8s.io/v1/apiservices row|409
+t2 PUT /apis/apiregistration.k8s.io/v1/apiservices/v1.g row|200
+t2 PUT /apis/apiregistration.k8s.io/v1/apiservices/v2.g row|422
+t2 POST /apis/apiregistration.k8s.io/v1/apiservices|422
+t2 DELETE /apis/apiregistration.k8s.io/v1/apiservices/v1.g|200
+t2 DELETE /apis/apiregistration.k8s.io/v1/apiservices/v1.g|404
+none GET /apis/g/v1/things|404
+nobody GET /healthz|401
+nobody GET /apis/g/v1/watch|400
+none GET /apis/apiregistration.k8s.io/v1/watch|400
+";
+
+const ROW: &str = "{\"apiVersion\":\"apiregistration.k8s.io/v1\",\"kind\":\"APIService\",\
+\"metadata\":{\"name\":\"v1.g\"},\"spec\":{\"group\":\"g\",\"groupPriorityMinimum\":100,\
+\"service\":{\"name\":\"x\",\"namespace\":\"s\"},\"version\":\"v1\",\"versionPriority\":10}}";
+
+// The request that is told in one line.
+fn request_of(alloc: Global, told: &str) -> Result<String, Fail> {
+    let parts: Vec<&str> = told.split(' ').collect(alloc)?;
+    let (who, method, target) = match parts.as_slice() {
+        [who, method, target, ..] => (*who, *method, *target),
+        _ => Err("a row")?,
+    };
+    let body = if parts.len() > 3 { ROW } else { "" };
+    let mut request = format!(in alloc;
+        "{method} {target} HTTP/1.1\r\nContent-Length: {}\r\n",
+        body.len()
+    )?;
+    if who != "none" {
+        let header = format!(in alloc; "Authorization: Bearer {who}\r\n")?;
+        request.push_str(header.as_str())?;
+    }
+    request.push_str("\r\n")?;
+    request.push_str(body)?;
+    Ok(request)
+}
+
+#[test]
+fn each_request_is_answered_by_the_table_as_it_stands(rt: HostRuntime) -> Result<(), Fail> {
+    let alloc = rt.alloc();
+    let mut input = String::new(alloc);
+    for row in CODES.lines() {
+        let (told, _) = row.split_once('|').ok_or("a row")?;
+        input.push_str(request_of(alloc, told)?.as_str())?;
+    }
+    let line = "explain --token-auth-file=t --apiservices=s";
+    let run = run_over_memory(alloc, line, input.as_bytes(), 100, 0, 60000)?;
+    assert_eq!(rt; run.status, 0);
+    let text = str::from_utf8(run.output.as_slice()).map_err(|_| "text")?;
+    let mut told = CODES.lines();
+    for own in text.lines() {
+        if own.contains("\"stage\":\"ResponseComplete\"") {
+            let row = told.next().ok_or("one request more")?;
+            let (_, code) = row.split_once('|').ok_or("a row")?;
+            let member = format!(in alloc; "\"code\":{code}}}")?;
+            assert!(rt; own.contains(member.as_str()), "{row}: {own}");
+        }
+    }
+    assert_eq!(rt; told.next(), None);
+    Ok(())
+}
+
+#[test]
+fn local_replies_are_shown(rt: HostRuntime) -> Result<(), Fail> {
+    let alloc = rt.alloc();
+    let mut input = String::new(alloc);
+    for told in [
+        "t2 PUT /apis/apiregistration.k8s.io/v1/apiservices/v1.g row",
+        "t2 PUT /apis/apiregistration.k8s.io/v1/apiservices/v1.g",
+    ] {
+        input.push_str(request_of(alloc, told)?.as_str())?;
+    }
+    let line = "explain --token-auth-file=t --audit-policy-file=p";
+    let run = run_over_memory(alloc, line, input.as_bytes(), 100, 0, 60000)?;
+    let text = str::from_utf8(run.output.as_slice()).map_err(|_| "text")?;
+    // A row that isn't there is missing, and an object that isn't one is not accepted.
+    for (object, code, reason) in [(ROW, "404", "NotFound"), ("", "422", "Invalid")] {
+        let reply = format!(in alloc;
+            "\"reason\":\"{reason}\",\"code\":{code}}},\"requestReceivedTimestamp\""
+        )?;
+        assert!(rt; text.contains(reply.as_str()), "{code}");
+        let body = format!(in alloc; "\"requestObject\":{object},")?;
+        assert!(rt; object.is_empty() || text.contains(body.as_str()));
+    }
     Ok(())
 }
 

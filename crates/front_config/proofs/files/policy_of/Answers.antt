@@ -1,18 +1,23 @@
+use Rattle.std.proofs.lemmas.Result.{err_from_is_err_and}
 use Rattle.front_config.specs.Load.{bytes_in, policy_in}
 use Rattle.front_config.specs.declared.fault.Which.TheVariants as file
-use Rattle.front_config.proofs.LoadLemmas.{fails_first, gives_next, cause_of_policy}
+use Rattle.front_config.proofs.LoadLemmas.{fails_first, gives_next, cause_of_bytes, policy_is_read}
 use Rattle.front_config.proofs.files.policy_of.Goals as goal
 
-pub returns-in-Ok-clause-loaded : goal.returns-in-Ok-clause-loaded
-returns-in-Ok-clause-loaded g c =
-    let read = c.in-Ok.ensures.bytes in
-    (read.0, read.1, gives_next (bytes_in file.Policy c.args.names.now.policy read.0) c.in-Ok.bytes policy_in c.policy_in.result read.2 c.policy_in.ensures)
+pub returns-in_err-bytes-clause-loaded : goal.returns-in_err-bytes-clause-loaded
+returns-in_err-bytes-clause-loaded g c =
+    let p = err_from_is_err_and c.from_residual.result c.from_residual.ensures.1 in
+    let read = c.in_err-bytes.ensures.bytes in
+    let bytes = bytes_in file.Policy c.args.names.now.policy read.0 in
+    (read.0, read.1, rw (p.1, p.2) (fails_first c.in_err-bytes.field-0.0 bytes policy_in read.2))
 
-pub returns-in-Ok-clause-cause : goal.returns-in-Ok-clause-cause
-returns-in-Ok-clause-cause g c =
-    cause_of_policy c.args.names.now _ _ _ _ c.in-Ok.bytes c.policy_in.result c.in-Ok.ensures.cause c.policy_in.ensures
+pub returns-clause-loaded : goal.returns-clause-loaded
+returns-clause-loaded g c =
+    let read = c.in_ok-bytes.ensures.bytes in
+    let bytes = bytes_in file.Policy c.args.names.now.policy read.0 in
+    (read.0, read.1, gives_next bytes c.in_ok-bytes.bytes policy_in c.policy_in.result read.2 c.policy_in.ensures)
 
-pub returns-in-Err-clause-loaded : goal.returns-in-Err-clause-loaded
-returns-in-Err-clause-loaded g c =
-    let read = c.in-Err.ensures.bytes in
-    (read.0, read.1, fails_first c.in-Err.fault (bytes_in file.Policy c.args.names.now.policy read.0) policy_in read.2)
+pub returns-clause-cause : goal.returns-clause-cause
+returns-clause-cause g c =
+    let bytes = c.in_ok-bytes.bytes in
+    cause_of_bytes c.args.names.now _ _ _ _ (policy_in bytes) c.policy_in.result (policy_is_read bytes) c.in_ok-bytes.ensures.cause c.policy_in.ensures

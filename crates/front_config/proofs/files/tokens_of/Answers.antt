@@ -1,18 +1,23 @@
+use Rattle.std.proofs.lemmas.Result.{err_from_is_err_and}
 use Rattle.front_config.specs.Load.{bytes_in, tokens_in}
 use Rattle.front_config.specs.declared.fault.Which.TheVariants as file
-use Rattle.front_config.proofs.LoadLemmas.{fails_first, gives_next, cause_of_tokens}
+use Rattle.front_config.proofs.LoadLemmas.{fails_first, gives_next, cause_of_bytes, tokens_are_read}
 use Rattle.front_config.proofs.files.tokens_of.Goals as goal
 
-pub returns-in-Ok-clause-loaded : goal.returns-in-Ok-clause-loaded
-returns-in-Ok-clause-loaded g c =
-    let read = c.in-Ok.ensures.bytes in
-    (read.0, read.1, gives_next (bytes_in file.Tokens c.args.names.now.tokens read.0) c.in-Ok.bytes tokens_in c.tokens_in.result read.2 c.tokens_in.ensures)
+pub returns-in_err-bytes-clause-loaded : goal.returns-in_err-bytes-clause-loaded
+returns-in_err-bytes-clause-loaded g c =
+    let p = err_from_is_err_and c.from_residual.result c.from_residual.ensures.1 in
+    let read = c.in_err-bytes.ensures.bytes in
+    let bytes = bytes_in file.Tokens c.args.names.now.tokens read.0 in
+    (read.0, read.1, rw (p.1, p.2) (fails_first c.in_err-bytes.field-0.0 bytes tokens_in read.2))
 
-pub returns-in-Ok-clause-cause : goal.returns-in-Ok-clause-cause
-returns-in-Ok-clause-cause g c =
-    cause_of_tokens c.args.names.now _ _ _ _ c.in-Ok.bytes c.tokens_in.result c.in-Ok.ensures.cause c.tokens_in.ensures
+pub returns-clause-loaded : goal.returns-clause-loaded
+returns-clause-loaded g c =
+    let read = c.in_ok-bytes.ensures.bytes in
+    let bytes = bytes_in file.Tokens c.args.names.now.tokens read.0 in
+    (read.0, read.1, gives_next bytes c.in_ok-bytes.bytes tokens_in c.tokens_in.result read.2 c.tokens_in.ensures)
 
-pub returns-in-Err-clause-loaded : goal.returns-in-Err-clause-loaded
-returns-in-Err-clause-loaded g c =
-    let read = c.in-Err.ensures.bytes in
-    (read.0, read.1, fails_first c.in-Err.fault (bytes_in file.Tokens c.args.names.now.tokens read.0) tokens_in read.2)
+pub returns-clause-cause : goal.returns-clause-cause
+returns-clause-cause g c =
+    let bytes = c.in_ok-bytes.bytes in
+    cause_of_bytes c.args.names.now _ _ _ _ (tokens_in bytes) c.tokens_in.result (tokens_are_read bytes) c.in_ok-bytes.ensures.cause c.tokens_in.ensures

@@ -1,6 +1,6 @@
 use Rattle.std.proofs.Common.{Some, ap, ◌∙◌}
 use Rattle.proxy_server.proofs.HeaderLemmas.{value_hit, value_miss, value_none}
-use Rattle.proxy_server.proofs.answer.first_value.Goals as goal
+use Rattle.proxy_server.proofs.facts.first_value.Goals as goal
 
 pub returns-then-is_named : goal.returns-then-is_named
 returns-then-is_named c =

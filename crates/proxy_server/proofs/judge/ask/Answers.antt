@@ -1,7 +1,7 @@
 use Rattle.std.proofs.lemmas.Result.{IfOk-weaker}
 use Rattle.request_info.specs.declared.fault.InfoFault.TheVariants.{BadTarget, NoKind}
 use Rattle.proxy_server.proofs.JudgeLemmas.{asked_info, asked_fault}
-use Rattle.proxy_server.proofs.answer.ask.Goals as goal
+use Rattle.proxy_server.proofs.judge.ask.Goals as goal
 
 pub returns-in-Ok : goal.returns-in-Ok
 returns-in-Ok c =

@@ -1,0 +1,23 @@
+use Rattle.std.proofs.lemmas.Result.{err_from_is_err_and}
+use Rattle.front_config.specs.Load.{bytes_in, table_in}
+use Rattle.front_config.specs.declared.fault.Which.TheVariants as file
+use Rattle.front_config.proofs.LoadLemmas.{fails_first, gives_next, cause_of_bytes, table_is_read}
+use Rattle.front_config.proofs.files.table_of.Goals as goal
+
+pub returns-in_err-bytes-clause-loaded : goal.returns-in_err-bytes-clause-loaded
+returns-in_err-bytes-clause-loaded g c =
+    let p = err_from_is_err_and c.from_residual.result c.from_residual.ensures.1 in
+    let read = c.in_err-bytes.ensures.bytes in
+    let bytes = bytes_in file.Services c.args.names.now.services read.0 in
+    (read.0, read.1, rw (p.1, p.2) (fails_first c.in_err-bytes.field-0.0 bytes table_in read.2))
+
+pub returns-clause-loaded : goal.returns-clause-loaded
+returns-clause-loaded g c =
+    let read = c.in_ok-bytes.ensures.bytes in
+    let bytes = bytes_in file.Services c.args.names.now.services read.0 in
+    (read.0, read.1, gives_next bytes c.in_ok-bytes.bytes table_in c.table_in.result read.2 c.table_in.ensures)
+
+pub returns-clause-cause : goal.returns-clause-cause
+returns-clause-cause g c =
+    let bytes = c.in_ok-bytes.bytes in
+    cause_of_bytes c.args.names.now _ _ _ _ (table_in bytes) c.table_in.result (table_is_read bytes) c.in_ok-bytes.ensures.cause c.table_in.ensures
