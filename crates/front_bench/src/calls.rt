@@ -41,11 +41,12 @@ fn table_of(alloc: Global, text: &[u8]) -> Option<RouteTable> {
     Some(table)
 }
 
-/// Whether so many look-ups found a row, each of the list in turn.
-pub fn find(alloc: Global, text: &[u8], times: u32) -> Option<bool> {
+// Whether so many look-ups found a row, each of the first `most` of the list in turn.
+fn find_first(alloc: Global, text: &[u8], times: u32, most: usize) -> Option<bool> {
     let rows = read_rows(alloc, text).ok()?;
     let table = table_of(alloc, text)?;
     let keys = rows.as_slice();
+    let end = keys.len().min(most);
     let mut found = true;
     let mut turn = 0;
     for _ in 0..times {
@@ -54,7 +55,17 @@ pub fn find(alloc: Global, text: &[u8], times: u32) -> Option<bool> {
             && table
                 .find(key.group.as_str(), key.version.as_str())
                 .is_some();
-        turn = if turn + 1 < keys.len() { turn + 1 } else { 0 };
+        turn = if turn + 1 < end { turn + 1 } else { 0 };
     }
     Some(found)
+}
+
+/// Whether so many look-ups found a row, each of the list in turn.
+pub fn find(alloc: Global, text: &[u8], times: u32) -> Option<bool> {
+    find_first(alloc, text, times, usize::MAX)
+}
+
+/// Whether so many look-ups found the first row of the list.
+pub fn find_one(alloc: Global, text: &[u8], times: u32) -> Option<bool> {
+    find_first(alloc, text, times, 1)
 }

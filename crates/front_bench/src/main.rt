@@ -1,12 +1,12 @@
 //! `front_bench` makes one call again and again on its standard input, so that the scripts in `bench/` can time it.
 //!
-//! Words: the call, and how often. `check` and `compact` take a JSON text, `rows` and `find` a list of APIServices. The
-//! status is 0 where every call succeeded, and 1 otherwise.
+//! Words: the call, and how often. `check` and `compact` take a JSON text, `rows`, `find` and `find_one` a list of
+//! APIServices. The status is 0 where every call succeeded, and 1 otherwise.
 #![tactic(auto)]
 
 mod calls;
 
-use calls::{check, compact, find, rows};
+use calls::{check, compact, find, find_one, rows};
 use std::env;
 use std::io::Read;
 use std::process::ExitCode;
@@ -28,6 +28,7 @@ fn run(rt: &HostRuntime) -> Option<bool> {
         "compact" => Some(compact(rt.alloc(), input.as_slice(), times)),
         "rows" => Some(rows(rt.alloc(), input.as_slice(), times)),
         "find" => find(rt.alloc(), input.as_slice(), times),
+        "find_one" => find_one(rt.alloc(), input.as_slice(), times),
         _ => None,
     }
 }
