@@ -3,23 +3,27 @@ use apiservice_rows::{Rows, read_rows};
 use std::alloc::Global;
 use std::test::Fail;
 
-// The rows of a list with an APIService in each line: its version, its group where it has one, and its two priorities.
+// The rows of a list with an APIService in each line: its version, its group where it has one, its two priorities, and
+// `down` where it is unavailable.
 fn rows_of(alloc: Global, lines: &str) -> Result<Rows, Fail> {
     let mut text = String::from_str(alloc, r#"{"kind":"APIServiceList","items":["#)?;
     for (i, line) in lines.lines().enumerate() {
         let words: Vec<&str> = line.split_whitespace().collect(alloc)?;
         let (version, group, first, second) = match words.as_slice() {
             [version, group, first, second] => (*version, *group, *first, *second),
+            [version, group, first, second, "down"] => (*version, *group, *first, *second),
             [version, first, second] => (*version, "", *first, *second),
-            _ => return Err("a line of three or four words".into()),
+            _ => return Err("a line of three to five words".into()),
         };
+        let down = r#","status":{"conditions":[{"type":"Available","status":"False"}]}"#;
+        let status = if words.len() == 5 { down } else { "" };
         let comma = if i > 0 { "," } else { "" };
         let head =
             r#"{"apiVersion":"apiregistration.k8s.io/v1","kind":"APIService","metadata":{"name":""#;
         let first = format!(in alloc; "\"groupPriorityMinimum\":{first}")?;
         let second = format!(in alloc; "\"versionPriority\":{second}")?;
         let item = format!(in alloc;
-            "{comma}{head}{version}.{group}\"}},\"spec\":{{\"group\":\"{group}\",\"version\":\"{version}\",{first},{second}}}}}"
+            "{comma}{head}{version}.{group}\"}},\"spec\":{{\"group\":\"{group}\",\"version\":\"{version}\",{first},{second}}}{status}}}"
         )?;
         text.push_str(item.as_str())?;
     }
@@ -115,7 +119,7 @@ fn puts_the_version_to_prefer_first(rt: HostRuntime) -> Result<(), Fail> {
 // What a cluster registers by itself, and some of what is added to it.
 const CLUSTER: &str = "v1 18000 1
 v1 admissionregistration.k8s.io 16700 15
-v1alpha1 admissionregistration.k8s.io 16700 9
+v1 snapshot.storage.k8s.io 1000 100
 v1 apiextensions.k8s.io 16700 15
 v1 apps 17800 15
 v1 authentication.k8s.io 17700 15
@@ -132,8 +136,8 @@ v1 events.k8s.io 17750 15
 v1 flowcontrol.apiserver.k8s.io 16100 21
 v1beta3 flowcontrol.apiserver.k8s.io 16100 18
 v1beta1 metrics.k8s.io 100 100
-v1beta1 custom.metrics.k8s.io 100 100
-v1beta2 custom.metrics.k8s.io 100 200
+v1beta1 custom.metrics.k8s.io 100 100 down
+v1beta1 snapshot.storage.k8s.io 1000 100
 v1 monitoring.coreos.com 1000 100
 v1alpha1 monitoring.coreos.com 1000 100
 v1 networking.k8s.io 17200 15
@@ -142,7 +146,7 @@ v1 policy 17100 15
 v1 rbac.authorization.k8s.io 17000 15
 v1 scheduling.k8s.io 16600 15
 v1 storage.k8s.io 16800 15
-v1beta1 storage.k8s.io 16800 1
+v1alpha1 traefik.io 1000 100
 ";
 
 #[test]
@@ -164,8 +168,8 @@ fn puts_the_groups_of_a_cluster_in_order(rt: HostRuntime) -> Result<(), Fail> {
             "networking.k8s.io v1\n",
             "policy v1\n",
             "rbac.authorization.k8s.io v1\n",
-            "storage.k8s.io v1 v1beta1\n",
-            "admissionregistration.k8s.io v1 v1alpha1\n",
+            "storage.k8s.io v1\n",
+            "admissionregistration.k8s.io v1\n",
             "apiextensions.k8s.io v1\n",
             "scheduling.k8s.io v1\n",
             "coordination.k8s.io v1\n",
@@ -175,7 +179,9 @@ fn puts_the_groups_of_a_cluster_in_order(rt: HostRuntime) -> Result<(), Fail> {
             "acme.cert-manager.io v1\n",
             "cert-manager.io v1\n",
             "monitoring.coreos.com v1 v1alpha1\n",
-            "custom.metrics.k8s.io v1beta2 v1beta1\n",
+            "snapshot.storage.k8s.io v1 v1beta1\n",
+            "traefik.io v1alpha1\n",
+            "custom.metrics.k8s.io v1beta1\n",
             "metrics.k8s.io v1beta1\n",
         )
     );
