@@ -7,6 +7,9 @@ pub mod Memory
 pub mod MemoryClock
 pub mod MemoryDial
 pub mod MemoryDoor
+pub mod MemoryFiles
+pub mod MemoryStream
+pub mod Scripts
 pub mod Side
 pub mod Told
 pub mod Written

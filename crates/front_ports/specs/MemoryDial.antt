@@ -1,10 +1,13 @@
 -- What a dial in memory tells.
-use Rattle.std.specs.Prelude.{◌≡◌, ℕ, List, [], map, Option, Some, None, ⊤, if◌then◌else◌}
+use Rattle.std.specs.Prelude.{◌≡◌, ℕ, List, [], ◌∷◌, map, Bool, true, false, ◌||◌, Option, Some, None, ⊤, if◌then◌else◌}
 use Rattle.front_ports.specs.Memory.{link_left}
+use Rattle.front_ports.specs.MemoryStream.{link_stream}
+use Rattle.front_ports.specs.Scripts.{next_is_listed}
 use Rattle.front_ports.specs.declared.dial.Call.{Call}
 use Rattle.front_ports.specs.declared.mem_dial.Ready.{Ready}
 use Rattle.front_ports.specs.declared.mem_dial.MemDial.{MemDial}
 use Rattle.front_ports.specs.declared.mem_link.MemLink.{MemLink}
+use Rattle.front_ports.specs.declared.mem_stream.MemStream.{MemStream}
 
 -- what each of some links has to give
 abbrev pub links_held : List MemLink → List (List ℕ)
@@ -33,3 +36,26 @@ abbrev pub LosesPast : Option (List Call) → Option (List Call) → List (List 
 LosesPast None new links = ⊤
 LosesPast (Some calls) None links = links ≡ []
 LosesPast (Some calls) (Some more) links = ⊤
+
+-- the two sides of each of some links, and of each that no dial has had yet
+abbrev pub links_streams : List MemLink → List MemStream
+links_streams links = map link_stream links
+
+abbrev pub dial_streams : MemDial → List MemStream
+dial_streams dial = links_streams (ready_links dial.ready.items)
+
+-- the numbers of the dials that fail, and how many dials there were
+abbrev pub dial_fails : MemDial → List ℕ
+dial_fails dial = dial.fails.items
+
+abbrev pub dial_dials : MemDial → ℕ
+dial_dials dial = dial.dials
+
+-- whether none is left
+abbrev pub is_out_of_links : List (List ℕ) → Bool
+is_out_of_links [] = true
+is_out_of_links (link ∷ links) = false
+
+-- whether the next dial fails: it is listed, or past the last link
+abbrev pub dial_will_fail : MemDial → Bool
+dial_will_fail dial = next_is_listed (dial_fails dial) (dial_dials dial) || is_out_of_links (dial_links dial)

@@ -1,5 +1,6 @@
 -- What a door in memory tells.
-use Rattle.std.specs.Prelude.{ℕ, List, map}
+use Rattle.std.specs.Prelude.{ℕ, List, map, Bool}
+use Rattle.front_ports.specs.Scripts.{next_is_listed}
 use Rattle.front_ports.specs.declared.door.Visit.{Visit}
 use Rattle.front_ports.specs.declared.mem_conn.MemConn.{MemConn}
 use Rattle.front_ports.specs.declared.mem_door.Expected.{Expected}
@@ -23,3 +24,14 @@ door_closes door = door.closes
 
 abbrev pub door_faults : MemDoor → ℕ
 door_faults door = door.faults
+
+-- the numbers of the calls that fail, and how many calls there were
+abbrev pub door_fails : MemDoor → List ℕ
+door_fails door = door.fails.items
+
+abbrev pub door_calls : MemDoor → ℕ
+door_calls door = door.calls
+
+-- whether the next call fails: it is listed
+abbrev pub door_will_fail : MemDoor → Bool
+door_will_fail door = next_is_listed (door_fails door) (door_calls door)

@@ -4,7 +4,8 @@
 //! An object of the outside may tell what it has left to give, what it gave, what was written to it and what it holds; a
 //! file, a socket or a terminal tells nothing. Where it tells, each call says exactly what it changes. A fault comes only
 //! from a call in which the object's own count of faults rose, so that nobody above can give up without one. The forms in
-//! memory take memory only when they are made, but for `Files::read`, which hands out a copy.
+//! memory fail exactly where they were told to when they were made, and their reads give as many bytes as they may. They
+//! take memory only when they are made, but for `Files::read`, which hands out a copy.
 //!
 //! Nothing is promised of what a real file, socket or terminal holds, nor of how long a clock's rest is.
 #![tactic(auto)]

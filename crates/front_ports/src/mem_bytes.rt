@@ -60,7 +60,12 @@ impl MemBytes {
 }
 
 impl ByteSink for MemBytes {
-    ghost use Rattle.std.specs.Prelude.{Some, None, []};
+    ghost use Rattle.std.specs.Prelude.{◌<◌, Some, None, [], length};
+    ghost use Rattle.std.specs.Io.{WritesAtMost};
+    ghost use Rattle.std.specs.Io.KnownBytes.{WriteAppends};
+    ghost use Rattle.front_ports.specs.Cause.{HasCause};
+    ghost use Rattle.front_ports.specs.Memory.{bytes_written, bytes_faults};
+    ghost use Rattle.front_ports.specs.MemoryStream.{WritesAsTold};
 
     ghost written = { λ m. Some m.bytes.items };
 
@@ -68,7 +73,16 @@ impl ByteSink for MemBytes {
 
     ghost inward = { λ m. record { told = None; faults = 0; mark = [] } };
 
-    fn write(&mut self, piece: &[u8]) -> Result<usize, PortFault> {
+    fn write(&mut self, piece: &[u8]) -> Result<usize, PortFault>
+        requires { 0 < length piece.now }
+        ensures bound { WritesAtMost result piece.now }
+        ensures some { IfOk result (λ n. 0 < n) }
+        ensures bytes { WriteAppends (Some (bytes_written self.old)) (Some (bytes_written self.new)) result piece.now }
+        ensures cause { HasCause (bytes_faults self.old) (bytes_faults self.new) result }
+
+        // Which writes fail, and that the others take the whole piece.
+        ensures told { WritesAsTold self.old self.new result (length piece.now) }
+    {
         self.calls = self.calls.saturating_add(1);
         if self.fails.contains(&self.calls) || self.room - self.bytes.len() < piece.len() {
             self.faults = self.faults.saturating_add(1);

@@ -16,6 +16,7 @@ pub struct MemConn {
 impl MemConn {
     ghost use Rattle.front_ports.specs.Memory.{conn_left, conn_written, conn_from};
     ghost use Rattle.front_ports.specs.Memory.{conn_read_faults, conn_write_faults};
+    ghost use Rattle.front_ports.specs.MemoryStream.{conn_stream, BeginsAsTold};
 
     /// A connection from that peer.
     pub fn new(alloc: Global, from: [u8; 4], script: Script) -> Result<MemConn, NoMemory>
@@ -24,6 +25,7 @@ impl MemConn {
         ensures peer { IfOk result (λ conn. conn_from conn ≡ from) }
         ensures no_read_fault { IfOk result (λ conn. conn_read_faults conn ≡ 0) }
         ensures no_write_fault { IfOk result (λ conn. conn_write_faults conn ≡ 0) }
+        ensures told { IfOk result (λ conn. BeginsAsTold (conn_stream conn) script) }
     {
         let stream = MemStream::new(alloc, script)?;
         Ok(MemConn { from, stream })
@@ -52,8 +54,12 @@ impl MemConn {
 }
 
 impl Source for MemConn {
-    ghost use Rattle.std.specs.Prelude.{Some};
+    ghost use Rattle.std.specs.Prelude.{◌<◌, Some, length};
+    ghost use Rattle.std.specs.Io.{ReadsAtMost};
+    ghost use Rattle.std.specs.Io.KnownBytes.{ReadConsumes};
+    ghost use Rattle.front_ports.specs.Cause.{HasCause};
     ghost use Rattle.front_ports.specs.Memory.{conn_left, conn_read_faults, conn_output};
+    ghost use Rattle.front_ports.specs.MemoryStream.{conn_stream, ReadsAsTold};
 
     ghost left = { λ c. Some (conn_left c) };
 
@@ -61,14 +67,27 @@ impl Source for MemConn {
 
     ghost outward = { conn_output };
 
-    fn read(&mut self, buf: &mut [u8]) -> Result<usize, PortFault> {
+    fn read(&mut self, buf: &mut [u8]) -> Result<usize, PortFault>
+        requires { 0 < length buf.old }
+        ensures bound { ReadsAtMost result buf.new }
+        ensures bytes { ReadConsumes (Some (conn_left self.old)) (Some (conn_left self.new)) result buf.new }
+        ensures cause { HasCause (conn_read_faults self.old) (conn_read_faults self.new) result }
+        ensures aside { conn_output self.new ≡ conn_output self.old }
+
+        // Which reads fail, and how many bytes the others give.
+        ensures told { ReadsAsTold (conn_stream self.old) (conn_stream self.new) result (length buf.old) }
+    {
         self.stream.read(buf)
     }
 }
 
 impl ByteSink for MemConn {
-    ghost use Rattle.std.specs.Prelude.{Some};
+    ghost use Rattle.std.specs.Prelude.{◌<◌, Some, IfOk, length};
+    ghost use Rattle.std.specs.Io.{WritesAtMost};
+    ghost use Rattle.std.specs.Io.KnownBytes.{WriteAppends};
+    ghost use Rattle.front_ports.specs.Cause.{HasCause};
     ghost use Rattle.front_ports.specs.Memory.{conn_written, conn_write_faults, conn_input};
+    ghost use Rattle.front_ports.specs.MemoryStream.{conn_stream, SendsAsTold};
 
     ghost written = { λ c. Some (conn_written c) };
 
@@ -76,7 +95,17 @@ impl ByteSink for MemConn {
 
     ghost inward = { conn_input };
 
-    fn write(&mut self, piece: &[u8]) -> Result<usize, PortFault> {
+    fn write(&mut self, piece: &[u8]) -> Result<usize, PortFault>
+        requires { 0 < length piece.now }
+        ensures bound { WritesAtMost result piece.now }
+        ensures some { IfOk result (λ n. 0 < n) }
+        ensures bytes { WriteAppends (Some (conn_written self.old)) (Some (conn_written self.new)) result piece.now }
+        ensures cause { HasCause (conn_write_faults self.old) (conn_write_faults self.new) result }
+        ensures aside { conn_input self.new ≡ conn_input self.old }
+
+        // Which writes fail, and that the others take the whole piece.
+        ensures told { SendsAsTold (conn_stream self.old) (conn_stream self.new) result (length piece.now) }
+    {
         self.stream.output.write(piece)
     }
 }

@@ -54,6 +54,7 @@ fn make_ready(alloc: Global, link: MemLink) -> Result<Ready, NoMemory>
 
 impl MemDial {
     ghost use Rattle.front_ports.specs.MemoryDial.{links_held, dial_links, dial_calls, dial_faults, dial_link_faults};
+    ghost use Rattle.front_ports.specs.MemoryDial.{links_streams, dial_streams, dial_fails, dial_dials};
 
     /// A dial whose k-th call has the k-th link. The calls of these numbers fail, counted from 1, and so does each past
     /// the last link, from which on the calls are told no longer.
@@ -62,6 +63,8 @@ impl MemDial {
         ensures links { IfOk result (λ dial. dial_links dial ≡ links_held links.items) }
         ensures calls { IfOk result (λ dial. dial_calls dial ≡ Some []) }
         ensures fresh { IfOk result (λ dial. (dial_faults dial ≡ 0) × (dial_link_faults dial ≡ 0)) }
+        ensures streams { IfOk result (λ dial. dial_streams dial ≡ links_streams links.items) }
+        ensures fails { IfOk result (λ dial. (dial_fails dial ≡ fails.items) × (dial_dials dial ≡ 0)) }
     {
         let calls = Vec::with_capacity(alloc, links.len())?;
         let mut ready = VecDeque::new(alloc);
@@ -106,8 +109,13 @@ fn failed_call(to: Address, call: Call) -> Call
 }
 
 impl Dial for MemDial {
+    ghost use Rattle.std.specs.Prelude.{IsTrue, IsFalse, OnOk};
+    ghost use Rattle.front_ports.specs.Cause.{Rose};
     ghost use Rattle.front_ports.specs.Dials.{NotesCall, NotesSent};
     ghost use Rattle.front_ports.specs.MemoryDial.{dial_links, dial_calls, dial_faults, dial_link_faults, LosesPast};
+    ghost use Rattle.front_ports.specs.MemoryDial.{dial_streams, dial_fails, dial_dials, dial_will_fail};
+    ghost use Rattle.front_ports.specs.MemoryStream.{link_stream};
+    ghost use Rattle.front_ports.specs.Scripts.{next_count};
     ghost use Rattle.front_ports.specs.Told.{Grows};
 
     type K = MemLink;
@@ -130,6 +138,16 @@ impl Dial for MemDial {
         ensures first { IfOk result (λ link. dial_links self.old ≡ link_left link ∷ dial_links self.new) }
         ensures links { dial_links self.new ≡ drop 1 (dial_links self.old) }
         ensures told { LosesPast (dial_calls self.old) (dial_calls self.new) (dial_links self.old) }
+
+        // The link does what it was told when it was made.
+        ensures same { IfOk result (λ link. dial_streams self.old ≡ link_stream link ∷ dial_streams self.new) }
+        ensures streams { dial_streams self.new ≡ drop 1 (dial_streams self.old) }
+
+        // Which dials fail.
+        ensures fails { OnErr result (IsTrue (dial_will_fail self.old)) }
+        ensures opens { OnOk result (IsFalse (dial_will_fail self.old)) }
+        ensures setting { dial_fails self.new ≡ dial_fails self.old }
+        ensures counted { dial_dials self.new ≡ next_count (dial_dials self.old) }
     {
         self.dials = self.dials.saturating_add(1);
         match self.ready.pop_front() {
@@ -151,7 +169,21 @@ impl Dial for MemDial {
         }
     }
 
-    fn done(&mut self, link: MemLink) {
+    fn done(&mut self, link: MemLink)
+        ensures noted { NotesSent (dial_calls self.old) (dial_calls self.new) (link_number link) (Some (link_written link)) }
+        ensures later { dial_link_faults self.old ≤ dial_link_faults self.new }
+        ensures faulty { 0 < link_read_faults link + link_write_faults link
+            → Rose (dial_link_faults self.old) (dial_link_faults self.new) }
+        ensures sound { link_read_faults link + link_write_faults link ≡ 0
+            → dial_link_faults self.new ≡ dial_link_faults self.old }
+        ensures faults { dial_faults self.new ≡ dial_faults self.old }
+
+        // The links to come stay, and so does which dials fail.
+        ensures links { dial_links self.new ≡ dial_links self.old }
+        ensures streams { dial_streams self.new ≡ dial_streams self.old }
+        ensures setting { dial_fails self.new ≡ dial_fails self.old }
+        ensures uncounted { dial_dials self.new ≡ dial_dials self.old }
+    {
         if link.is_faulty() {
             self.link_faults = self.link_faults.saturating_add(1);
         }

@@ -45,6 +45,7 @@ fn expect(alloc: Global, conn: MemConn) -> Result<Expected, NoMemory>
 
 impl MemDoor {
     ghost use Rattle.front_ports.specs.MemoryDoor.{door_left, door_given, door_closes, door_faults};
+    ghost use Rattle.front_ports.specs.MemoryDoor.{door_fails, door_calls};
 
     /// A door that gives these connections. The calls of `next` of these numbers fail, counted from 1; a call that fails
     /// takes no connection.
@@ -52,6 +53,7 @@ impl MemDoor {
         ensures left { IfOk result (λ door. door_left door ≡ conns.items) }
         ensures given { IfOk result (λ door. door_given door ≡ []) }
         ensures fresh { IfOk result (λ door. (door_closes door ≡ 0) × (door_faults door ≡ 0)) }
+        ensures fails { IfOk result (λ door. (door_fails door ≡ fails.items) × (door_calls door ≡ 0)) }
     {
         let given = Vec::with_capacity(alloc, conns.len())?;
         let mut expected = VecDeque::new(alloc);
@@ -77,8 +79,12 @@ impl MemDoor {
 }
 
 impl Door for MemDoor {
-    ghost use Rattle.std.specs.Prelude.{Some};
+    ghost use Rattle.std.specs.Prelude.{Some, OnOk, OnErr, MatchOption, IsTrue, IsFalse};
+    ghost use Rattle.front_ports.specs.Cause.{HasCause};
+    ghost use Rattle.front_ports.specs.Doors.{GivesFirst, CountsEnd, NotesVisit, NotesOutput};
     ghost use Rattle.front_ports.specs.MemoryDoor.{door_left, door_given, door_closes, door_faults};
+    ghost use Rattle.front_ports.specs.MemoryDoor.{door_fails, door_calls, door_will_fail};
+    ghost use Rattle.front_ports.specs.Scripts.{next_count};
 
     type C = MemConn;
 
@@ -90,7 +96,23 @@ impl Door for MemDoor {
 
     ghost faults = { door_faults };
 
-    fn next(&mut self) -> Result<Option<MemConn>, PortFault> {
+    fn next(&mut self) -> Result<Option<MemConn>, PortFault>
+        ensures cause { HasCause (door_faults self.old) (door_faults self.new) result }
+        ensures first { IfOk result (GivesFirst (Some (door_left self.old)) (Some (door_left self.new))) }
+        ensures left { OnErr result (door_left self.new ≡ door_left self.old) }
+        ensures later { door_closes self.old ≤ door_closes self.new }
+        ensures end { IfOk result (CountsEnd (door_closes self.old) (door_closes self.new)) }
+        ensures no_end { OnErr result (door_closes self.new ≡ door_closes self.old) }
+        ensures noted { IfOk result (λ answer. MatchOption answer (door_given self.new ≡ door_given self.old) (λ conn.
+            NotesVisit (Some (door_given self.old)) (Some (door_given self.new)) (conn_from conn) (Some (conn_left conn)) (Some (conn_written conn)))) }
+        ensures not_noted { OnErr result (door_given self.new ≡ door_given self.old) }
+
+        // Which calls fail.
+        ensures fails { OnErr result (IsTrue (door_will_fail self.old)) }
+        ensures opens { OnOk result (IsFalse (door_will_fail self.old)) }
+        ensures setting { door_fails self.new ≡ door_fails self.old }
+        ensures counted { door_calls self.new ≡ next_count (door_calls self.old) }
+    {
         self.calls = self.calls.saturating_add(1);
         if self.fails.contains(&self.calls) {
             self.faults = self.faults.saturating_add(1);
@@ -108,7 +130,16 @@ impl Door for MemDoor {
         }
     }
 
-    fn done(&mut self, conn: MemConn) {
+    fn done(&mut self, conn: MemConn)
+        ensures noted { NotesOutput (Some (door_given self.old)) (Some (door_given self.new)) (Some (conn_written conn)) }
+        ensures left { door_left self.new ≡ door_left self.old }
+        ensures closes { door_closes self.new ≡ door_closes self.old }
+        ensures faults { door_faults self.new ≡ door_faults self.old }
+
+        // Which calls fail stays as it is.
+        ensures setting { door_fails self.new ≡ door_fails self.old }
+        ensures uncounted { door_calls self.new ≡ door_calls self.old }
+    {
         if let Some(visit) = self.given.pop() {
             self.given.push_reserved(Visit {
                 output: Bytes::new(conn.into_output()),

@@ -16,11 +16,13 @@ pub struct MemLink {
 impl MemLink {
     ghost use Rattle.front_ports.specs.Memory.{link_left, link_written, link_number, IsUnused};
     ghost use Rattle.front_ports.specs.Memory.{link_read_faults, link_write_faults};
+    ghost use Rattle.front_ports.specs.MemoryStream.{link_stream, BeginsAsTold};
 
     /// A link that no dial has given yet.
     pub fn new(alloc: Global, script: Script) -> Result<MemLink, NoMemory>
         ensures input { IfOk result (λ link. link_left link ≡ script.input) }
         ensures unused { IfOk result IsUnused }
+        ensures told { IfOk result (λ link. BeginsAsTold (link_stream link) script) }
     {
         let stream = MemStream::new(alloc, script)?;
         Ok(MemLink { number: 0, stream })
@@ -40,6 +42,7 @@ impl MemLink {
         ensures written { link_written result ≡ link_written self }
         ensures read_faults { link_read_faults result ≡ link_read_faults self }
         ensures write_faults { link_write_faults result ≡ link_write_faults self }
+        ensures stream { link_stream result ≡ link_stream self }
     {
         MemLink {
             number,
@@ -70,8 +73,12 @@ impl MemLink {
 }
 
 impl Source for MemLink {
-    ghost use Rattle.std.specs.Prelude.{Some};
+    ghost use Rattle.std.specs.Prelude.{◌<◌, Some, length};
+    ghost use Rattle.std.specs.Io.{ReadsAtMost};
+    ghost use Rattle.std.specs.Io.KnownBytes.{ReadConsumes};
+    ghost use Rattle.front_ports.specs.Cause.{HasCause};
     ghost use Rattle.front_ports.specs.Memory.{link_left, link_read_faults, link_output};
+    ghost use Rattle.front_ports.specs.MemoryStream.{link_stream, ReadsAsTold};
 
     ghost left = { λ l. Some (link_left l) };
 
@@ -79,14 +86,27 @@ impl Source for MemLink {
 
     ghost outward = { link_output };
 
-    fn read(&mut self, buf: &mut [u8]) -> Result<usize, PortFault> {
+    fn read(&mut self, buf: &mut [u8]) -> Result<usize, PortFault>
+        requires { 0 < length buf.old }
+        ensures bound { ReadsAtMost result buf.new }
+        ensures bytes { ReadConsumes (Some (link_left self.old)) (Some (link_left self.new)) result buf.new }
+        ensures cause { HasCause (link_read_faults self.old) (link_read_faults self.new) result }
+        ensures aside { link_output self.new ≡ link_output self.old }
+
+        // Which reads fail, and how many bytes the others give.
+        ensures told { ReadsAsTold (link_stream self.old) (link_stream self.new) result (length buf.old) }
+    {
         self.stream.read(buf)
     }
 }
 
 impl ByteSink for MemLink {
-    ghost use Rattle.std.specs.Prelude.{Some};
+    ghost use Rattle.std.specs.Prelude.{◌<◌, Some, IfOk, length};
+    ghost use Rattle.std.specs.Io.{WritesAtMost};
+    ghost use Rattle.std.specs.Io.KnownBytes.{WriteAppends};
+    ghost use Rattle.front_ports.specs.Cause.{HasCause};
     ghost use Rattle.front_ports.specs.Memory.{link_written, link_write_faults, link_input};
+    ghost use Rattle.front_ports.specs.MemoryStream.{link_stream, SendsAsTold};
 
     ghost written = { λ l. Some (link_written l) };
 
@@ -94,7 +114,17 @@ impl ByteSink for MemLink {
 
     ghost inward = { link_input };
 
-    fn write(&mut self, piece: &[u8]) -> Result<usize, PortFault> {
+    fn write(&mut self, piece: &[u8]) -> Result<usize, PortFault>
+        requires { 0 < length piece.now }
+        ensures bound { WritesAtMost result piece.now }
+        ensures some { IfOk result (λ n. 0 < n) }
+        ensures bytes { WriteAppends (Some (link_written self.old)) (Some (link_written self.new)) result piece.now }
+        ensures cause { HasCause (link_write_faults self.old) (link_write_faults self.new) result }
+        ensures aside { link_input self.new ≡ link_input self.old }
+
+        // Which writes fail, and that the others take the whole piece.
+        ensures told { SendsAsTold (link_stream self.old) (link_stream self.new) result (length piece.now) }
+    {
         self.stream.output.write(piece)
     }
 }

@@ -1,7 +1,8 @@
-ghost use Rattle.std.specs.Prelude.{◌≡◌, ◌≤◌, ◌<◌, ◌+◌, ◌-◌, ◌^◌, ◌++◌, min, [], IfOk, OnOk, OnErr, Some, length, drop, vec_len};
+ghost use Rattle.std.specs.Prelude.{◌≡◌, ◌≤◌, ◌<◌, ◌++◌, [], IfOk, Some, length, drop, slice_get, vec_len};
 ghost use Rattle.std.specs.Io.{ReadsAtMost};
 ghost use Rattle.std.specs.Io.KnownBytes.{ReadConsumes};
 ghost use Rattle.front_ports.specs.Cause.{HasCause};
+ghost use Rattle.front_ports.specs.Scripts.{cut_to};
 
 use crate::mem_bytes::MemBytes;
 use crate::script::Script;
@@ -23,13 +24,13 @@ pub struct MemStream {
     ghost inside: { at ≤ vec_len input },
 }
 
-// How many bytes the next read gives at most, after so many reads.
-fn next_size(sizes: &[u32], reads: usize) -> usize
-    ensures { 0 < result }
+// How many of so many bytes the next read gives, after so many reads.
+fn next_size(sizes: &[u32], reads: usize, most: usize) -> usize
+    ensures { result ≡ cut_to (slice_get sizes.now reads) most }
 {
     match sizes.get(reads) {
-        Some(size) => (*size as usize).max(1),
-        None => usize::MAX,
+        Some(size) => (*size as usize).max(1).min(most),
+        None => most,
     }
 }
 
@@ -44,6 +45,7 @@ fn fill_front(buf: &mut [u8], bytes: &[u8])
 impl MemStream {
     ghost use Rattle.front_ports.specs.Memory.{stream_input, stream_left, stream_written};
     ghost use Rattle.front_ports.specs.Memory.{stream_read_faults, stream_write_faults};
+    ghost use Rattle.front_ports.specs.MemoryStream.{BeginsAsTold, ReadsAsTold};
 
     pub fn new(alloc: Global, script: Script) -> Result<MemStream, NoMemory>
         ensures input { IfOk result (λ stream. stream_input stream ≡ script.input) }
@@ -51,6 +53,7 @@ impl MemStream {
         ensures output { IfOk result (λ stream. stream_written stream ≡ []) }
         ensures no_read_fault { IfOk result (λ stream. stream_read_faults stream ≡ 0) }
         ensures no_write_fault { IfOk result (λ stream. stream_write_faults stream ≡ 0) }
+        ensures told { IfOk result (λ stream. BeginsAsTold stream script) }
     {
         let output = MemBytes::new(alloc, script.room, script.write_fails)?;
         Ok(MemStream {
@@ -84,19 +87,16 @@ impl MemStream {
         ensures bound { ReadsAtMost result buf.new }
         ensures bytes { ReadConsumes (Some (stream_left self.old)) (Some (stream_left self.new)) result buf.new }
         ensures cause { HasCause (stream_read_faults self.old) (stream_read_faults self.new) result }
-        ensures output { self.new.output ≡ self.old.output }
-        ensures counted { self.new.calls ≡ min (self.old.calls + 1) (2 ^ 64 - 1) }
-        ensures sized { OnOk result (self.new.reads ≡ min (self.old.reads + 1) (2 ^ 64 - 1)) }
-        ensures no_size { OnErr result (self.new.reads ≡ self.old.reads) }
+        ensures told { ReadsAsTold self.old self.new result (length buf.old) }
     {
         self.calls = self.calls.saturating_add(1);
         if self.fails.contains(&self.calls) {
             self.faults = self.faults.saturating_add(1);
             return Err(PortFault);
         }
-        let size = next_size(self.sizes.as_slice(), self.reads);
+        let most = buf.len().min(self.input.len() - self.at);
+        let n = next_size(self.sizes.as_slice(), self.reads, most);
         self.reads = self.reads.saturating_add(1);
-        let n = size.min(buf.len()).min(self.input.len() - self.at);
         fill_front(buf, &self.input.as_slice()[self.at..self.at + n]);
         self.at += n;
         Ok(n)
