@@ -1,7 +1,7 @@
 -- The texts of addresses.
-use Rattle.std.specs.Prelude.{ℕ, ◌==◌, nat_lt, if◌then◌else◌, List, [], ◌∷◌, length, Option, Some, None, option_and_then, codes}
-use Rattle.std.specs.List.{position_or_len, before_first, after_first}
+use Rattle.std.specs.Prelude.{ℕ, ◌==◌, if◌then◌else◌, List, [], ◌∷◌, Option, Some, None, codes}
 use Rattle.std.specs.Str.{bytes_eq}
+use Rattle.front_base.specs.Cut.{cut_at}
 use Rattle.front_base.specs.Number.{plain_number_of}
 use Rattle.front_base.specs.declared.address.Address.{Address}
 
@@ -10,19 +10,12 @@ abbrev pub ◌>>=◌ : {A B : Type 0} → Option A → (A → Option B) → Opti
 None >>= f = None
 (Some x) >>= f = f x
 
--- what stands before and after the first byte of that kind
-unfoldable pub cut : ℕ → List ℕ → Option (List ℕ × List ℕ)
-cut at text =
-    if nat_lt (position_or_len (λ b. b == at) text) (length text) then
-    Some (before_first (λ b. b == at) text, after_first (λ b. b == at) text)
-    else None
-
 -- four numbers up to 255 between dots
 unfoldable pub dotted_of : List ℕ → Option (List ℕ)
 dotted_of text = do
-  first ← cut 46 text
-  second ← cut 46 first.1
-  third ← cut 46 second.1
+  first ← cut_at 46 text
+  second ← cut_at 46 first.1
+  third ← cut_at 46 second.1
   a ← plain_number_of 255 first.0
   b ← plain_number_of 255 second.0
   c ← plain_number_of 255 third.0
@@ -44,7 +37,7 @@ port_of text = plain_number_of 65535 text >>= not_zero
 -- a host, a colon and a port other than 0
 unfoldable pub address_of : List ℕ → Option Address
 address_of text = do
-  parts ← cut 58 text
+  parts ← cut_at 58 text
   ip ← host_of parts.0
   port ← port_of parts.1
   Some (record { ip = ip; port = port })

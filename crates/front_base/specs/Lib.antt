@@ -1,6 +1,7 @@
 pub mod Address
 pub mod AuditId
 pub mod Civil
+pub mod Cut
 pub mod Info
 pub mod Level
 pub mod Line

@@ -1,7 +1,8 @@
-ghost use Rattle.std.specs.Prelude.{◌≡◌, ◌<◌, option_map};
+ghost use Rattle.std.specs.Prelude.{◌≡◌};
 ghost use Rattle.front_base.specs.Address as spec;
 ghost use Rattle.front_base.specs.Number.{plain_number_of};
 
+use crate::cut::cut_at;
 use crate::number::plain_number_of;
 
 /// An IPv4 address and a TCP port.
@@ -10,14 +11,6 @@ pub struct Address {
     /// The four bytes in the order in which they are written, `127.0.0.1` being 127, 0, 0, 1.
     pub ip: [u8; 4],
     pub port: u16,
-}
-
-// What stands before and after the first byte of that kind.
-fn cut(text: &str, at: char) -> Option<(&str, &str)>
-    requires { at < 128 }
-    ensures { option_map (λ parts. (parts.0.now, parts.1.now)) result ≡ spec.cut at text.now }
-{
-    text.split_once(at)
 }
 
 fn byte_of(text: &str) -> Option<u8>
@@ -44,9 +37,9 @@ fn port_of(text: &str) -> Option<u16>
 fn dotted_of(text: &str) -> Option<[u8; 4]>
     ensures { result ≡ spec.dotted_of text.now }
 {
-    let (first, rest) = cut(text, '.')?;
-    let (second, rest) = cut(rest, '.')?;
-    let (third, fourth) = cut(rest, '.')?;
+    let (first, rest) = cut_at(text, '.')?;
+    let (second, rest) = cut_at(rest, '.')?;
+    let (third, fourth) = cut_at(rest, '.')?;
     Some([
         byte_of(first)?,
         byte_of(second)?,
@@ -72,7 +65,7 @@ fn host_of(text: &str) -> Option<[u8; 4]>
 pub fn read_address(text: &str) -> Option<Address>
     ensures { result ≡ spec.address_of text.now }
 {
-    let (host, port) = cut(text, ':')?;
+    let (host, port) = cut_at(text, ':')?;
     let ip = host_of(host)?;
     let port = port_of(port)?;
     Some(Address { ip, port })

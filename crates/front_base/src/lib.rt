@@ -1,4 +1,5 @@
-//! The plain types that all layers share: texts, users, request information, moments, audit IDs and audit lines.
+//! The plain types that all layers share: texts, users, request information, moments, audit IDs and audit lines; and how
+//! a number, or a part, is read from a text.
 //!
 //! The main contracts are those of `audit_id_text` and `moment_text`, which give the text of every audit ID and of
 //! every moment exactly. The types that hold text or bytes are seen by contracts as lists, so that a clause compares
@@ -9,6 +10,7 @@
 
 mod address;
 mod audit_id;
+mod cut;
 mod info;
 mod level;
 mod line;
@@ -22,11 +24,13 @@ mod version;
 
 pub use address::{Address, read_address};
 pub use audit_id::{AuditId, audit_id_text};
+pub use cut::cut_at;
 pub use info::Info;
 pub use level::Level;
 pub use line::{Line, MOST_LINE_BYTES};
 pub use memory::NoMemory;
 pub use moment::{MOMENT_END, Moment, moment_text};
+pub use number::number_of;
 pub use stage::Stage;
 pub use text::{Bytes, Text, Texts};
 pub use user::User;

@@ -14,7 +14,8 @@ fn is_number(text: &[u8]) -> bool
     !text.is_empty()
 }
 
-// The number that digits spell, where it fits 64 bits.
+/// The number that decimal digits spell, which may begin with zeros. None for 2^64 and more, for an empty text, and
+/// where there is anything but digits, as a sign.
 pub fn number_of(text: &[u8]) -> Option<u64>
     ensures { result ≡ spec.number_of text.now }
 {
@@ -48,5 +49,26 @@ pub fn plain_number_of(most: u64, text: &[u8]) -> Option<u64>
     match number_of(text) {
         Some(number) if number <= most => Some(number),
         _ => None,
+    }
+}
+
+#[cfg(test)]
+mod tests {
+    use super::*;
+
+    #[test]
+    fn reads_numbers_of_64_bits(rt: HostRuntime) {
+        let cases = [
+            ("0", Some(0)),
+            ("007", Some(7)),
+            ("18446744073709551615", Some(u64::MAX)),
+            ("18446744073709551616", None),
+            ("", None),
+            ("+7", None),
+            ("7 ", None),
+        ];
+        for (text, number) in cases {
+            assert_eq!(rt; number_of(text.as_bytes()), number);
+        }
     }
 }

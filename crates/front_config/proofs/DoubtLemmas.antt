@@ -2,7 +2,8 @@
 use Rattle.std.proofs.Common.{arith, ◌≡◌, ◌⊎◌, inl, inr, ℕ, ◌==◌, ◌||◌, Bool, true, false, not, true≢false, List, [], ◌∷◌, Option, Some, None, refl, sym, ap, ◌∙◌}
 use Rattle.std.specs.List.{list_any}
 use Rattle.std.proofs.lemmas.Bool.Decides.{nat_tests}
-use Rattle.front_base.specs.Address.{◌>>=◌, cut}
+use Rattle.front_base.specs.Address.{◌>>=◌}
+use Rattle.front_base.specs.Cut.{cut_at}
 use Rattle.front_config.specs.Parser.{has_empty_end, has_empty_value, is_doubtful}
 use Rattle.front_config.specs.Spelling.{Named, apart, behind_dashes, has_equals_sign, is_among, is_some_text, joined, options_of, with_option}
 use Rattle.front_config.proofs.OptionLemmas.{apart_first, apart_other, joined_empty, joined_first, no_dashed_value, no_empty_value, no_option, no_value}
@@ -56,11 +57,11 @@ module _ (names : List (List ℕ)) (named : is_among names [] ≡ false) where
       go : (b : Bool) → has_equals_sign text ≡ b → options_of names (word ∷ behind) ≡ None
       go true sign =
           let cut_is = cut_at_sign text sign in
-          let ends : has_empty_value word ≡ not (is_some_text (value_in text)) = ap (λ (o : Option (List ℕ)). has_empty_end (o >>= cut 61)) l.behind ∙ ap has_empty_end cut_is in
+          let ends : has_empty_value word ≡ not (is_some_text (value_in text)) = ap (λ (o : Option (List ℕ)). has_empty_end (o >>= cut_at 61)) l.behind ∙ ap has_empty_end cut_is in
           let empty = no_text (is_some_text (value_in text)) (sym ends ∙ d) in
           sym (joined_first names word behind None (l.sign ∙ sign) (sym (joined_empty names word text l.behind (name_in text) (value_in text) cut_is empty)))
       go false sign =
-          let ends : has_empty_value word ≡ false = ap (λ (o : Option (List ℕ)). has_empty_end (o >>= cut 61)) l.behind ∙ ap has_empty_end (no_cut text sign) in
+          let ends : has_empty_value word ≡ false = ap (λ (o : Option (List ℕ)). has_empty_end (o >>= cut_at 61)) l.behind ∙ ap has_empty_end (no_cut text sign) in
           absurd (true≢false (sym d ∙ ends))
 
   behind_two : (rest : List ℕ) → is_doubtful (45 ∷ 45 ∷ rest) ≡ true → IsNone (45 ∷ 45 ∷ rest)

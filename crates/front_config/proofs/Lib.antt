@@ -1,5 +1,4 @@
 mod ClapLemmas
-mod DigitLemmas
 mod DistinctLemmas
 mod DoubtLemmas
 mod FaultLemmas

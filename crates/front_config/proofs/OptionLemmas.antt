@@ -1,6 +1,7 @@
 -- Options of words that are read one after the other.
 use Rattle.std.proofs.Common.{◌≡◌, ℕ, ◌&&◌, if◌then◌else◌, Bool, true, false, not, List, [], ◌∷◌, Option, Some, None, refl, sym}
-use Rattle.front_base.specs.Address.{◌>>=◌, cut}
+use Rattle.front_base.specs.Address.{◌>>=◌}
+use Rattle.front_base.specs.Cut.{cut_at}
 use Rattle.front_config.specs.Spelling.{Named, apart, begins_with_dash, behind_dashes, has_equals_sign, is_among, is_some_text, joined, options_of, with_option}
 
 -- an option of one word, or none, in front of others
@@ -69,15 +70,15 @@ no_empty_value names word value e = go (behind_dashes word)
     go (Some name) = rw e (rw (and_false (is_among names name)) refl)
 
 module _ (names : List (List ℕ)) (word text : List ℕ) (is : behind_dashes word ≡ Some text) where
-  pub joined_other : (name value : List ℕ) → cut 61 text ≡ Some (name, value) → is_among names name ≡ false → joined names word ≡ None
+  pub joined_other : (name value : List ℕ) → cut_at 61 text ≡ Some (name, value) → is_among names name ≡ false → joined names word ≡ None
   unfolding joined
   joined_other name value parts e = rw (is, parts, e) refl
 
-  pub joined_own : (name value : List ℕ) → cut 61 text ≡ Some (name, value) → is_among names name ≡ true → is_some_text value ≡ true → joined names word ≡ Some (name, value)
+  pub joined_own : (name value : List ℕ) → cut_at 61 text ≡ Some (name, value) → is_among names name ≡ true → is_some_text value ≡ true → joined names word ≡ Some (name, value)
   unfolding joined
   joined_own name value parts e some = rw (is, parts, e, some) refl
 
-  pub joined_empty : (name value : List ℕ) → cut 61 text ≡ Some (name, value) → is_some_text value ≡ false → joined names word ≡ None
+  pub joined_empty : (name value : List ℕ) → cut_at 61 text ≡ Some (name, value) → is_some_text value ≡ false → joined names word ≡ None
   unfolding joined
   joined_empty name value parts none = rw (is, parts, none) (rw (and_false (is_among names name)) refl)
 

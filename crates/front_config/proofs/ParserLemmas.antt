@@ -8,7 +8,8 @@ use Rattle.clap.specs.Kinds.{Kinds, or_else}
 use Rattle.clap.specs.Lexer.{name_and_value}
 use Rattle.clap.specs.Walk.{Held, Row, Rule, Text, Waiting, Walk, idle, option, settled, used, used_by_id}
 use Rattle.clap.specs.declared.error.kind.ErrorKind.TheVariants.{InvalidValue}
-use Rattle.front_base.specs.Address.{◌>>=◌, cut}
+use Rattle.front_base.specs.Address.{◌>>=◌}
+use Rattle.front_base.specs.Cut.{cut_at}
 use Rattle.front_config.specs.Parser.{has_empty_end, has_empty_value, is_doubtful}
 use Rattle.front_config.specs.Spelling.{Named, begins_with_dash, has_equals_sign, is_among, is_some_text, options_of, with_option}
 use Rattle.front_config.proofs.DistinctLemmas.{with_all}
@@ -121,7 +122,7 @@ module _ (names : List (List ℕ)) where
   value_there : (word text : Text) → IsLong word text → has_equals_sign text ≡ true → is_doubtful word ≡ false → is_some_text (value_in text) ≡ true
   value_there word text l sign sure =
       let ends : has_empty_end (Some (option_in text)) ≡ has_empty_value word =
-      sym (ap (λ (o : Option Text). has_empty_end (o >>= cut 61)) l.behind ∙ ap has_empty_end (cut_at_sign text sign)) in
+      sym (ap (λ (o : Option Text). has_empty_end (o >>= cut_at 61)) l.behind ∙ ap has_empty_end (cut_at_sign text sign)) in
       not_false (is_some_text (value_in text)) (ends ∙ some_value word sure)
 
   -- what the definition states of such a word

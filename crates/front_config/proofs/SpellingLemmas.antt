@@ -4,7 +4,7 @@ use Rattle.std.specs.Prelude.{◌&&◌, ◌||◌, nat_lt}
 use Rattle.std.specs.List.{position_or_len}
 use Rattle.std.proofs.lemmas.Bool.Decides.{nat_tests}
 use Rattle.std.proofs.lemmas.List.{append_assoc, length-append, length_push, take_at, drop_at}
-use Rattle.front_base.specs.Address.{cut}
+use Rattle.front_base.specs.Cut.{cut_at}
 use Rattle.front_config.specs.Spelling.{has_equals_sign, is_among, is_some_text, begins_with_dash, behind_dashes, joined, apart, options_of}
 use Rattle.front_config.proofs.OptionLemmas.{joined_first, apart_first}
 
@@ -32,8 +32,8 @@ place (c ∷ name) value e = step (c == 61) refl e (place name value)
 less : (a b : ℕ) → a < b → nat_lt a b ≡ true
 less a b h = grind (arith, nat_tests, h)
 
-cut_there : (name value : List ℕ) → has_equals_sign name ≡ false → cut 61 (name ++ 61 ∷ value) ≡ Some (name, value)
-unfolding cut
+cut_there : (name value : List ℕ) → has_equals_sign name ≡ false → cut_at 61 (name ++ 61 ∷ value) ≡ Some (name, value)
+unfolding cut_at
 cut_there name value e =
     let at = place name value e in
     let long = length-append name (61 ∷ value) in

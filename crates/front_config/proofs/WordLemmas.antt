@@ -5,7 +5,7 @@ use Rattle.std.specs.List.{position_or_len, before_first, after_first}
 use Rattle.std.specs.Str.{bytes_eq}
 use Rattle.std.proofs.lemmas.Bool.Decides.{nat_tests}
 use Rattle.clap.specs.Lexer.{long_of, name_and_value, short_of}
-use Rattle.front_base.specs.Address.{cut}
+use Rattle.front_base.specs.Cut.{cut_at}
 use Rattle.front_config.specs.Spelling.{behind_dashes, begins_with_dash, has_equals_sign}
 use Rattle.front_config.specs.Parser.{is_doubtful}
 
@@ -110,12 +110,12 @@ place_of_sign (c ∷ text) = go (c == 61) refl (place_of_sign text)
     go false e ih = rw (e, ← ih) (grind (arith, nat_tests))
 
 -- a text with `=` is cut there
-pub cut_at_sign : (text : List ℕ) → has_equals_sign text ≡ true → cut 61 text ≡ Some (name_in text, value_in text)
-unfolding cut
+pub cut_at_sign : (text : List ℕ) → has_equals_sign text ≡ true → cut_at 61 text ≡ Some (name_in text, value_in text)
+unfolding cut_at
 cut_at_sign text e = rw (place_of_sign text, e) refl
 
-pub no_cut : (text : List ℕ) → has_equals_sign text ≡ false → cut 61 text ≡ None
-unfolding cut
+pub no_cut : (text : List ℕ) → has_equals_sign text ≡ false → cut_at 61 text ≡ None
+unfolding cut_at
 no_cut text e = rw (place_of_sign text, e) refl
 
 pub parts_at_sign : (text : List ℕ) → has_equals_sign text ≡ true → name_and_value text ≡ (name_in text, Some (value_in text))

@@ -5,7 +5,8 @@ use Rattle.clap.specs.Words.{App, Row, Rule, new_app, new_rule}
 use Rattle.clap.specs.declared.builder.action.ArgAction.TheVariants.{Set}
 use Rattle.clap.specs.declared.builder.value_parser.Reading.TheVariants.{AsWritten}
 use Rattle.clap.specs.declared.parser.matches.ValueSource.TheVariants.{CommandLine}
-use Rattle.front_base.specs.Address.{◌>>=◌, cut}
+use Rattle.front_base.specs.Address.{◌>>=◌}
+use Rattle.front_base.specs.Cut.{cut_at}
 use Rattle.front_config.specs.Spelling.{Named, behind_dashes, is_some_text}
 
 -- an option that has one value
@@ -30,7 +31,7 @@ has_empty_end (Some parts) = not (is_some_text parts.1)
 
 -- an option in one word whose value is empty
 abbrev pub has_empty_value : List ℕ → Bool
-has_empty_value word = has_empty_end (behind_dashes word >>= cut 61)
+has_empty_value word = has_empty_end (behind_dashes word >>= cut_at 61)
 
 -- nothing, one dash, two, or an option with an empty value
 unfoldable pub is_doubtful : List ℕ → Bool

@@ -2,7 +2,8 @@
 use Rattle.std.specs.Prelude.{ℕ, ◌==◌, ◌&&◌, not, nat_eq, nat_lt, Bool, false, if◌then◌else◌, List, [], ◌∷◌, length, drop, Option, Some, None, codes}
 use Rattle.std.specs.List.{list_any, starts_with}
 use Rattle.std.specs.Str.{bytes_eq}
-use Rattle.front_base.specs.Address.{◌>>=◌, cut}
+use Rattle.front_base.specs.Address.{◌>>=◌}
+use Rattle.front_base.specs.Cut.{cut_at}
 
 -- an option: its name, and the value that it is given
 abbrev pub Named : Type 0
@@ -26,7 +27,7 @@ behind_dashes word = if starts_with nat_eq word (codes "--") then Some (drop 2 w
 unfoldable pub joined : List (List ℕ) → List ℕ → Option Named
 joined names word = do
   text ← behind_dashes word
-  parts ← cut 61 text
+  parts ← cut_at 61 text
   if is_among names parts.0 && is_some_text parts.1 then Some (parts.0, parts.1) else None
 
 -- the option of two words, `--NAME` and a value that doesn't begin with a dash

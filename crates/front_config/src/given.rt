@@ -5,12 +5,11 @@ ghost use Rattle.front_config.specs.Parser as parser;
 ghost use Rattle.front_config.specs.Spelling.{is_among};
 ghost use Rattle.front_config.specs.Words as spec;
 
-use crate::digits::number_of;
 use crate::fault::WordsFault;
 use crate::spelling::has_doubtful;
 use clap::error::ErrorKind;
 use clap::{Arg, ArgAction, ArgMatches, Command};
-use front_base::{NoMemory, Text};
+use front_base::{NoMemory, Text, number_of};
 use std::alloc::{AllocError, Global};
 use std::marker::Model;
 

@@ -8,7 +8,6 @@
 #![tactic(auto)]
 
 mod command;
-mod digits;
 mod fault;
 mod files;
 mod given;

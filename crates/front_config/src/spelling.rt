@@ -1,17 +1,10 @@
 // Words that `clap` takes, and that are no option and no value here.
-ghost use Rattle.std.specs.Prelude.{◌≡◌, ◌<◌, map, option_map, string_bytes};
+ghost use Rattle.std.specs.Prelude.{◌≡◌, map, option_map, string_bytes};
 ghost use Rattle.std.specs.List.{list_any};
-ghost use Rattle.front_base.specs.Address.{cut};
 ghost use Rattle.front_config.specs.Parser as parser;
 ghost use Rattle.front_config.specs.Spelling as spec;
 
-// What stands before and after the first byte of that kind.
-fn cut(text: &str, at: char) -> Option<(&str, &str)>
-    requires { at < 128 }
-    ensures { option_map (λ parts. (parts.0.now, parts.1.now)) result ≡ cut at text.now }
-{
-    text.split_once(at)
-}
+use front_base::cut_at;
 
 // The text behind two dashes.
 fn behind_dashes(word: &str) -> Option<&str>
@@ -24,7 +17,7 @@ fn has_empty_value(word: &str) -> bool
     ensures { result ≡ parser.has_empty_value word.now }
 {
     match behind_dashes(word) {
-        Some(text) => match cut(text, '=') {
+        Some(text) => match cut_at(text, '=') {
             Some((_, value)) => value.is_empty(),
             None => false,
         },
