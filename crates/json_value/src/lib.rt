@@ -1,0 +1,21 @@
+//! JSON texts as values of `serde_json` (RFC 8259): read, and looked at member by member.
+//!
+//! The main contract is that of `read_value`: it gives the value that the bytes are, and refuses exactly the bytes that
+//! are no JSON text or are nested too deep. A member that is `null` counts as absent everywhere here.
+//!
+//! Nothing is promised of how a text is spelled: a value keeps no order of members, and of equal names in one object it
+//! keeps the last one's member.
+#![tactic(auto)]
+
+mod fault;
+mod floats;
+mod members;
+mod read;
+
+pub use fault::ValueError;
+pub use floats::has_float;
+pub use members::{inner, is_text, present, text_in};
+pub use read::read_value;
+
+#[cfg(test)]
+mod tests;

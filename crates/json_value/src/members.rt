@@ -1,0 +1,39 @@
+ghost use Rattle.std.specs.Prelude.{◌≡◌, option_map};
+ghost use Rattle.serde_json.specs.View.{view};
+ghost use Rattle.json_value.specs.Members as spec;
+
+use serde_json::Value;
+
+/// The member of that name, where it is there and not null.
+pub fn present<'v>(value: &'v Value, name: &str) -> Option<&'v Value>
+    ensures { option_map (λ v. view v.now) result ≡ spec.present name.now (view value.now) }
+{
+    match value.get(name) {
+        Some(Value::Null) => None,
+        found => found,
+    }
+}
+
+/// The member of that name of the member of another name.
+pub fn inner<'v>(value: &'v Value, outer: &str, name: &str) -> Option<&'v Value>
+    ensures { option_map (λ v. view v.now) result ≡ spec.inner outer.now name.now (view value.now) }
+{
+    present(present(value, outer)?, name)
+}
+
+/// The text of a member, where it is one.
+pub fn text_in(found: Option<&Value>) -> Option<&str>
+    ensures { option_map (λ s. s.now) result ≡ spec.text_in (option_map (λ v. view v.now) found.entry) }
+{
+    found?.as_str()
+}
+
+/// Whether a member is that very text, byte for byte.
+pub fn is_text(text: &str, found: Option<&Value>) -> bool
+    ensures { result ≡ spec.is_text text.now (option_map (λ v. view v.now) found.entry) }
+{
+    match found {
+        Some(Value::String(own)) => own.as_str() == text,
+        _ => false,
+    }
+}
