@@ -1,6 +1,5 @@
 mod AnswerLemmas
 mod DeskLemmas
-mod HeaderLemmas
 mod JudgeLemmas
 mod ListLemmas
 mod ServingLemmas

@@ -11,6 +11,7 @@ use Rattle.front_base.specs.declared.level.Level.TheVariants as level
 use Rattle.front_base.specs.declared.stage.Stage.{Stage}
 use Rattle.front_base.specs.declared.stage.Stage.TheVariants.{RequestReceived, ResponseStarted, ResponseComplete, Panic}
 use Rattle.http_edge.specs.declared.request.Request.{Request}
+use Rattle.http_head.specs.Name.{first_value}
 use Rattle.http_head.specs.declared.header.Header.{Header}
 use Rattle.local_replies.specs.declared.reply.LocalReply.{LocalReply}
 use Rattle.policy_rules.specs.Policy.{first}
@@ -23,7 +24,6 @@ use Rattle.stage_event.specs.Kept.{IsKept}
 use Rattle.stage_event.specs.declared.facts.Facts.{Facts}
 use Rattle.stage_event.specs.declared.facts.Kept.{Kept}
 use Rattle.stage_event.specs.declared.facts.Kept.TheVariants.{NotAsked}
-use Rattle.token_users.specs.Who.{first_value}
 use Rattle.proxy_server.specs.Answer.{user_in, info_in, is_refused, refusal_in, reply_in, reply_body}
 use Rattle.proxy_server.specs.declared.judge.Asked.{Asked}
 use Rattle.proxy_server.specs.declared.judge.Judged.{Judged}

@@ -1,6 +1,5 @@
 // What is known of a request that was answered.
-ghost use Rattle.std.specs.Prelude.{◌≡◌, ◌<◌, IfOk, option_map};
-ghost use Rattle.token_users.specs.Who.{first_value};
+ghost use Rattle.std.specs.Prelude.{◌≡◌, ◌<◌, IfOk};
 ghost use Rattle.proxy_server.specs.Answer.{reply_body, reply_of};
 ghost use Rattle.proxy_server.specs.Exchange as spec;
 
@@ -10,7 +9,7 @@ use crate::serving::MOST_REQUESTS;
 use crate::settings::Settings;
 use front_base::{AuditId, NoMemory, Text};
 use http_edge::Request;
-use http_head::Header;
+use http_head::Headers;
 use local_replies::refusal;
 use stage_event::{Facts, Kept, kept, reply_due, request_due};
 use std::alloc::Global;
@@ -18,23 +17,11 @@ use std::alloc::Global;
 // The address that all requests of a run come from, since it has no connection.
 const OWN_ADDRESS: [u8; 4] = [127, 0, 0, 1];
 
-// The value of the first header of a name.
-fn first_value<'h>(name: &str, headers: &'h [Header]) -> Option<&'h [u8]>
-    ensures { option_map (λ value. value.now) result ≡ first_value name.now headers.now }
-{
-    for header in headers {
-        if header.is_named(name) {
-            return Some(header.value.as_slice());
-        }
-    }
-    None
-}
-
 // The User-Agent header that stands first, with U+FFFD for what isn't UTF-8, or nothing.
-fn agent_in(alloc: Global, headers: &[Header]) -> Result<Text, NoMemory>
+fn agent_in(alloc: Global, headers: &Headers) -> Result<Text, NoMemory>
     ensures { IfOk result (λ agent. agent ≡ spec.agent_in headers.now) }
 {
-    match first_value("user-agent", headers) {
+    match headers.first_value("user-agent") {
         Some(value) => Ok(Text::new(String::from_utf8_lossy(alloc, value)?)),
         None => Text::copy_of(alloc, ""),
     }
@@ -98,7 +85,7 @@ pub fn facts_of(
         info: judged.info,
         user: judged.user,
         peer: OWN_ADDRESS,
-        agent: agent_in(alloc, request.head.headers.as_slice())?,
+        agent: agent_in(alloc, &request.head.headers)?,
         status: answer.status(),
         request: request_kept,
         reply: reply_kept,

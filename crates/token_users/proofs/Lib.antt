@@ -1,4 +1,3 @@
-mod BearerLemmas
 mod FileLemmas
 mod PlaceLemmas
 mod RecordLemmas

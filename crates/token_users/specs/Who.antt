@@ -3,19 +3,12 @@ use Rattle.std.specs.Prelude.{ℕ, ◌||◌, ◌==◌, Bool, List, [], ◌∷◌
 use Rattle.std.specs.List.{before_first, list_any}
 use Rattle.std.specs.Str.{str_eq_ignore_ascii_case}
 use Rattle.front_base.specs.declared.user.User.{User}
-use Rattle.http_head.specs.Name.{is_named}
-use Rattle.http_head.specs.declared.header.Header.{Header}
+use Rattle.http_head.specs.Name.{first_value}
 use Rattle.http_head.specs.declared.request.Head.{Head}
 use Rattle.token_users.specs.Places.{last_user}
 use Rattle.token_users.specs.declared.record.Record.{Record}
 use Rattle.token_users.specs.declared.asker.Who.{Who}
 use Rattle.token_users.specs.declared.asker.Who.TheVariants.{Known, Anonymous, BadToken}
-
--- the value of the first header of a name
-unfoldable pub first_value : List ℕ → List Header → Option (List ℕ)
-first_value name [] = None
-first_value name (first ∷ others) =
-    if is_named name first.name then Some first.value else first_value name others
 
 -- the value begins with the scheme `Bearer` and a space
 abbrev pub is_bearer : List ℕ → Bool

@@ -1,25 +1,13 @@
 // The bearer token of a request, and whose it is.
-ghost use Rattle.std.specs.Prelude.{◌≡◌, IfOk, option_map};
+ghost use Rattle.std.specs.Prelude.{◌≡◌, IfOk};
 ghost use Rattle.token_users.specs.Who as spec;
 
 use crate::asker::Who;
 use crate::copy;
 use crate::tokens::Tokens;
 use front_base::NoMemory;
-use http_head::{Head, Header};
+use http_head::Head;
 use std::alloc::Global;
-
-// The value of the first header of a name.
-fn first_value<'h>(name: &str, headers: &'h [Header]) -> Option<&'h [u8]>
-    ensures { option_map (λ value. value.now) result ≡ spec.first_value name.now headers.now }
-{
-    for header in headers {
-        if header.is_named(name) {
-            return Some(header.value.as_slice());
-        }
-    }
-    None
-}
 
 fn is_bearer(value: &[u8]) -> bool
     ensures { result ≡ spec.is_bearer value.now }
@@ -64,7 +52,7 @@ fn who_sends(alloc: Global, tokens: &Tokens, value: &[u8]) -> Result<Who, NoMemo
 pub fn who(alloc: Global, tokens: &Tokens, head: &Head) -> Result<Who, NoMemory>
     ensures { IfOk result (λ who. who ≡ spec.who tokens.now head.now) }
 {
-    match first_value("authorization", head.headers.as_slice()) {
+    match head.headers.first_value("authorization") {
         Some(value) => who_sends(alloc, tokens, value),
         None => Ok(Who::Anonymous),
     }

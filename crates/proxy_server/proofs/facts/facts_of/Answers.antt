@@ -1,6 +1,4 @@
-use Rattle.std.proofs.Common.{◌∙◌, ap}
 use Rattle.proxy_server.specs.Answer.{reply_of}
-use Rattle.proxy_server.specs.Exchange.{agent_in}
 use Rattle.proxy_server.proofs.JudgeLemmas.{facts_are, request_kept, reply_kept}
 use Rattle.proxy_server.proofs.facts.facts_of.Goals as goal
 
@@ -11,7 +9,7 @@ returns c =
     let judged = c.args.judged in
     let known = c.requires.judged in
     let answer = reply_of c.args.answer.now in
-    let agent = c.in_ok-agent_in.ensures ∙ ap agent_in c.as_slice.ensures in
+    let agent = c.in_ok-agent_in.ensures in
     record {
       request = c.in_ok-request_kept.request_kept;
       reply = c.in_ok-reply_kept.reply_kept;

@@ -5,4 +5,4 @@ use Rattle.token_users.proofs.bearer.who.Goals as goal
 
 pub returns-in-Some : goal.returns-in-Some
 returns-in-Some c =
-    IfOk-weaker c.who_sends.result _ _ (λ w e. e ∙ ap (spec.who_by c.args.tokens.now) (rw c.as_slice.ensures at c.in-Some.ensures)) c.who_sends.ensures
+    IfOk-weaker c.who_sends.result _ _ (λ w e. e ∙ ap (spec.who_by c.args.tokens.now) c.in-Some.ensures) c.who_sends.ensures
