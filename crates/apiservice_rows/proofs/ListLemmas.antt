@@ -1,7 +1,7 @@
 -- The rows of a list, one item after another.
-use Rattle.std.proofs.Common.{◌≡◌, ℕ, true, ◌∷◌, [], ◌++◌, List, Option, Some, Result, Ok, Err, refl, sym, ap, ◌∙◌, append_assoc}
+use Rattle.std.proofs.Common.{◌≡◌, true, ◌∷◌, [], ◌++◌, List, Some, Result, Ok, Err, refl, sym, ap, ◌∙◌, append_assoc}
 use Rattle.serde_json.specs.Data.{Data, Items, no_items, item}
-use Rattle.apiservice_rows.specs.Json.{◌>>=◌, fault_of, Fails}
+use Rattle.apiservice_rows.specs.Fault.{◌>>=◌, fault_of, Fails}
 use Rattle.apiservice_rows.specs.Object.{row_of}
 use Rattle.apiservice_rows.specs.Row.{Row}
 use Rattle.apiservice_rows.specs.RowList.{item_rows}

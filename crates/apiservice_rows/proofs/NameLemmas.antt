@@ -1,9 +1,9 @@
 -- The first name that stood before, and the names that are among others.
-use Rattle.std.proofs.Common.{◌≡◌, ℕ, Bool, true, false, cond, List, [], ◌∷◌, ◌++◌, map, Some, None, Ok, refl, sym, ap, ◌∙◌}
+use Rattle.std.proofs.Common.{◌≡◌, ℕ, Bool, true, false, cond, List, [], ◌∷◌, ◌++◌, Some, None, Ok, refl, ap, ◌∙◌}
 use Rattle.std.specs.Prelude.{not, ◌||◌}
 use Rattle.std.specs.Str.{bytes_eq}
 use Rattle.std.proofs.lemmas.List.{map-append}
-use Rattle.apiservice_rows.specs.Json.{fault_of}
+use Rattle.apiservice_rows.specs.Fault.{fault_of}
 use Rattle.apiservice_rows.specs.Row.{Row}
 use Rattle.apiservice_rows.specs.RowList.{is_among, names_of, repeated, distinct}
 use Rattle.apiservice_rows.specs.declared.fault.RowFault.TheVariants.{Repeated}

@@ -1,6 +1,6 @@
 -- A version has no dot.
 use Rattle.std.proofs.Common.{◌≡◌, ℕ, ◌==◌, Bool, true, false, List, [], ◌∷◌, refl, arith}
-use Rattle.std.specs.Prelude.{◌&&◌, ◌||◌}
+use Rattle.std.specs.Prelude.{◌&&◌}
 use Rattle.std.proofs.lemmas.Bool.Decides.{nat_tests}
 use Rattle.apiservice_rows.specs.Object.{is_version_byte, are_version_bytes}
 use Rattle.apiservice_rows.specs.Row.{has_dot}

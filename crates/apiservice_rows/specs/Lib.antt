@@ -1,4 +1,4 @@
-pub mod Json
+pub mod Fault
 pub mod Object
 pub mod Row
 pub mod RowList

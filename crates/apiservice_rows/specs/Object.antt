@@ -2,33 +2,30 @@
 use Rattle.std.specs.Prelude.{ℕ, ◌+◌, ◌==◌, ◌&&◌, ◌||◌, not, nat_lt, Bool, true, false, if◌then◌else◌, List, [], ◌∷◌, length, Option, Some, None, option_and_then, Result, Ok, Err, codes}
 use Rattle.std.specs.Char.{is_ascii_digit, is_ascii_lowercase}
 use Rattle.std.specs.Str.{bytes_eq}
-use Rattle.serde_json.specs.Data.{Data, null, boolean, number, string, array, object, Items, no_items, item}
-use Rattle.serde_json.specs.Find.{as_str}
+use Rattle.serde_json.specs.Data.{Data, null, boolean, number, string, array, object, Num, unsigned, negative, float, Items, no_items, item}
+use Rattle.serde_json.specs.Find.{as_str, as_number}
 use Rattle.serde_json.specs.Written.{has_float, compact_text}
-use Rattle.apiservice_rows.specs.Json.{◌>>=◌, found_or, present, inner, text_in, whole_in, value_of}
+use Rattle.json_value.specs.Members.{present, inner, text_in, is_text, is_object}
+use Rattle.json_value.specs.Read.{value_of}
+use Rattle.apiservice_rows.specs.Fault.{◌>>=◌, found_or}
 use Rattle.apiservice_rows.specs.Row.{Row, own_name}
 use Rattle.apiservice_rows.specs.declared.fault.RowFault.{RowFault}
-use Rattle.apiservice_rows.specs.declared.fault.RowFault.TheVariants.{BadField, NameMismatch, Range}
+use Rattle.apiservice_rows.specs.declared.fault.RowFault.TheVariants.{NotJson, BadField, NameMismatch, Range}
 use Rattle.apiservice_rows.specs.declared.service.FoundService.{FoundService}
 use Rattle.apiservice_rows.specs.declared.service.ServiceRef.{ServiceRef}
 
 -- ---- what it is
 
 -- a text; in a list it may be absent
-abbrev pub is_text : Bool → List ℕ → Option Data → Bool
-is_text optional text None = optional
-is_text optional text (Some null) = false
-is_text optional text (Some (boolean b)) = false
-is_text optional text (Some (number n)) = false
-is_text optional text (Some (string s)) = bytes_eq s text
-is_text optional text (Some (array ds)) = false
-is_text optional text (Some (object ms)) = false
+abbrev pub is_head_text : Bool → List ℕ → Option Data → Bool
+is_head_text in_list text None = in_list
+is_head_text in_list text (Some d) = is_text text (Some d)
 
 -- an APIService of this version of its API, whose numbers are all whole and fit 64 bits
 unfoldable pub head_of : Bool → Data → Result (Unit {0}) RowFault
 head_of in_list d =
-    if not (is_text in_list (codes "APIService") (present (codes "kind") d)) then Err (BadField (codes "kind"))
-    else if not (is_text in_list (codes "apiregistration.k8s.io/v1") (present (codes "apiVersion") d)) then
+    if not (is_head_text in_list (codes "APIService") (present (codes "kind") d)) then Err (BadField (codes "kind"))
+    else if not (is_head_text in_list (codes "apiregistration.k8s.io/v1") (present (codes "apiVersion") d)) then
     Err (BadField (codes "apiVersion"))
     else if has_float d then Err (BadField (codes "number"))
     else Ok tt
@@ -87,18 +84,19 @@ unfoldable pub version_of : Data → Result (List ℕ) RowFault
 version_of d =
     found_or (BadField (codes "version")) (kept is_version (text_in (inner (codes "spec") (codes "version") d)))
 
+-- a whole number that fits 64 bits; one below 0 counts as 0, which is out of every range
+abbrev pub whole : Num → Option ℕ
+whole (unsigned n) = Some n
+whole (negative z) = Some 0
+whole (float x) = None
+
+abbrev pub whole_in : Option Data → Option ℕ
+whole_in found = option_and_then whole (option_and_then as_number found)
+
 unfoldable pub priority_of : List ℕ → Data → Result ℕ RowFault
 priority_of name d = found_or (BadField name) (whole_in (inner (codes "spec") name d))
 
 -- ---- which service answers for it
-
-abbrev pub is_object : Data → Bool
-is_object null = false
-is_object (boolean b) = false
-is_object (number n) = false
-is_object (string s) = false
-is_object (array ds) = false
-is_object (object ms) = true
 
 abbrev pub some_present : Result FoundService RowFault → Result (Option FoundService) RowFault
 some_present (Ok service) = Ok (Some service)
@@ -145,8 +143,8 @@ are_objects (item d ds) = is_object d && are_objects ds
 abbrev pub is_available : Items → Bool
 is_available no_items = true
 is_available (item d ds) =
-    if is_text false (codes "Available") (present (codes "type") d) then
-    is_text false (codes "True") (present (codes "status") d)
+    if is_text (codes "Available") (present (codes "type") d) then
+    is_text (codes "True") (present (codes "status") d)
     else is_available ds
 
 abbrev pub available_by : Items → Result Bool RowFault
@@ -220,5 +218,5 @@ row_of in_list d = do
 -- the row of a text
 unfoldable pub read_row : List ℕ → Result Row RowFault
 read_row bytes = do
-  d ← value_of bytes
+  d ← found_or NotJson (value_of bytes)
   row_of false d

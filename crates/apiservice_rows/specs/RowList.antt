@@ -2,11 +2,13 @@
 use Rattle.std.specs.Prelude.{ℕ, ◌||◌, nat_lt, Bool, true, false, if◌then◌else◌, List, [], ◌∷◌, ◌++◌, map, length, Option, Some, None, Result, Ok, Err, codes}
 use Rattle.std.specs.Str.{bytes_eq}
 use Rattle.serde_json.specs.Data.{Data, null, boolean, number, string, array, object, Items, no_items, item}
-use Rattle.apiservice_rows.specs.Json.{◌>>=◌, value_of, present}
-use Rattle.apiservice_rows.specs.Object.{is_text, row_of}
+use Rattle.json_value.specs.Members.{present, is_text}
+use Rattle.json_value.specs.Read.{value_of}
+use Rattle.apiservice_rows.specs.Fault.{◌>>=◌, found_or}
+use Rattle.apiservice_rows.specs.Object.{row_of}
 use Rattle.apiservice_rows.specs.Row.{Row}
 use Rattle.apiservice_rows.specs.declared.fault.RowFault.{RowFault}
-use Rattle.apiservice_rows.specs.declared.fault.RowFault.TheVariants.{BadField, Repeated, Full}
+use Rattle.apiservice_rows.specs.declared.fault.RowFault.TheVariants.{NotJson, BadField, Repeated, Full}
 use Rattle.apiservice_rows.specs.declared.row_list.TheConstants.{MOST_ROWS}
 
 -- the rows of the items; the first faulty one gives the answer
@@ -29,8 +31,8 @@ items_in (Some (object ms)) = Err (BadField (codes "items"))
 -- a list by its kind, as `kubectl get apiservices -o json` prints one
 abbrev pub is_list : Data → Bool
 is_list d =
-    is_text false (codes "APIServiceList") (present (codes "kind") d)
-    || is_text false (codes "List") (present (codes "kind") d)
+    is_text (codes "APIServiceList") (present (codes "kind") d)
+    || is_text (codes "List") (present (codes "kind") d)
 
 abbrev pub is_among : List ℕ → List (List ℕ) → Bool
 is_among name [] = false
@@ -73,5 +75,5 @@ list_rows d = do
 -- the rows of a text: of one object, or of a list
 unfoldable pub read_rows : List ℕ → Result (List Row) RowFault
 read_rows bytes = do
-  d ← value_of bytes
+  d ← found_or NotJson (value_of bytes)
   if is_list d then list_rows d else one_row d

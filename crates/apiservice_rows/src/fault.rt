@@ -1,8 +1,9 @@
 ghost use Rattle.std.specs.Prelude.{◌≡◌, Some};
-ghost use Rattle.apiservice_rows.specs.Json.{Fails};
+ghost use Rattle.apiservice_rows.specs.Fault.{Fails, no_value};
 ghost use Rattle.apiservice_rows.specs.declared.fault.RowFault.TheVariants as fault;
 
 use front_base::{NoMemory, Text};
+use json_value::ValueError;
 use std::alloc::{AllocError, AllocFailed, Global};
 
 /// Why an object or a list of objects gives no row.
@@ -44,6 +45,17 @@ impl From<NoMemory> for RowFault {
 
     fn from(_: NoMemory) -> Self {
         RowFault::NoMemory
+    }
+}
+
+impl From<ValueError> for RowFault {
+    ghost from_gives = { λ error e. e ≡ no_value error };
+
+    fn from(error: ValueError) -> Self {
+        match error {
+            ValueError::NotJson => RowFault::NotJson,
+            ValueError::NoMemory => RowFault::NoMemory,
+        }
     }
 }
 

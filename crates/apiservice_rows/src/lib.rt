@@ -7,8 +7,6 @@
 #![tactic(auto)]
 
 mod fault;
-mod floats;
-mod json;
 mod members;
 mod object;
 mod row;

@@ -1,17 +1,16 @@
 // The members of an APIService object, one check each.
-ghost use Rattle.std.specs.Prelude.{◌≡◌, Ok, false, IfOk, OnOk};
+ghost use Rattle.std.specs.Prelude.{◌≡◌, Ok, false, IfOk, OnOk, option_map};
 ghost use Rattle.serde_json.specs.View.{view, items_view};
 ghost use Rattle.serde_json.specs.Written.{has_float};
-ghost use Rattle.apiservice_rows.specs.Json.{Gives};
+ghost use Rattle.apiservice_rows.specs.Fault.{Gives};
 ghost use Rattle.apiservice_rows.specs.Object as spec;
 ghost use Rattle.apiservice_rows.specs.Row.{has_dot};
 
 use crate::fault::{RowFault, bad_field};
-use crate::floats::has_float;
-use crate::json::{inner, is_text, present, text_in, whole_in};
 use crate::service::FoundService;
 use crate::spelling::{is_group, is_service_name, is_version};
 use front_base::Text;
+use json_value::{has_float, inner, is_text, present, text_in};
 use serde_json::Value;
 use std::alloc::Global;
 
@@ -22,16 +21,26 @@ fn owned(alloc: Global, text: &str) -> Result<Text, RowFault>
     Ok(Text::new(String::from_str(alloc, text)?))
 }
 
+// Whether a member is that text; in a list it may be absent.
+fn is_head_text(in_list: bool, text: &str, found: Option<&Value>) -> bool
+    ensures { result ≡ spec.is_head_text in_list text.now (option_map (λ v. view v.now) found.entry) }
+{
+    match found {
+        None => in_list,
+        Some(value) => is_text(text, Some(value)),
+    }
+}
+
 // What the object is: its kind, the version of its API, and that its numbers are whole and fit 64 bits.
 #[tactic(auto, unfolding(crate::specs::Object::head_of))]
 pub fn check_head(alloc: Global, in_list: bool, value: &Value) -> Result<(), RowFault>
     ensures value { Gives (λ u. u) result (spec.head_of in_list (view value.now)) }
     ensures whole { OnOk result (has_float (view value.now) ≡ false) }
 {
-    if !is_text(in_list, "APIService", present(value, "kind")) {
+    if !is_head_text(in_list, "APIService", present(value, "kind")) {
         return Err(bad_field(alloc, "kind"));
     }
-    if !is_text(
+    if !is_head_text(
         in_list,
         "apiregistration.k8s.io/v1",
         present(value, "apiVersion"),
@@ -82,6 +91,20 @@ pub fn version_of(alloc: Global, value: &Value) -> Result<Text, RowFault>
     match text_in(inner(value, "spec", "version")) {
         Some(text) if is_version(text) => owned(alloc, text),
         _ => Err(bad_field(alloc, "version")),
+    }
+}
+
+// The whole number of a member. One below 0 counts as 0, which is out of every range.
+fn whole_in(found: Option<&Value>) -> Option<u64>
+    ensures { result ≡ spec.whole_in (option_map (λ v. view v.now) found.entry) }
+{
+    let number = found?.as_number()?;
+    if number.is_f64() {
+        return None;
+    }
+    match number.as_u64() {
+        Some(number) => Some(number),
+        None => Some(0),
     }
 }
 
@@ -169,8 +192,8 @@ fn is_available(conditions: &Vec<Value>) -> bool
     ensures { result ≡ spec.is_available (items_view conditions.now.items) }
 {
     for condition in conditions {
-        if is_text(false, "Available", present(condition, "type")) {
-            return is_text(false, "True", present(condition, "status"));
+        if is_text("Available", present(condition, "type")) {
+            return is_text("True", present(condition, "status"));
         }
     }
     true

@@ -1,18 +1,18 @@
 ghost use Rattle.std.specs.Prelude.{◌≡◌, ◌≤◌, ◌<◌, ◌^◌, false, Some, IfOk, OnOk, string_bytes};
 ghost use Rattle.serde_json.specs.View.{view};
 ghost use Rattle.serde_json.specs.Written.{has_float, compact_text};
-ghost use Rattle.apiservice_rows.specs.Json.{Gives};
+ghost use Rattle.apiservice_rows.specs.Fault.{Gives};
 ghost use Rattle.apiservice_rows.specs.Object as spec;
 ghost use Rattle.apiservice_rows.specs.Row.{own_name, IsRowName};
 
 use crate::fault::{RowFault, out_of_range};
-use crate::json::read_value;
 use crate::members::{
     available_of, check_head, group_of, name_of, priority_of, service_of, version_of,
 };
 use crate::row::Row;
 use crate::service::{FoundService, ServiceRef};
 use front_base::{Bytes, Text};
+use json_value::read_value;
 use serde_json::Value;
 use std::alloc::{AllocError, Global};
 

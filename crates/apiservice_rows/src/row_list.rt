@@ -1,12 +1,12 @@
 ghost use Rattle.std.specs.Prelude.{◌≡◌, option_map};
 ghost use Rattle.serde_json.specs.View.{view, items_view};
-ghost use Rattle.apiservice_rows.specs.Json.{Gives};
+ghost use Rattle.apiservice_rows.specs.Fault.{Gives};
 ghost use Rattle.apiservice_rows.specs.RowList as spec;
 
 use crate::fault::{RowFault, bad_field, repeated};
-use crate::json::{is_text, present, read_value};
 use crate::object::row_of;
 use crate::row::Row;
+use json_value::{is_text, present, read_value};
 use serde_json::Value;
 use std::alloc::Global;
 use std::collections::BTreeSet;
@@ -53,8 +53,7 @@ impl Rows {
 fn is_list(value: &Value) -> bool
     ensures { result ≡ spec.is_list (view value.now) }
 {
-    is_text(false, "APIServiceList", present(value, "kind"))
-        || is_text(false, "List", present(value, "kind"))
+    is_text("APIServiceList", present(value, "kind")) || is_text("List", present(value, "kind"))
 }
 
 fn item_rows(alloc: Global, items: &Vec<Value>) -> Result<Vec<Row>, RowFault>

@@ -4,11 +4,14 @@ use Rattle.std.specs.Prelude.{nat_lt, if◌then◌else◌, codes}
 use Rattle.std.specs.Str.{bytes_eq}
 use Rattle.std.proofs.lemmas.Bool.Decides.{nat_tests}
 use Rattle.std.proofs.lemmas.Slice.Eq.{bytes_eq-Decides}
-use Rattle.apiservice_rows.specs.Json.{◌>>=◌, value_of, present}
+use Rattle.json_value.specs.Members.{present}
+use Rattle.json_value.specs.Read.{value_of}
+use Rattle.apiservice_rows.specs.Fault.{◌>>=◌, found_or}
 use Rattle.apiservice_rows.specs.Object.{row_of}
 use Rattle.apiservice_rows.specs.Row.{Row}
 use Rattle.apiservice_rows.specs.RowList.{is_among, repeated, names_of, distinct, few, items_in, is_list, one_row, list_rows, read_rows}
 use Rattle.apiservice_rows.specs.declared.fault.RowFault.{RowFault}
+use Rattle.apiservice_rows.specs.declared.fault.RowFault.TheVariants.{NotJson}
 use Rattle.apiservice_rows.specs.declared.row_list.TheConstants.{MOST_ROWS}
 use Rattle.apiservice_table.specs.Table.{HasDistinctNames, row_named}
 use Rattle.apiservice_table.proofs.FindLemmas.{equal_texts}
@@ -119,7 +122,7 @@ either_way false first other rows f g h = g h
 pub read_fits : (bytes : List ℕ) (rows : List Row) → read_rows bytes ≡ Ok rows → Fit rows
 unfolding read_rows list_rows one_row
 read_fits bytes rows h =
-    let found = after_first (value_of bytes) (λ d. if is_list d then list_rows d else one_row d) rows h in
+    let found = after_first (found_or NotJson (value_of bytes)) (λ d. if is_list d then list_rows d else one_row d) rows h in
     either_way
     (is_list found.0)
     (list_rows found.0)
