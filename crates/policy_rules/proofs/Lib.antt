@@ -1,4 +1,3 @@
 pub mod FirstLemmas
 pub mod ListLemmas
 pub mod MatchLemmas
-mod ValueLemmas

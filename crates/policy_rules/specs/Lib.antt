@@ -1,4 +1,4 @@
-pub mod Json
+pub mod Fault
 pub mod Matching
 pub mod Policy
 pub mod Reading

@@ -6,16 +6,18 @@ use Rattle.std.specs.Str.{bytes_eq}
 use Rattle.serde_json.specs.Data.{Data, null, boolean, number, string, array, object, Items, no_items, item}
 use Rattle.serde_json.specs.Find.{as_str}
 use Rattle.serde_json.specs.Written.{has_float}
+use Rattle.json_value.specs.Members.{present, text_in, is_text, is_object}
+use Rattle.json_value.specs.Read.{value_of}
 use Rattle.front_base.specs.Level.{level_name}
 use Rattle.front_base.specs.Stage.{stage_name}
 use Rattle.front_base.specs.declared.level.Level.{Level}
 use Rattle.front_base.specs.declared.level.Level.TheVariants as level
 use Rattle.front_base.specs.declared.stage.Stage.TheVariants as stage
-use Rattle.policy_rules.specs.Json.{◌>>=◌, found_or, value_of, present, is_object, is_text}
+use Rattle.policy_rules.specs.Fault.{◌>>=◌, found_or}
 use Rattle.policy_rules.specs.Matching.{is_empty, is_about_resources, front}
 use Rattle.policy_rules.specs.Policy.{nothing}
 use Rattle.policy_rules.specs.declared.fault.PolicyFault.{PolicyFault}
-use Rattle.policy_rules.specs.declared.fault.PolicyFault.TheVariants.{NoRules, BadField, BothKinds, BadUrl, NamesWithoutResources}
+use Rattle.policy_rules.specs.declared.fault.PolicyFault.TheVariants.{NotJson, NoRules, BadField, BothKinds, BadUrl, NamesWithoutResources}
 use Rattle.policy_rules.specs.declared.omit.Omit.{Omit}
 use Rattle.policy_rules.specs.declared.policy.Policy.{Policy}
 use Rattle.policy_rules.specs.declared.rule.GroupResources.{GroupResources}
@@ -112,7 +114,7 @@ level_named text =
     else None
 
 abbrev pub level_in : Option Data → Option Level
-level_in found = option_and_then level_named (option_and_then as_str found)
+level_in found = option_and_then level_named (text_in found)
 
 unfoldable pub level_of : ℕ → Data → Result Level PolicyFault
 level_of place d = found_or (BadField (Some place) (codes "level")) (level_in (present (codes "level") d))
@@ -230,7 +232,7 @@ rules_in (Some (object ms)) = Err (BadField None (codes "rules"))
 -- the policy of a text, or the first of its faults in this order
 unfoldable pub read_policy : List ℕ → Result Policy PolicyFault
 read_policy bytes = do
-  d ← value_of bytes
+  d ← found_or NotJson (value_of bytes)
   head ← head_of d
   omit ← omissions_of None d
   rules ← rules_in (present (codes "rules") d)

@@ -1,8 +1,9 @@
 ghost use Rattle.std.specs.Prelude.{◌≡◌, Some};
-ghost use Rattle.policy_rules.specs.Json.{Fails};
+ghost use Rattle.policy_rules.specs.Fault.{Fails, no_value};
 ghost use Rattle.policy_rules.specs.declared.fault.PolicyFault.TheVariants as fault;
 
 use front_base::{NoMemory, Text};
+use json_value::ValueError;
 use std::alloc::{AllocError, AllocFailed, Global};
 
 /// Why a text gives no policy. A `rule` is a place in the list of rules, from 0.
@@ -36,6 +37,17 @@ impl<T: Drop> From<AllocFailed<T>> for PolicyFault {
 
     fn from(_: AllocFailed<T>) -> Self {
         PolicyFault::NoMemory
+    }
+}
+
+impl From<ValueError> for PolicyFault {
+    ghost from_gives = { λ error e. e ≡ no_value error };
+
+    fn from(error: ValueError) -> Self {
+        match error {
+            ValueError::NotJson => PolicyFault::NotJson,
+            ValueError::NoMemory => PolicyFault::NoMemory,
+        }
     }
 }
 

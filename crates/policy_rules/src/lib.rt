@@ -9,8 +9,6 @@
 
 mod decision;
 mod fault;
-mod floats;
-mod json;
 mod laws;
 mod matching;
 mod members;

@@ -2,13 +2,13 @@
 ghost use Rattle.std.specs.Prelude.{◌≡◌, Ok, Some, option_map};
 ghost use Rattle.serde_json.specs.View.{view, items_view};
 ghost use Rattle.front_base.specs.Stage.{stage_name};
-ghost use Rattle.policy_rules.specs.Json.{Gives};
+ghost use Rattle.policy_rules.specs.Fault.{Gives};
 ghost use Rattle.policy_rules.specs.Reading as spec;
 
 use crate::fault::{PolicyFault, bad_field};
-use crate::json::{is_text, present};
 use crate::omit::Omit;
 use front_base::{Level, Stage, Text, Texts};
+use json_value::{is_text, present, text_in};
 use serde_json::Value;
 use std::alloc::Global;
 
@@ -155,7 +155,7 @@ fn level_named(text: &str) -> Option<Level>
 fn level_in(found: Option<&Value>) -> Option<Level>
     ensures { result ≡ spec.level_in (option_map (λ v. view v.now) found.entry) }
 {
-    level_named(found?.as_str()?)
+    level_named(text_in(found)?)
 }
 
 #[tactic(auto, unfolding(crate::specs::Reading::level_of))]

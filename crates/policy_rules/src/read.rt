@@ -1,14 +1,13 @@
 ghost use Rattle.std.specs.Prelude.{◌≡◌, ◌<◌, ◌^◌, IfOk, option_map, vec_len};
 ghost use Rattle.serde_json.specs.View.{view, items_view};
-ghost use Rattle.policy_rules.specs.Json.{Gives};
+ghost use Rattle.policy_rules.specs.Fault.{Gives};
 ghost use Rattle.policy_rules.specs.Reading as spec;
 
 use crate::fault::{PolicyFault, bad_field};
-use crate::floats::has_float;
-use crate::json::{is_text, present, read_value};
 use crate::members::omissions_of;
 use crate::policy::{Policy, Rules};
 use crate::reading::rule_of;
+use json_value::{has_float, is_text, present, read_value};
 use serde_json::Value;
 use std::alloc::Global;
 

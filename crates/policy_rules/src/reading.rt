@@ -1,14 +1,14 @@
 // A rule of a policy.
 ghost use Rattle.std.specs.Prelude.{◌≡◌, not, option_map};
 ghost use Rattle.serde_json.specs.View.{view, items_view};
-ghost use Rattle.policy_rules.specs.Json.{Gives};
+ghost use Rattle.policy_rules.specs.Fault.{Gives};
 ghost use Rattle.policy_rules.specs.Reading as spec;
 
 use crate::fault::{PolicyFault, bad_field};
-use crate::json::present;
 use crate::members::{level_of, omissions_of, text_of, texts_in};
 use crate::rule::{GroupResources, Resources, Rule};
 use front_base::{Text, Texts};
+use json_value::present;
 use serde_json::Value;
 use std::alloc::Global;
 
