@@ -4,6 +4,32 @@ use front_base::Text;
 use std::alloc::{AllocError, Global};
 use std::test::Fail;
 
+// Calls one after another on a table without rows. A line has the call, the version, the group (a dash for the core
+// group), and what comes of it.
+const CALLS: &str = "create v1 g made
+create v1 - made
+create v1 g.x made
+create v1beta1 g made
+create v1 g exists
+replace v2 g missing
+delete v1 g made
+delete v1 g missing
+replace v1 - made
+find v1 - found
+find v1 g.x found
+find v1.g x none
+find v1 g none";
+
+// Calls one after another on a table of the groups `g0` to `g1023`.
+const CALLS_ON_MOST: &str = "create v1 late full
+create v1 g7 exists
+find v1 late none
+delete v1 g7 made
+create v1 late made
+find v1 late found
+find v1 g7 none
+create v1 g7 full";
+
 // A row without a service.
 fn row(alloc: Global, version: &str, group: &str) -> Result<Row, Fail> {
     let head =
@@ -16,8 +42,69 @@ fn row(alloc: Global, version: &str, group: &str) -> Result<Row, Fail> {
     read_row(alloc, text.as_bytes()).map_err(|_| "a row".into())
 }
 
-fn text(alloc: Global, text: &str) -> Result<Text, AllocError> {
-    Ok(Text::new(String::from_str(alloc, text)?))
+// The change that a line asks for, or None where it asks to find.
+fn change_of(
+    alloc: Global,
+    call: &str,
+    version: &str,
+    group: &str,
+) -> Result<Option<Change>, Fail> {
+    Ok(match call {
+        "create" => Some(Change::Create(row(alloc, version, group)?)),
+        "replace" => Some(Change::Replace(row(alloc, version, group)?)),
+        "delete" => Some(Change::Delete(Text::new(format!(in alloc; "{version}.{group}")?))),
+        _ => None,
+    })
+}
+
+fn told(done: Result<(), ChangeFault>) -> &'static str {
+    match done {
+        Ok(()) => "made",
+        Err(ChangeFault::Exists) => "exists",
+        Err(ChangeFault::Missing) => "missing",
+        Err(ChangeFault::Full) => "full",
+        Err(ChangeFault::NoMemory) => "no memory",
+    }
+}
+
+// What comes of a call.
+fn outcome(
+    alloc: Global,
+    routes: &mut TableRoutes,
+    call: &str,
+    version: &str,
+    group: &str,
+) -> Result<&'static str, Fail> {
+    match change_of(alloc, call, version, group)? {
+        Some(change) => Ok(told(routes.change(alloc, change))),
+        None => match routes.find(alloc, group, version)? {
+            Some(_) => Ok("found"),
+            None => Ok("none"),
+        },
+    }
+}
+
+// The first line whose outcome is another one, if there is one.
+fn wrong_line<'a>(
+    alloc: Global,
+    routes: &mut TableRoutes,
+    calls: &'a str,
+) -> Result<Option<&'a str>, Fail> {
+    for line in calls.lines() {
+        let mut words = line.split(' ');
+        let call = words.next().ok_or("a call")?;
+        let version = words.next().ok_or("a version")?;
+        let group = words.next().ok_or("a group")?.trim_start_matches('-');
+        if Some(outcome(alloc, routes, call, version, group)?) != words.next() {
+            return Ok(Some(line));
+        }
+    }
+    Ok(None)
+}
+
+fn no_routes(alloc: Global) -> Result<TableRoutes, Fail> {
+    let table = RouteTable::from_rows(alloc, Rows::new(Vec::new(alloc)))?;
+    Ok(TableRoutes::new(alloc, table)?)
 }
 
 // The names of a table's rows, each with a space behind it.
@@ -32,61 +119,23 @@ fn names(alloc: Global, rows: &[Row]) -> Result<String, AllocError> {
 
 #[test]
 fn a_table_takes_changes_and_refuses_them_by_name(rt: HostRuntime) -> Result<(), Fail> {
-    let alloc = rt.alloc();
-    let rows = Rows::new(Vec::new(alloc));
-    let table = RouteTable::from_rows(alloc, rows)?;
-    let mut routes = TableRoutes::new(alloc, table)?;
-    for (version, group) in [("v1", "g"), ("v1", ""), ("v1", "g.x"), ("v1beta1", "g")] {
-        assert_eq!(rt;
-            routes.change(alloc, Change::Create(row(alloc, version, group)?)),
-            Ok(())
-        );
-    }
-    let again = Change::Create(row(alloc, "v1", "g")?);
-    assert_eq!(rt; routes.change(alloc, again), Err(ChangeFault::Exists));
-    let missing = Change::Replace(row(alloc, "v2", "g")?);
-    assert_eq!(rt; routes.change(alloc, missing), Err(ChangeFault::Missing));
-    let gone = Change::Delete(text(alloc, "v1.g")?);
-    assert_eq!(rt; routes.change(alloc, gone), Ok(()));
-    let gone = Change::Delete(text(alloc, "v1.g")?);
-    assert_eq!(rt; routes.change(alloc, gone), Err(ChangeFault::Missing));
-    let replaced = Change::Replace(row(alloc, "v1", "")?);
-    assert_eq!(rt; routes.change(alloc, replaced), Ok(()));
+    let mut routes = no_routes(rt.alloc())?;
+    assert_eq!(rt; wrong_line(rt.alloc(), &mut routes, CALLS)?, None);
     assert_eq!(rt; routes.seen_count(), 6);
-    let rows = routes.list(alloc)?;
-    let listed = names(alloc, rows.as_slice())?;
+    let rows = routes.list(rt.alloc())?;
+    let listed = names(rt.alloc(), rows.as_slice())?;
     assert_eq!(rt; listed.as_str(), "v1. v1.g.x v1beta1.g ");
-    let cases = [
-        ("", "v1", true),
-        ("g.x", "v1", true),
-        ("x", "v1.g", false),
-        ("g", "v1", false),
-    ];
-    for (group, version, there) in cases {
-        assert_eq!(rt; routes.find(alloc, group, version)?.is_some(), there);
-    }
     Ok(())
 }
 
 #[test]
 fn a_full_table_takes_no_new_name(rt: HostRuntime) -> Result<(), Fail> {
-    let alloc = rt.alloc();
-    let table = RouteTable::from_rows(alloc, Rows::new(Vec::new(alloc)))?;
-    let mut routes = TableRoutes::new(alloc, table)?;
+    let mut routes = no_routes(rt.alloc())?;
     for i in 0..MOST_ROWS {
-        let group = format!(in alloc; "g{i}")?;
-        let created = Change::Create(row(alloc, "v1", group.as_str())?);
-        assert_eq!(rt; routes.change(alloc, created), Ok(()));
+        let group = format!(in rt.alloc(); "g{i}")?;
+        let made = outcome(rt.alloc(), &mut routes, "create", "v1", group.as_str())?;
+        assert_eq!(rt; made, "made");
     }
-    let late = Change::Create(row(alloc, "v1", "late")?);
-    assert_eq!(rt; routes.change(alloc, late), Err(ChangeFault::Full));
-    let again = Change::Create(row(alloc, "v1", "g7")?);
-    assert_eq!(rt; routes.change(alloc, again), Err(ChangeFault::Exists));
-    assert_eq!(rt; routes.find(alloc, "late", "v1")?.is_some(), false);
-    let gone = Change::Delete(text(alloc, "v1.g7")?);
-    assert_eq!(rt; routes.change(alloc, gone), Ok(()));
-    let late = Change::Create(row(alloc, "v1", "late")?);
-    assert_eq!(rt; routes.change(alloc, late), Ok(()));
-    assert_eq!(rt; routes.find(alloc, "late", "v1")?.is_some(), true);
+    assert_eq!(rt; wrong_line(rt.alloc(), &mut routes, CALLS_ON_MOST)?, None);
     Ok(())
 }
