@@ -1,5 +1,5 @@
-use crate::tests::{held, made};
-use crate::{LocalReply, serve_local, success};
+use crate::tests::{SUCCESS, held, made};
+use crate::{Local, LocalReply, serve_local};
 use apiservice_rows::{MOST_ROWS, Rows, read_row};
 use apiservice_table::{Change, RouteTable, Routes, TableRoutes};
 use front_base::{Info, Text, Texts, User};
@@ -8,19 +8,19 @@ use std::test::Fail;
 
 const SERVICES: &str = "/apis/apiregistration.k8s.io/v1/apiservices";
 
-// The object of an APIService without a service, as it is served.
-fn object(alloc: Global, version: &str, group: &str) -> Result<String, Fail> {
+// The object of version v1 of a group, an APIService without a service, as it is served.
+fn object(alloc: Global, group: &str) -> Result<String, Fail> {
     let front =
         r#"{"apiVersion":"apiregistration.k8s.io/v1","kind":"APIService","metadata":{"name":""#;
-    let name = format!(in alloc; "{version}.{group}")?;
     Ok(format!(in alloc;
-        "{front}{name}\"}},\"spec\":{{\"group\":\"{group}\",\"groupPriorityMinimum\":100,\
-         \"version\":\"{version}\",\"versionPriority\":10}}}}"
+        "{front}v1.{group}\"}},\"spec\":{{\"group\":\"{group}\",\"groupPriorityMinimum\":100,\
+         \"version\":\"v1\",\"versionPriority\":10}}}}"
     )?)
 }
 
-fn put(alloc: Global, routes: &mut TableRoutes, version: &str, group: &str) -> Result<(), Fail> {
-    let text = object(alloc, version, group)?;
+// Puts in the row of version v1 of a group.
+fn put(alloc: Global, routes: &mut TableRoutes, group: &str) -> Result<(), Fail> {
+    let text = object(alloc, group)?;
     let Ok(row) = read_row(alloc, text.as_bytes()) else {
         return Err("a row")?;
     };
@@ -36,28 +36,41 @@ fn no_routes(alloc: Global) -> Result<TableRoutes, Fail> {
     Ok(TableRoutes::new(alloc, table)?)
 }
 
+fn empty(alloc: Global) -> Text {
+    Text::new(String::new(alloc))
+}
+
 // A user of one group.
 fn of_group(alloc: Global, group: &str) -> Result<User, Fail> {
+    let group = Text::copy_of(alloc, group)?;
     Ok(User {
-        name: Text::copy_of(alloc, "ann")?,
-        uid: Text::copy_of(alloc, "7")?,
-        groups: Texts::new(vec![in alloc; Text::copy_of(alloc, group)?]?),
+        name: empty(alloc),
+        uid: empty(alloc),
+        groups: Texts::new(vec![in alloc; group]?),
     })
 }
 
 // What a request asks for, by its verb.
 fn asked(alloc: Global, verb: &str) -> Result<Info, Fail> {
+    let verb = Text::copy_of(alloc, verb)?;
     Ok(Info {
         resource_request: true,
-        path: Text::copy_of(alloc, "")?,
-        verb: Text::copy_of(alloc, verb)?,
-        group: Text::copy_of(alloc, "")?,
-        version: Text::copy_of(alloc, "")?,
-        namespace: Text::copy_of(alloc, "")?,
-        resource: Text::copy_of(alloc, "")?,
-        subresource: Text::copy_of(alloc, "")?,
-        name: Text::copy_of(alloc, "")?,
+        path: empty(alloc),
+        verb,
+        group: empty(alloc),
+        version: empty(alloc),
+        namespace: empty(alloc),
+        resource: empty(alloc),
+        subresource: empty(alloc),
+        name: empty(alloc),
     })
+}
+
+fn local_at(alloc: Global, path: &str) -> Result<Local, Fail> {
+    match made(alloc)?.local(alloc, path)? {
+        Some(local) => Ok(local),
+        None => Err("not local")?,
+    }
 }
 
 #[derive(Clone, Copy)]
@@ -75,9 +88,7 @@ fn served(
     routes: &mut TableRoutes,
     request: Request,
 ) -> Result<(LocalReply, bool), Fail> {
-    let Some(local) = made(alloc)?.local(alloc, request.path)? else {
-        return Err("not local")?;
-    };
+    let local = local_at(alloc, request.path)?;
     let info = asked(alloc, request.verb)?;
     let user = of_group(alloc, request.group)?;
     let body = request.body.as_bytes();
@@ -85,63 +96,64 @@ fn served(
     Ok((reply, change.is_some()))
 }
 
-const METHODS: [&str; 7] = ["GET", "HEAD", "POST", "PUT", "DELETE", "PATCH", "OPTIONS"];
+// The status of a request of a user of a group, where the body is the object of `v1.b` and the table has `v1.a` alone.
+fn status_of(alloc: Global, group: &str, path: &str, method: &str) -> Result<u16, Fail> {
+    let mut routes = no_routes(alloc)?;
+    put(alloc, &mut routes, "a")?;
+    let body = object(alloc, "b")?;
+    let request = Request {
+        verb: "",
+        method,
+        path,
+        body: body.as_str(),
+        group,
+    };
+    let (reply, _) = served(alloc, &mut routes, request)?;
+    Ok(reply.status)
+}
 
-// The statuses of these methods by path, for a user of a group, where the body is the object of `v1.b` and the table has
-// `v1.a` alone.
-fn statuses(alloc: Global, path: &str, group: &str) -> Result<String, Fail> {
-    let body = object(alloc, "v1", "b")?;
-    let mut line = String::from_str(alloc, path)?;
-    for method in METHODS {
-        let mut routes = no_routes(alloc)?;
-        put(alloc, &mut routes, "v1", "a")?;
-        let request = Request {
-            verb: "",
-            method,
-            path,
-            body: body.as_str(),
-            group,
-        };
-        let (reply, _) = served(alloc, &mut routes, request)?;
-        line.push_str(format!(in alloc; " {}", reply.status)?.as_str())?;
+const METHODS: &str = "GET HEAD POST PUT DELETE PATCH OPTIONS";
+
+// The group of a user, a path, and the statuses of these methods.
+const STATUSES: &str = "\
+system:masters /healthz 200 200 405 405 405 405 405
+system:masters /livez 200 200 405 405 405 405 405
+system:masters /readyz 200 200 405 405 405 405 405
+system:masters /apis 200 200 405 405 405 405 405
+system:masters /apis/a 200 200 405 405 405 405 405
+system:masters /apis/b 404 404 405 405 405 405 405
+system:masters /apis/apiregistration.k8s.io/v1 200 200 405 405 405 405 405
+system:masters /apis/apiregistration.k8s.io/v1/apiservices 200 200 201 405 405 405 405
+system:masters /apis/apiregistration.k8s.io/v1/apiservices/v1.a 200 200 405 422 200 405 405
+system:masters /apis/apiregistration.k8s.io/v1/apiservices/v1.b 404 404 405 404 404 405 405
+system:masters /apis/apiregistration.k8s.io/v1/pods 404 404 404 404 404 404 404
+system:authenticated /healthz 200 200 405 405 405 405 405
+system:authenticated /apis 200 200 405 405 405 405 405
+system:authenticated /apis/a 200 200 405 405 405 405 405
+system:authenticated /apis/apiregistration.k8s.io/v1 200 200 405 405 405 405 405
+system:authenticated /apis/apiregistration.k8s.io/v1/apiservices 200 200 403 405 405 405 405
+system:authenticated /apis/apiregistration.k8s.io/v1/apiservices/v1.a 200 200 405 403 403 405 405
+system:authenticated /apis/apiregistration.k8s.io/v1/apiservices/v1.b 404 404 405 403 403 405 405
+system:authenticated /apis/apiregistration.k8s.io/v1/pods 404 404 404 404 404 404 404";
+
+// Such a line, with the statuses that the requests get.
+fn statuses(alloc: Global, group: &str, path: &str) -> Result<String, Fail> {
+    let mut line = format!(in alloc; "{group} {path}")?;
+    for method in METHODS.split(' ') {
+        let status = status_of(alloc, group, path, method)?;
+        line.push_str(format!(in alloc; " {status}")?.as_str())?;
     }
     Ok(line)
 }
 
-const OF_MASTERS: &str = "\
-/healthz 200 200 405 405 405 405 405
-/livez 200 200 405 405 405 405 405
-/readyz 200 200 405 405 405 405 405
-/apis 200 200 405 405 405 405 405
-/apis/a 200 200 405 405 405 405 405
-/apis/b 404 404 405 405 405 405 405
-/apis/apiregistration.k8s.io/v1 200 200 405 405 405 405 405
-/apis/apiregistration.k8s.io/v1/apiservices 200 200 201 405 405 405 405
-/apis/apiregistration.k8s.io/v1/apiservices/v1.a 200 200 405 422 200 405 405
-/apis/apiregistration.k8s.io/v1/apiservices/v1.b 404 404 405 404 404 405 405
-/apis/apiregistration.k8s.io/v1/pods 404 404 404 404 404 404 404";
-
-const OF_OTHERS: &str = "\
-/healthz 200 200 405 405 405 405 405
-/apis 200 200 405 405 405 405 405
-/apis/a 200 200 405 405 405 405 405
-/apis/apiregistration.k8s.io/v1 200 200 405 405 405 405 405
-/apis/apiregistration.k8s.io/v1/apiservices 200 200 403 405 405 405 405
-/apis/apiregistration.k8s.io/v1/apiservices/v1.a 200 200 405 403 403 405 405
-/apis/apiregistration.k8s.io/v1/apiservices/v1.b 404 404 405 403 403 405 405
-/apis/apiregistration.k8s.io/v1/pods 404 404 404 404 404 404 404";
-
 #[test]
 fn every_path_and_method_has_its_status(rt: HostRuntime) -> Result<(), Fail> {
     let alloc = rt.alloc();
-    for (group, lines) in [
-        ("system:masters", OF_MASTERS),
-        ("system:authenticated", OF_OTHERS),
-    ] {
-        for line in lines.lines() {
-            let path = line.split(' ').next().unwrap_or("");
-            assert_eq!(rt; statuses(alloc, path, group)?.as_str(), line);
-        }
+    for row in STATUSES.lines() {
+        let mut words = row.split(' ');
+        let group = words.next().unwrap_or("");
+        let path = words.next().unwrap_or("");
+        assert_eq!(rt; statuses(alloc, group, path)?.as_str(), row);
     }
     Ok(())
 }
@@ -170,7 +182,7 @@ fn written(alloc: Global, routes: &mut TableRoutes, line: &str) -> Result<String
     let name = words.next().unwrap_or("");
     let group = words.next().unwrap_or("");
     let path = format!(in alloc; "{SERVICES}/{}", name.trim_matches('-'))?;
-    let body = object(alloc, "v1", group)?;
+    let body = object(alloc, group)?;
     let request = Request {
         verb,
         method,
@@ -194,37 +206,28 @@ fn writes_change_the_table(rt: HostRuntime) -> Result<(), Fail> {
     Ok(())
 }
 
-#[test]
-fn a_full_table_takes_no_row_1025(rt: HostRuntime) -> Result<(), Fail> {
-    let alloc = rt.alloc();
+// A table with as many rows as it takes.
+fn full_routes(alloc: Global) -> Result<TableRoutes, Fail> {
     let mut routes = no_routes(alloc)?;
     for i in 0..MOST_ROWS {
         let group = format!(in alloc; "g{i}")?;
-        put(alloc, &mut routes, "v1", group.as_str())?;
+        put(alloc, &mut routes, group.as_str())?;
     }
-    for line in ["create POST - late 422 false", "create POST - g7 409 false"] {
+    Ok(routes)
+}
+
+const LATE_WRITES: &str = "\
+create POST - late 422 false
+create POST - g7 409 false";
+
+#[test]
+fn a_full_table_takes_no_row_1025(rt: HostRuntime) -> Result<(), Fail> {
+    let alloc = rt.alloc();
+    let mut routes = full_routes(alloc)?;
+    for line in LATE_WRITES.lines() {
         assert_eq!(rt; written(alloc, &mut routes, line)?.as_str(), line);
     }
     Ok(())
-}
-
-// The reply to a request of a master.
-fn told(
-    alloc: Global,
-    routes: &mut TableRoutes,
-    method: &str,
-    path: &str,
-    body: &str,
-) -> Result<String, Fail> {
-    let request = Request {
-        verb: "",
-        method,
-        path,
-        body,
-        group: "system:masters",
-    };
-    let (reply, _) = served(alloc, routes, request)?;
-    held(alloc, Ok(reply))
 }
 
 const RESOURCES: &str = concat!(
@@ -249,55 +252,96 @@ const GROUP: &str = concat!(
 );
 
 const LIST: &str = concat!(
-    r#"{"kind":"APIServiceList","apiVersion":"apiregistration.k8s.io/v1","metadata":{},"items":["#,
+    r#"200 application/json {"kind":"APIServiceList","apiVersion":"apiregistration.k8s.io/v1","#,
+    r#""metadata":{},"items":["#,
 );
+
+// The list of the objects of `v1.a` and `v1.b`.
+fn list_of_two(alloc: Global) -> Result<String, Fail> {
+    let a = object(alloc, "a")?;
+    let b = object(alloc, "b")?;
+    let (a, b) = (a.as_str(), b.as_str());
+    Ok(format!(in alloc; "{LIST}{a},{b}]}}")?)
+}
+
+// What the reply holds that a table names: a document, or the object of a group with its status.
+fn named(alloc: Global, name: &str) -> Result<String, Fail> {
+    let document = match name {
+        "OK" => "200 text/plain ok",
+        "GROUPS" => GROUPS,
+        "GROUP" => GROUP,
+        "RESOURCES" => RESOURCES,
+        "SUCCESS" => SUCCESS,
+        "LIST" => return list_of_two(alloc),
+        _ => {
+            let (status, group) = name.split_once(' ').ok_or("a status")?;
+            let object = object(alloc, group)?;
+            return Ok(format!(in alloc; "{status} application/json {object}")?);
+        }
+    };
+    Ok(String::from_str(alloc, document)?)
+}
+
+// Requests of a master on one table, one after another, and their replies: method, group of the object in the body, path,
+// and what the reply holds.
+const REPLIES: &str = "\
+POST b /apis/apiregistration.k8s.io/v1/apiservices 201 b
+POST a /apis/apiregistration.k8s.io/v1/apiservices 201 a
+PUT b /apis/apiregistration.k8s.io/v1/apiservices/v1.b 200 b
+GET - /apis/apiregistration.k8s.io/v1/apiservices/v1.b 200 b
+GET - /healthz OK
+HEAD - /healthz OK
+GET - /apis GROUPS
+HEAD - /apis GROUPS
+GET - /apis/a GROUP
+HEAD - /apis/a GROUP
+GET - /apis/apiregistration.k8s.io/v1 RESOURCES
+HEAD - /apis/apiregistration.k8s.io/v1 RESOURCES
+GET - /apis/apiregistration.k8s.io/v1/apiservices LIST
+HEAD - /apis/apiregistration.k8s.io/v1/apiservices LIST
+DELETE - /apis/apiregistration.k8s.io/v1/apiservices/v1.b SUCCESS";
+
+fn body_of(alloc: Global, group: &str) -> Result<String, Fail> {
+    match group {
+        "-" => Ok(String::new(alloc)),
+        _ => object(alloc, group),
+    }
+}
+
+// What the reply to a request of a master holds.
+fn told(
+    alloc: Global,
+    routes: &mut TableRoutes,
+    method: &str,
+    group: &str,
+    path: &str,
+) -> Result<String, Fail> {
+    let body = body_of(alloc, group)?;
+    let request = Request {
+        verb: "",
+        method,
+        path,
+        body: body.as_str(),
+        group: "system:masters",
+    };
+    let (reply, _) = served(alloc, routes, request)?;
+    held(alloc, Ok(reply))
+}
 
 #[test]
 fn replies_byte_for_byte(rt: HostRuntime) -> Result<(), Fail> {
     let alloc = rt.alloc();
     let mut routes = no_routes(alloc)?;
-    let (a, b) = (object(alloc, "v1", "a")?, object(alloc, "v1", "b")?);
-    let (a, b) = (a.as_str(), b.as_str());
-    let json = "200 application/json ";
-    let created = format!(in alloc; "201 application/json {b}")?;
-    assert_eq!(rt;
-        told(alloc, &mut routes, "POST", SERVICES, b)?.as_str(),
-        created.as_str()
-    );
-    put(alloc, &mut routes, "v1", "a")?;
-    let one = format!(in alloc; "{SERVICES}/v1.b")?;
-    let one = one.as_str();
-    let replaced = format!(in alloc; "{json}{b}")?;
-    assert_eq!(rt;
-        told(alloc, &mut routes, "PUT", one, b)?.as_str(),
-        replaced.as_str()
-    );
-    assert_eq!(rt;
-        told(alloc, &mut routes, "GET", one, "")?.as_str(),
-        replaced.as_str()
-    );
-    let list = format!(in alloc; "{json}{LIST}{a},{b}]}}")?;
-    let documents = [
-        ("/healthz", "200 text/plain ok"),
-        ("/apis", GROUPS),
-        ("/apis/a", GROUP),
-        ("/apis/apiregistration.k8s.io/v1", RESOURCES),
-        (SERVICES, list.as_str()),
-    ];
-    for (path, document) in documents {
+    for row in REPLIES.lines() {
+        let (method, rest) = row.split_once(' ').ok_or("a method")?;
+        let (group, rest) = rest.split_once(' ').ok_or("a group")?;
+        let (path, name) = rest.split_once(' ').ok_or("a path")?;
+        let reply = named(alloc, name)?;
         assert_eq!(rt;
-            told(alloc, &mut routes, "GET", path, "")?.as_str(),
-            document
-        );
-        assert_eq!(rt;
-            told(alloc, &mut routes, "HEAD", path, "")?.as_str(),
-            document
+            told(alloc, &mut routes, method, group, path)?.as_str(),
+            reply.as_str(),
+            "{row}"
         );
     }
-    let deleted = held(alloc, success(alloc))?;
-    assert_eq!(rt;
-        told(alloc, &mut routes, "DELETE", one, "")?.as_str(),
-        deleted.as_str()
-    );
     Ok(())
 }

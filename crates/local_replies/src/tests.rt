@@ -32,144 +32,57 @@ fn found(alloc: Global, paths: &LocalPaths, path: &str) -> Result<String, Fail> 
     }
 }
 
-const PATHS: [(&str, &str); 37] = [
-    ("/healthz", "health"),
-    ("/livez", "health"),
-    ("/readyz", "health"),
-    ("healthz", "health"),
-    ("//healthz//", "health"),
-    ("/apis", "groups"),
-    ("/apis/", "groups"),
-    ("/apis/g", "group g"),
-    ("/apis/apps/", "group apps"),
-    (
-        "/apis/apiregistration.k8s.io",
-        "group apiregistration.k8s.io",
-    ),
-    ("/apis/%?{x}:*", "group %?{x}:*"),
-    ("/apis/{group}", "group {group}"),
-    ("/apis/apiregistration.k8s.io/v1", "resources"),
-    ("/apis/apiregistration.k8s.io/v1//", "resources"),
-    ("/apis/apiregistration.k8s.io/v1/apiservices", "services"),
-    ("/apis/apiregistration.k8s.io/v1/apiservices/", "services"),
-    (
-        "/apis/apiregistration.k8s.io/v1/apiservices/v1.g",
-        "service v1.g",
-    ),
-    ("/apis/apiregistration.k8s.io/v1/watch", "unserved"),
-    ("/apis/apiregistration.k8s.io/v1/apiservice", "unserved"),
-    ("/apis/apiregistration.k8s.io/v1/apiservicesx", "unserved"),
-    (
-        "/apis/apiregistration.k8s.io/v1/apiservices/v1.g/status",
-        "unserved",
-    ),
-    (
-        "/apis/apiregistration.k8s.io/v1/apiservices//v1.g",
-        "unserved",
-    ),
-    ("/apis/apiregistration.k8s.io/v1//apiservices", "unserved"),
-    (
-        "/apis/apiregistration.k8s.io/v1/watch/apiservices",
-        "unserved",
-    ),
-    ("/apis/apiregistration.k8s.io/v1x", "none"),
-    ("/apis/apiregistration.k8s.io/v1beta1/apiservices", "none"),
-    ("/apis/apiregistration.k8s.io/v", "none"),
-    ("/apis/apiregistration.k8s.io//v1", "none"),
-    ("/apis//v1", "none"),
-    ("/apis/apps/v1", "none"),
-    ("/apisx", "none"),
-    ("/api", "none"),
-    ("/healthz/x", "none"),
-    ("/healthzx", "none"),
-    ("/Healthz", "none"),
-    ("/", "none"),
-    ("", "none"),
-];
+// Paths, and which local path each is. The last one is empty.
+const PATHS: &str = "\
+/healthz health
+/livez health
+/readyz health
+healthz health
+//healthz// health
+/apis groups
+/apis/ groups
+/apis/g group g
+/apis/apps/ group apps
+/apis/apiregistration.k8s.io group apiregistration.k8s.io
+/apis/%?{x}:* group %?{x}:*
+/apis/{group} group {group}
+/apis/apiregistration.k8s.io/v1 resources
+/apis/apiregistration.k8s.io/v1// resources
+/apis/apiregistration.k8s.io/v1/apiservices services
+/apis/apiregistration.k8s.io/v1/apiservices/ services
+/apis/apiregistration.k8s.io/v1/apiservices/v1.g service v1.g
+/apis/apiregistration.k8s.io/v1/watch unserved
+/apis/apiregistration.k8s.io/v1/apiservice unserved
+/apis/apiregistration.k8s.io/v1/apiservicesx unserved
+/apis/apiregistration.k8s.io/v1/apiservices/v1.g/status unserved
+/apis/apiregistration.k8s.io/v1/apiservices//v1.g unserved
+/apis/apiregistration.k8s.io/v1//apiservices unserved
+/apis/apiregistration.k8s.io/v1/watch/apiservices unserved
+/apis/apiregistration.k8s.io/v1x none
+/apis/apiregistration.k8s.io/v1beta1/apiservices none
+/apis/apiregistration.k8s.io/v none
+/apis/apiregistration.k8s.io//v1 none
+/apis//v1 none
+/apis/apps/v1 none
+/apisx none
+/api none
+/healthz/x none
+/healthzx none
+/Healthz none
+/ none
+ none";
 
 #[test]
 fn paths_are_local_by_the_table(rt: HostRuntime) -> Result<(), Fail> {
     let alloc = rt.alloc();
     let paths = made(alloc)?;
-    for (path, line) in PATHS {
-        assert_eq!(rt; found(alloc, &paths, path)?.as_str(), line, "{path}");
-        assert_eq!(rt; paths.is_local(path), line != "none", "{path}");
+    for row in PATHS.lines() {
+        let (path, line) = row.split_once(' ').ok_or("two words")?;
+        assert_eq!(rt; found(alloc, &paths, path)?.as_str(), line, "{row}");
+        assert_eq!(rt; paths.is_local(path), line != "none", "{row}");
     }
     Ok(())
 }
-
-const REFUSALS: [(u16, &str); 14] = [
-    (
-        400,
-        "{\"kind\":\"Status\",\"apiVersion\":\"v1\",\"metadata\":{},\"status\":\"Failure\",\
-         \"message\":\"the request could not be read\",\"reason\":\"BadRequest\",\"code\":400}",
-    ),
-    (
-        401,
-        "{\"kind\":\"Status\",\"apiVersion\":\"v1\",\"metadata\":{},\"status\":\"Failure\",\
-         \"message\":\"the token is not known\",\"reason\":\"Unauthorized\",\"code\":401}",
-    ),
-    (
-        403,
-        "{\"kind\":\"Status\",\"apiVersion\":\"v1\",\"metadata\":{},\"status\":\"Failure\",\
-         \"message\":\"only system:masters may change APIServices\",\"reason\":\"Forbidden\",\"code\":403}",
-    ),
-    (
-        404,
-        "{\"kind\":\"Status\",\"apiVersion\":\"v1\",\"metadata\":{},\"status\":\"Failure\",\
-         \"message\":\"the requested resource was not found\",\"reason\":\"NotFound\",\"code\":404}",
-    ),
-    (
-        405,
-        "{\"kind\":\"Status\",\"apiVersion\":\"v1\",\"metadata\":{},\"status\":\"Failure\",\
-         \"message\":\"the method is not served here\",\"reason\":\"MethodNotAllowed\",\"code\":405}",
-    ),
-    (
-        409,
-        "{\"kind\":\"Status\",\"apiVersion\":\"v1\",\"metadata\":{},\"status\":\"Failure\",\
-         \"message\":\"the APIService exists\",\"reason\":\"AlreadyExists\",\"code\":409}",
-    ),
-    (
-        413,
-        "{\"kind\":\"Status\",\"apiVersion\":\"v1\",\"metadata\":{},\"status\":\"Failure\",\
-         \"message\":\"the request body is too large\",\"reason\":\"RequestEntityTooLarge\",\"code\":413}",
-    ),
-    (
-        422,
-        "{\"kind\":\"Status\",\"apiVersion\":\"v1\",\"metadata\":{},\"status\":\"Failure\",\
-         \"message\":\"the APIService is not accepted\",\"reason\":\"Invalid\",\"code\":422}",
-    ),
-    (
-        431,
-        "{\"kind\":\"Status\",\"apiVersion\":\"v1\",\"metadata\":{},\"status\":\"Failure\",\
-         \"message\":\"the request head is too large\",\"reason\":\"RequestHeaderTooLarge\",\"code\":431}",
-    ),
-    (
-        500,
-        "{\"kind\":\"Status\",\"apiVersion\":\"v1\",\"metadata\":{},\"status\":\"Failure\",\
-         \"message\":\"the audit event was not stored\",\"reason\":\"InternalError\",\"code\":500}",
-    ),
-    (
-        501,
-        "{\"kind\":\"Status\",\"apiVersion\":\"v1\",\"metadata\":{},\"status\":\"Failure\",\
-         \"message\":\"the request is not served\",\"reason\":\"NotImplemented\",\"code\":501}",
-    ),
-    (
-        502,
-        "{\"kind\":\"Status\",\"apiVersion\":\"v1\",\"metadata\":{},\"status\":\"Failure\",\
-         \"message\":\"the backend gave no whole reply\",\"reason\":\"BadGateway\",\"code\":502}",
-    ),
-    (
-        503,
-        "{\"kind\":\"Status\",\"apiVersion\":\"v1\",\"metadata\":{},\"status\":\"Failure\",\
-         \"message\":\"the backend is not available\",\"reason\":\"ServiceUnavailable\",\"code\":503}",
-    ),
-    (
-        418,
-        "{\"kind\":\"Status\",\"apiVersion\":\"v1\",\"metadata\":{},\"status\":\"Failure\",\
-         \"message\":\"the request was refused\",\"reason\":\"\",\"code\":418}",
-    ),
-];
 
 // What a reply holds: its status, its media type and its body, in one line.
 pub fn held(alloc: Global, reply: Result<LocalReply, NoMemory>) -> Result<String, Fail> {
@@ -183,29 +96,64 @@ pub fn held(alloc: Global, reply: Result<LocalReply, NoMemory>) -> Result<String
     Ok(format!(in alloc; "{status} {media_type} {body}")?)
 }
 
+// The codes of refusals, their reasons and their messages. The last reason is empty.
+const REFUSALS: &str = "\
+400 BadRequest the request could not be read
+401 Unauthorized the token is not known
+403 Forbidden only system:masters may change APIServices
+404 NotFound the requested resource was not found
+405 MethodNotAllowed the method is not served here
+409 AlreadyExists the APIService exists
+413 RequestEntityTooLarge the request body is too large
+422 Invalid the APIService is not accepted
+431 RequestHeaderTooLarge the request head is too large
+500 InternalError the audit event was not stored
+501 NotImplemented the request is not served
+502 BadGateway the backend gave no whole reply
+503 ServiceUnavailable the backend is not available
+418  the request was refused";
+
+// What a refusal holds, its message as JSON spells it.
+fn refused(alloc: Global, code: &str, reason: &str, message: &str) -> Result<String, Fail> {
+    let front =
+        r#"{"kind":"Status","apiVersion":"v1","metadata":{},"status":"Failure","message":""#;
+    Ok(format!(in alloc;
+        "{code} application/json {front}{message}\",\"reason\":\"{reason}\",\"code\":{code}}}"
+    )?)
+}
+
 #[test]
 fn refusals_tell_their_code(rt: HostRuntime) -> Result<(), Fail> {
     let alloc = rt.alloc();
-    for (code, body) in REFUSALS {
-        let line = format!(in alloc; "{code} application/json {body}")?;
-        assert_eq!(rt; held(alloc, refusal(alloc, code))?.as_str(), line.as_str());
+    for row in REFUSALS.lines() {
+        let (code, cause) = row.split_once(' ').ok_or("a code")?;
+        let (reason, message) = cause.split_once(' ').ok_or("a reason")?;
+        let number = code.parse::<u16>().map_err(|_| "a number")?;
+        let line = refused(alloc, code, reason, message)?;
+        assert_eq!(rt;
+            held(alloc, refusal(alloc, number))?.as_str(),
+            line.as_str()
+        );
     }
     Ok(())
 }
 
 #[test]
-fn other_statuses(rt: HostRuntime) -> Result<(), Fail> {
+fn messages_are_quoted(rt: HostRuntime) -> Result<(), Fail> {
     let alloc = rt.alloc();
-    assert_eq!(rt;
-        held(alloc, success(alloc))?.as_str(),
-        "200 application/json {\"kind\":\"Status\",\"apiVersion\":\"v1\",\"metadata\":{},\
-         \"status\":\"Success\",\"code\":200}"
-    );
-    assert_eq!(rt;
-        held(alloc, status_reply(alloc, 403, "Forbidden", "no \"a\\b\""))?.as_str(),
-        "403 application/json {\"kind\":\"Status\",\"apiVersion\":\"v1\",\"metadata\":{},\
-         \"status\":\"Failure\",\"message\":\"no \\\"a\\\\b\\\"\",\"reason\":\"Forbidden\",\"code\":403}"
-    );
+    let reply = status_reply(alloc, 403, "Forbidden", "no \"a\\b\"");
+    let line = refused(alloc, "403", "Forbidden", r#"no \"a\\b\""#)?;
+    assert_eq!(rt; held(alloc, reply)?.as_str(), line.as_str());
+    Ok(())
+}
+
+pub const SUCCESS: &str =
+    r#"200 application/json {"kind":"Status","apiVersion":"v1","metadata":{},"status":"Success","code":200}"#;
+
+#[test]
+fn other_replies(rt: HostRuntime) -> Result<(), Fail> {
+    let alloc = rt.alloc();
+    assert_eq!(rt; held(alloc, success(alloc))?.as_str(), SUCCESS);
     assert_eq!(rt; Content::Plain.media_type(), "text/plain");
     Ok(())
 }
