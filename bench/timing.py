@@ -1,5 +1,7 @@
-"""Times calls of front_bench: the least of five runs, less a run that makes no call."""
+"""Times calls of front_bench: the least of five runs, less a run that makes no call. Counts their instructions too."""
 import os
+import re
+import shutil
 import subprocess
 import sys
 import time
@@ -17,19 +19,40 @@ def build():
         sys.exit(built.stdout.decode())
 
 
-def run(call, times, path):
+def words(call, times, others):
+    return [PROGRAM, call, str(times), *map(str, others)]
+
+
+def run(call, times, path, *others):
     """The seconds of one run."""
     with open(path, "rb") as body:
         start = time.monotonic()
-        status = subprocess.run([PROGRAM, call, str(times)], stdin=body).returncode
+        status = subprocess.run(words(call, times, others), stdin=body).returncode
         seconds = time.monotonic() - start
     if status != 0:
         sys.exit(f"front_bench {call} {times} ended with {status}")
     return seconds
 
 
-def seconds_a_call(call, times, path):
+def seconds_a_call(call, times, path, *others):
     """The seconds of one call, out of so many."""
-    most = min(run(call, times, path) for _ in range(5))
-    none = min(run(call, 0, path) for _ in range(5))
+    most = min(run(call, times, path, *others) for _ in range(5))
+    none = min(run(call, 0, path, *others) for _ in range(5))
     return max(most - none, 1e-9) / times
+
+
+def count(call, times, path, others):
+    """The instructions of one run, as callgrind counts them."""
+    with open(path, "rb") as body:
+        done = subprocess.run(["valgrind", "--tool=callgrind", "--callgrind-out-file=/dev/null",
+                               *words(call, times, others)], stdin=body, stderr=subprocess.PIPE)
+    if done.returncode != 0:
+        sys.exit(f"front_bench {call} {times} under callgrind ended with {done.returncode}")
+    return int(re.search(rb"Collected : ([0-9]+)", done.stderr).group(1))
+
+
+def instructions_a_call(call, times, path, *others):
+    """The instructions of one call, out of so many, or None where valgrind isn't there."""
+    if shutil.which("valgrind") is None:
+        return None
+    return (count(call, times, path, others) - count(call, 0, path, others)) / times

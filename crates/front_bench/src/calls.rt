@@ -1,5 +1,5 @@
 // The calls, each made so often.
-use apiservice_rows::{Rows, read_rows};
+use apiservice_rows::{Row, Rows, read_rows};
 use apiservice_table::{Change, RouteTable};
 use std::alloc::Global;
 
@@ -41,31 +41,27 @@ fn table_of(alloc: Global, text: &[u8]) -> Option<RouteTable> {
     Some(table)
 }
 
-// Whether so many look-ups found a row, each of the first `most` of the list in turn.
-fn find_first(alloc: Global, text: &[u8], times: u32, most: usize) -> Option<bool> {
-    let rows = read_rows(alloc, text).ok()?;
+// The group and the version of so many rows, spread evenly over the list: of all, where it has no more.
+fn keys_of(alloc: Global, rows: &[Row], most: usize) -> Option<Vec<(String, String)>> {
+    let mut keys = Vec::new(alloc);
+    for row in rows.iter().step_by((rows.len() / most.max(1)).max(1)) {
+        let group = String::from_str(alloc, row.group.as_str()).ok()?;
+        let version = String::from_str(alloc, row.version.as_str()).ok()?;
+        keys.push((group, version)).ok()?;
+    }
+    Some(keys)
+}
+
+/// Whether so many look-ups found a row, in turn of so many rows of the list.
+pub fn find(alloc: Global, text: &[u8], times: u32, most: usize) -> Option<bool> {
+    let keys = keys_of(alloc, read_rows(alloc, text).ok()?.as_slice(), most)?;
     let table = table_of(alloc, text)?;
-    let keys = rows.as_slice();
-    let end = keys.len().min(most);
     let mut found = true;
     let mut turn = 0;
     for _ in 0..times {
-        let key = keys.get(turn)?;
-        found = found
-            && table
-                .find(key.group.as_str(), key.version.as_str())
-                .is_some();
-        turn = if turn + 1 < end { turn + 1 } else { 0 };
+        let (group, version) = keys.get(turn)?;
+        found = found && table.find(group.as_str(), version.as_str()).is_some();
+        turn = if turn + 1 < keys.len() { turn + 1 } else { 0 };
     }
     Some(found)
-}
-
-/// Whether so many look-ups found a row, each of the list in turn.
-pub fn find(alloc: Global, text: &[u8], times: u32) -> Option<bool> {
-    find_first(alloc, text, times, usize::MAX)
-}
-
-/// Whether so many look-ups found the first row of the list.
-pub fn find_one(alloc: Global, text: &[u8], times: u32) -> Option<bool> {
-    find_first(alloc, text, times, 1)
 }
