@@ -14,5 +14,5 @@ abbrev pub id_bytes : AuditId → List ℕ
 id_bytes id = to_be_bytes w64 id.boot ++ to_be_bytes w16 id.bay ++ drop 2 (to_be_bytes w64 id.number)
 
 -- they are written as a UUID is (RFC 9562, section 4): lower-case hexadecimal digits in groups of 8-4-4-4-12
-abbrev pub audit_id_text : AuditId → List ℕ
+unfoldable pub audit_id_text : AuditId → List ℕ
 audit_id_text id = hyphenated_text lower (id_bytes id)

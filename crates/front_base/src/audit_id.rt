@@ -1,4 +1,4 @@
-ghost use Rattle.std.specs.Prelude.{◌≡◌, ◌<◌, ◌^◌, IfOk};
+ghost use Rattle.std.specs.Prelude.{◌≡◌, ◌<◌, ◌^◌, ◌++◌, IfOk, OnErr, OnOk};
 ghost use Rattle.front_base.specs.AuditId as spec;
 
 use crate::memory::NoMemory;
@@ -14,19 +14,23 @@ pub struct AuditId {
     pub boot: u64,
     /// The connection thread that serves the request.
     pub bay: u16,
-    /// How many requests this bay served before. It is below 2^48.
+    /// How many requests this bay served before. It is below `MOST_REQUESTS`.
     pub number: u64,
 }
 
+/// The most requests of one bay, which is how many numbers an audit ID has: 2^48.
+pub const MOST_REQUESTS: u64 = 281_474_976_710_656;
+
 impl Model for AuditId {
     ghost use Rattle.front_base.specs.AuditId as seen;
-    ghost use Rattle.std.specs.Prelude.{◌<◌, ◌^◌};
+    ghost use Rattle.std.specs.Prelude.{◌<◌};
+    ghost use Rattle.front_base.specs.declared.audit_id.TheConstants.{MOST_REQUESTS};
 
     ghost Value = { seen.AuditId };
 
     ghost view = { λ id. record { boot = id.boot; bay = id.bay; number = id.number } };
 
-    ghost invariant = { λ id. id.number < 2 ^ 48 };
+    ghost invariant = { λ id. id.number < MOST_REQUESTS };
 
     ghost inverse = { λ id. record { boot = id.boot; bay = id.bay; number = id.number } };
 }
@@ -44,15 +48,31 @@ fn uuid_bytes(id: AuditId) -> [u8; 16]
     ]
 }
 
-/// The 36 characters of an audit ID: a UUID in lower case (RFC 9562, section 4), of the boot word, the bay and the
-/// number.
+// The 36 characters, which stand in the buffer.
+fn spelled<'b>(id: AuditId, buffer: &'b mut [u8; 45]) -> &'b str
+    ensures { result.now ≡ spec.audit_id_text id }
+{
+    let uuid = Uuid::from_bytes(uuid_bytes(id));
+    uuid.hyphenated().encode_lower(buffer)
+}
+
+/// Writes the 36 characters of an audit ID after what is there: a UUID in lower case (RFC 9562, section 4), of the boot
+/// word, the bay and the number.
+pub fn push_audit_id(out: &mut Vec<u8>, id: AuditId) -> Result<(), NoMemory>
+    ensures ok { OnOk result (out.new.items ≡ out.old.items ++ spec.audit_id_text id) }
+    ensures kept { OnErr result (out.new.items ≡ out.old.items) }
+{
+    let mut buffer = Uuid::encode_buffer();
+    out.extend_from_slice(spelled(id, &mut buffer).as_bytes())?;
+    Ok(())
+}
+
+/// The 36 characters of an audit ID, as a text of their own.
 pub fn audit_id_text(alloc: Global, id: AuditId) -> Result<Text, NoMemory>
     ensures { IfOk result (λ text. text ≡ spec.audit_id_text id) }
 {
     let mut buffer = Uuid::encode_buffer();
-    let uuid = Uuid::from_bytes(uuid_bytes(id));
-    let text = String::from_str(alloc, uuid.hyphenated().encode_lower(&mut buffer))?;
-    Ok(Text::new(text))
+    Text::copy_of(alloc, spelled(id, &mut buffer))
 }
 
 #[cfg(test)]
@@ -69,6 +89,9 @@ mod tests {
         };
         let text = audit_id_text(rt.alloc(), id)?;
         assert_eq!(rt; text.as_str(), "01234567-89ab-cdef-0001-000000000002");
+        let mut out = b"id=".to_vec(rt.alloc())?;
+        push_audit_id(&mut out, id)?;
+        assert_eq!(rt; out.as_slice(), b"id=01234567-89ab-cdef-0001-000000000002".as_slice());
         Ok(())
     }
 }

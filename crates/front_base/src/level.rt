@@ -1,5 +1,5 @@
 ghost use Rattle.std.specs.Prelude.{◌≡◌};
-ghost use Rattle.front_base.specs.Level.{level_name};
+ghost use Rattle.front_base.specs.Level.{level_name, level_of};
 
 /// How much of a request an audit event records (`Level` of `audit.k8s.io/v1`).
 #[derive(Clone, Copy, Debug, PartialEq, Eq, PartialOrd, Ord, Hash)]
@@ -26,6 +26,20 @@ impl Level {
             Level::RequestResponse => "RequestResponse",
         }
     }
+
+    /// The level of that name, if one has it.
+    #[tactic(auto, unfolding(crate::specs::Level::level_of))]
+    pub fn of_name(name: &str) -> Option<Level>
+        ensures { result ≡ level_of name.now }
+    {
+        match name {
+            "None" => Some(Level::None),
+            "Metadata" => Some(Level::Metadata),
+            "Request" => Some(Level::Request),
+            "RequestResponse" => Some(Level::RequestResponse),
+            _ => None,
+        }
+    }
 }
 
 #[cfg(test)]
@@ -42,6 +56,8 @@ mod tests {
         ];
         for (level, name) in names {
             assert_eq!(rt; level.name(), name);
+            assert_eq!(rt; Level::of_name(name), Some(level));
         }
+        assert_eq!(rt; Level::of_name("metadata"), None);
     }
 }

@@ -11,6 +11,7 @@
 mod address;
 mod audit_id;
 mod cut;
+mod file;
 mod info;
 mod level;
 mod line;
@@ -23,8 +24,9 @@ mod user;
 mod version;
 
 pub use address::{Address, read_address};
-pub use audit_id::{AuditId, audit_id_text};
+pub use audit_id::{AuditId, MOST_REQUESTS, audit_id_text, push_audit_id};
 pub use cut::cut_at;
+pub use file::MOST_FILE_BYTES;
 pub use info::Info;
 pub use level::Level;
 pub use line::{Line, MOST_LINE_BYTES};

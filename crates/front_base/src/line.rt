@@ -1,6 +1,8 @@
-ghost use Rattle.std.specs.Prelude.{◌≡◌, ◌≤◌, length};
+ghost use Rattle.std.specs.Prelude.{◌≡◌, ◌≤◌, IfOk, length};
 
+use crate::memory::NoMemory;
 use crate::text::Bytes;
+use std::alloc::Global;
 use std::marker::Model;
 
 /// The most bytes that an audit line may have, without its line feed.
@@ -27,4 +29,36 @@ impl Model for Line {
     ghost view = { λ l. record { bay = l.bay; number = l.number; bytes = l.bytes } };
 
     ghost invariant = { λ l. length l.bytes ≤ MOST_LINE_BYTES };
+}
+
+impl Line {
+    /// An equal line.
+    pub fn copy(&self, alloc: Global) -> Result<Line, NoMemory>
+        ensures { IfOk result (λ line. line ≡ self.now) }
+    {
+        Ok(Line {
+            bay: self.bay,
+            number: self.number,
+            bytes: self.bytes.copy(alloc)?,
+        })
+    }
+}
+
+#[cfg(test)]
+mod tests {
+    use super::*;
+    use std::test::Fail;
+
+    #[test]
+    fn a_copy_says_the_same(rt: HostRuntime) -> Result<(), Fail> {
+        let line = Line {
+            bay: 3,
+            number: 7,
+            bytes: Bytes::new(b"{}".to_vec(rt.alloc())?),
+        };
+        let copy = line.copy(rt.alloc())?;
+        assert_eq!(rt; (copy.bay, copy.number), (3, 7));
+        assert_eq!(rt; copy.bytes.as_slice(), b"{}".as_slice());
+        Ok(())
+    }
 }

@@ -1,5 +1,5 @@
 ghost use Rattle.std.specs.Prelude.{◌≡◌};
-ghost use Rattle.front_base.specs.Stage.{stage_name};
+ghost use Rattle.front_base.specs.Stage.{stage_name, stage_of};
 
 /// When in a request's life an audit event is made (`Stage` of `audit.k8s.io/v1`).
 #[derive(Clone, Copy, Debug, PartialEq, Eq, PartialOrd, Ord, Hash)]
@@ -26,6 +26,20 @@ impl Stage {
             Stage::Panic => "Panic",
         }
     }
+
+    /// The stage of that name, if one has it.
+    #[tactic(auto, unfolding(crate::specs::Stage::stage_of))]
+    pub fn of_name(name: &str) -> Option<Stage>
+        ensures { result ≡ stage_of name.now }
+    {
+        match name {
+            "RequestReceived" => Some(Stage::RequestReceived),
+            "ResponseStarted" => Some(Stage::ResponseStarted),
+            "ResponseComplete" => Some(Stage::ResponseComplete),
+            "Panic" => Some(Stage::Panic),
+            _ => None,
+        }
+    }
 }
 
 #[cfg(test)]
@@ -42,6 +56,8 @@ mod tests {
         ];
         for (stage, name) in names {
             assert_eq!(rt; stage.name(), name);
+            assert_eq!(rt; Stage::of_name(name), Some(stage));
         }
+        assert_eq!(rt; Stage::of_name("responsestarted"), None);
     }
 }
