@@ -1,5 +1,6 @@
 mod CivilLemmas
 mod NumberLemmas
 mod Padding
+mod TextLemmas
 mod VersionLemmas
 mod YearLemmas

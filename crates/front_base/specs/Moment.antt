@@ -11,20 +11,27 @@ abbrev pub padded : ℕ → ℕ → List ℕ
 padded width n = replicate (width - length (decimal n)) 48 ++ decimal n
 
 -- `2024-06-19`
-abbrev pub date_text : ℕ → ℕ → ℕ → List ℕ
+unfoldable pub date_text : ℕ → ℕ → ℕ → List ℕ
 date_text year month day = padded 4 year ++ (codes "-" ++ (padded 2 month ++ (codes "-" ++ padded 2 day)))
 
--- `17:30:05.000001`, from the microseconds since midnight
+-- `17:30:05.000001`
+unfoldable pub time_text : ℕ → ℕ → ℕ → ℕ → List ℕ
+time_text hour minute second fraction =
+    padded 2 hour
+    ++ (codes ":" ++ (padded 2 minute
+    ++ (codes ":" ++ (padded 2 second
+    ++ (codes "." ++ padded 6 fraction)))))
+
+-- the same, from the microseconds since midnight
 abbrev pub clock_text : ℕ → List ℕ
 clock_text micros =
-    padded 2 (micros / 3_600_000_000)
-    ++ (codes ":" ++ (padded 2 (micros / 60_000_000 % 60)
-    ++ (codes ":" ++ (padded 2 (micros / 1_000_000 % 60)
-    ++ (codes "." ++ padded 6 (micros % 1_000_000))))))
+    time_text (micros / 3_600_000_000) (micros / 60_000_000 % 60) (micros / 1_000_000 % 60) (micros % 1_000_000)
+
+-- the date of a day since the start of 1970
+abbrev pub day_text : ℕ → List ℕ
+day_text day = date_text (year_of_day day).0 (month_of_day day).0 ((month_of_day day).1 + 1)
 
 -- `2024-06-19T17:30:05.000001Z`, from the microseconds since the start of 1970
-abbrev pub moment_text : ℕ → List ℕ
+unfoldable pub moment_text : ℕ → List ℕ
 moment_text micros =
-    let day = micros / day_micros in
-    date_text (year_of_day day).0 (month_of_day day).0 ((month_of_day day).1 + 1)
-    ++ (codes "T" ++ (clock_text (micros % day_micros) ++ codes "Z"))
+    day_text (micros / day_micros) ++ (codes "T" ++ (clock_text (micros % day_micros) ++ codes "Z"))

@@ -91,7 +91,10 @@ mod tests {
         assert_eq!(rt; text.as_str(), "01234567-89ab-cdef-0001-000000000002");
         let mut out = b"id=".to_vec(rt.alloc())?;
         push_audit_id(&mut out, id)?;
-        assert_eq!(rt; out.as_slice(), b"id=01234567-89ab-cdef-0001-000000000002".as_slice());
+        assert_eq!(rt;
+            out.as_slice(),
+            b"id=01234567-89ab-cdef-0001-000000000002".as_slice()
+        );
         Ok(())
     }
 }

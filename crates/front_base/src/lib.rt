@@ -31,7 +31,7 @@ pub use info::Info;
 pub use level::Level;
 pub use line::{Line, MOST_LINE_BYTES};
 pub use memory::NoMemory;
-pub use moment::{MOMENT_END, Moment, moment_text};
+pub use moment::{MOMENT_END, Moment, moment_text, push_moment};
 pub use number::number_of;
 pub use stage::Stage;
 pub use text::{Bytes, Text, Texts};

@@ -1,4 +1,4 @@
-ghost use Rattle.std.specs.Prelude.{◌≡◌, ◌<◌, ◌/◌, ◌≤◌, ◌↔◌, pos, IfOk, IfSome, IsSome, string_bytes};
+ghost use Rattle.std.specs.Prelude.{◌≡◌, ◌+◌, ◌<◌, ◌/◌, ◌≤◌, ◌++◌, ◌↔◌, pos, codes, length, take, IfOk, IfSome, IsSome, OnErr, OnOk};
 ghost use Rattle.jiff.specs.Words.{epoch_day};
 ghost use Rattle.front_base.specs.Moment as spec;
 
@@ -83,43 +83,133 @@ fn year_of(date: Date, micros: u64) -> u16
     year as u16
 }
 
-#[tactic(auto, using(crate::proofs::Padding::padded_zero))]
-fn date_text(alloc: Global, year: u16, month: u8, day: u8) -> Result<String, AllocError>
-    ensures { IfOk result (λ s. string_bytes s ≡ spec.date_text year month day) }
+// A digit's character.
+fn digit(value: u64) -> u8
+    requires { value < 10 }
+    ensures { result ≡ 48 + value }
 {
-    format!(in alloc; "{year:04}-{month:02}-{day:02}")
+    b'0' + value as u8
+}
+
+// The date, as `2024-06-19`.
+fn date_bytes(year: u64, month: u64, day: u64) -> [u8; 10]
+    requires year { year < 10_000 }
+    requires month { month < 100 }
+    requires day { day < 100 }
+    ensures { result ≡ spec.date_text year month day }
+{
+    [
+        digit(year / 1000),
+        digit(year / 100 % 10),
+        digit(year / 10 % 10),
+        digit(year % 10),
+        b'-',
+        digit(month / 10),
+        digit(month % 10),
+        b'-',
+        digit(day / 10),
+        digit(day % 10),
+    ]
+}
+
+// The time of day, as `17:30:05.000001`.
+fn time_bytes(hour: u64, minute: u64, second: u64, fraction: u64) -> [u8; 15]
+    requires hour { hour < 100 }
+    requires minute { minute < 100 }
+    requires second { second < 100 }
+    requires fraction { fraction < 1_000_000 }
+    ensures { result ≡ spec.time_text hour minute second fraction }
+{
+    [
+        digit(hour / 10),
+        digit(hour % 10),
+        b':',
+        digit(minute / 10),
+        digit(minute % 10),
+        b':',
+        digit(second / 10),
+        digit(second % 10),
+        b'.',
+        digit(fraction / 100_000),
+        digit(fraction / 10_000 % 10),
+        digit(fraction / 1000 % 10),
+        digit(fraction / 100 % 10),
+        digit(fraction / 10 % 10),
+        digit(fraction % 10),
+    ]
 }
 
 // The time of day, from the microseconds since midnight.
-fn clock_text(alloc: Global, micros: u64) -> Result<String, AllocError>
+fn clock_bytes(micros: u64) -> [u8; 15]
     requires { micros < spec.day_micros }
-    ensures { IfOk result (λ s. string_bytes s ≡ spec.clock_text micros) }
+    ensures { result ≡ spec.clock_text micros }
 {
     let hour = micros / 3_600_000_000;
     let minute = micros / 60_000_000 % 60;
     let second = micros / 1_000_000 % 60;
-    let fraction = micros % 1_000_000;
-    format!(in alloc; "{hour:02}:{minute:02}:{second:02}.{fraction:06}")
+    time_bytes(hour, minute, second, micros % 1_000_000)
 }
 
-fn text_of(alloc: Global, micros: u64) -> Result<String, AllocError>
+// The date in UTC, as `2024-06-19`.
+fn day_bytes(micros: u64) -> [u8; 10]
     requires { micros < MOMENT_END }
-    ensures { IfOk result (λ s. string_bytes s ≡ spec.moment_text micros) }
+    ensures { result ≡ spec.day_text (micros / spec.day_micros) }
 {
     let date = date_of(micros);
     let year = year_of(date, micros);
     let month = date.month() as u8;
     let day = date.day() as u8;
-    let date = date_text(alloc, year, month, day)?;
-    let clock = clock_text(alloc, micros % DAY_MICROS)?;
-    format!(in alloc; "{date}T{clock}Z")
+    date_bytes(year as u64, month as u64, day as u64)
 }
 
-/// The 27 characters of a moment, as `1970-01-01T00:00:00.000000Z` (RFC 3339, section 5.6).
+// Writes the date, the time of day and what stands between and after them.
+fn push_parts(out: &mut Vec<u8>, date: &[u8], clock: &[u8]) -> Result<(), AllocError>
+    ensures ok { OnOk result (out.new.items ≡ out.old.items ++ (date.now ++ (codes "T" ++ (clock.now ++ codes "Z")))) }
+    ensures begun { take (length out.old.items) out.new.items ≡ out.old.items }
+{
+    out.extend_from_slice(date)?;
+    out.push(b'T')?;
+    out.extend_from_slice(clock)?;
+    out.push(b'Z')?;
+    Ok(())
+}
+
+/// Writes the 27 characters of a moment after what is there, as `1970-01-01T00:00:00.000000Z` (RFC 3339, section 5.6).
+#[tactic(auto, unfolding(crate::specs::Moment::moment_text))]
+pub fn push_moment(out: &mut Vec<u8>, moment: Moment) -> Result<(), NoMemory>
+    ensures ok { OnOk result (out.new.items ≡ out.old.items ++ spec.moment_text moment) }
+    ensures kept { OnErr result (out.new.items ≡ out.old.items) }
+{
+    let micros = moment.micros();
+    let date = day_bytes(micros);
+    let clock = clock_bytes(micros % DAY_MICROS);
+    let start = out.len();
+    match push_parts(out, &date, &clock) {
+        Ok(()) => Ok(()),
+        Err(_) => {
+            out.truncate(start);
+            Err(NoMemory)
+        }
+    }
+}
+
+fn text_of(alloc: Global, moment: Moment) -> Result<Vec<u8>, NoMemory>
+    ensures { IfOk result (λ text. text.items ≡ spec.moment_text moment) }
+{
+    let mut text = Vec::with_capacity(alloc, 27)?;
+    push_moment(&mut text, moment)?;
+    Ok(text)
+}
+
+/// The 27 characters of a moment, as a text of their own.
 pub fn moment_text(alloc: Global, moment: Moment) -> Result<Text, NoMemory>
     ensures { IfOk result (λ text. text ≡ spec.moment_text moment) }
 {
-    Ok(Text::new(text_of(alloc, moment.micros())?))
+    let _micros = moment.micros();
+    match String::from_utf8(text_of(alloc, moment)?) {
+        Ok(text) => Ok(Text::new(text)),
+        Err(_) => unreachable!(),
+    }
 }
 
 #[cfg(test)]
@@ -139,6 +229,9 @@ mod tests {
         for (micros, text) in cases {
             let moment = Moment::new(micros).ok_or("a moment")?;
             assert_eq!(rt; moment_text(rt.alloc(), moment)?.as_str(), text);
+            let mut out = Vec::new(rt.alloc());
+            push_moment(&mut out, moment)?;
+            assert_eq!(rt; out.as_slice(), text.as_bytes());
         }
         assert_eq!(rt; Moment::new(MOMENT_END), None);
         assert_eq!(rt; Moment::epoch().micros(), 0);
