@@ -2,5 +2,6 @@ mod CivilLemmas
 mod NumberLemmas
 mod Padding
 mod TextLemmas
+mod FormLemmas
 mod VersionLemmas
 mod YearLemmas

@@ -9,3 +9,4 @@ pub mod Moment
 pub mod Number
 pub mod Stage
 pub mod Version
+pub mod VersionForms

@@ -36,4 +36,4 @@ pub use number::number_of;
 pub use stage::Stage;
 pub use text::{Bytes, Text, Texts};
 pub use user::User;
-pub use version::{compare_versions, versions_are_ordered};
+pub use version::{compare_versions, versions_are_ordered, versions_by_form, versions_by_number};

@@ -1,6 +1,9 @@
-ghost use Rattle.std.specs.Prelude.{◌≡◌, ◌≤◌, ◌↔◌, ℕ, List, length};
+ghost use Rattle.std.specs.Prelude.{◌≡◌, ◌<◌, ◌≤◌, ◌↔◌, ℕ, List, length};
+ghost use Rattle.std.specs.Cmp.Lexicographic.{slice_cmp};
+ghost use Rattle.std.specs.Ordering.{nat_cmp};
 ghost use Rattle.std.specs.Cmp.{IsTotalOrder};
 ghost use Rattle.front_base.specs.Version as spec;
+ghost use Rattle.front_base.specs.VersionForms.{IsAlpha, IsBeta, IsOther, IsStable, IsVersion};
 
 use crate::number::number_of;
 use std::cmp::Ordering;
@@ -124,6 +127,25 @@ pub fn compare_versions(a: &str, b: &str) -> Ordering
 pub fn versions_are_ordered()
     ensures total { IsTotalOrder spec.version_order }
     ensures equal { (a b : List ℕ) → spec.version_order a b ≡ Ordering.Equal ↔ a ≡ b }
+{}
+
+/// Versions that are generally available come before beta versions, these before alpha versions, and texts of no such form
+/// come last.
+pub fn versions_by_form()
+    ensures beta { (a b : List ℕ) (m n k : ℕ) → IsStable a m → IsBeta b n k → spec.version_order a b ≡ Ordering.Less }
+    ensures alpha { (a b : List ℕ) (m n k l : ℕ) → IsBeta a m n → IsAlpha b k l → spec.version_order a b ≡ Ordering.Less }
+    ensures other { (a b : List ℕ) → IsVersion a → IsOther b → spec.version_order a b ≡ Ordering.Less }
+{}
+
+/// Among versions of one form the greater first number comes first, and then the greater second number, both compared as
+/// numbers. Texts of no such form are in byte order.
+pub fn versions_by_number()
+    ensures stable { (a b : List ℕ) (m n : ℕ) → IsStable a m → IsStable b n → n < m → spec.version_order a b ≡ Ordering.Less }
+    ensures beta_major { (a b : List ℕ) (m n k l : ℕ) → IsBeta a m n → IsBeta b k l → k < m → spec.version_order a b ≡ Ordering.Less }
+    ensures beta_minor { (a b : List ℕ) (m n l : ℕ) → IsBeta a m n → IsBeta b m l → l < n → spec.version_order a b ≡ Ordering.Less }
+    ensures alpha_major { (a b : List ℕ) (m n k l : ℕ) → IsAlpha a m n → IsAlpha b k l → k < m → spec.version_order a b ≡ Ordering.Less }
+    ensures alpha_minor { (a b : List ℕ) (m n l : ℕ) → IsAlpha a m n → IsAlpha b m l → l < n → spec.version_order a b ≡ Ordering.Less }
+    ensures other { (a b : List ℕ) → IsOther a → IsOther b → spec.version_order a b ≡ slice_cmp nat_cmp a b }
 {}
 
 #[cfg(test)]
