@@ -2,6 +2,7 @@ pub mod Address
 pub mod AuditId
 pub mod Civil
 pub mod Cut
+pub mod Ends
 pub mod Info
 pub mod Level
 pub mod Line

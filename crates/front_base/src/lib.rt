@@ -11,6 +11,7 @@
 mod address;
 mod audit_id;
 mod cut;
+mod ends;
 mod file;
 mod info;
 mod level;
@@ -26,6 +27,7 @@ mod version;
 pub use address::{Address, read_address};
 pub use audit_id::{AuditId, MOST_REQUESTS, audit_id_text, push_audit_id};
 pub use cut::cut_at;
+pub use ends::{slashes_are_trimmed, trim_slashes, without_prefix};
 pub use file::MOST_FILE_BYTES;
 pub use info::Info;
 pub use level::Level;
