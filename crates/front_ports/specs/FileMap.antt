@@ -28,7 +28,8 @@ abbrev pub KeepsFiles : Option (List (List ℕ × List ℕ)) → Option (List (L
 KeepsFiles None new = ⊤
 KeepsFiles (Some files) new = new ≡ Some files
 
--- what is told of the last read that failed is now this
+-- what is told of the last read that failed is now this, and it may be told no longer
 abbrev pub Notes : Option (Option (List ℕ)) → Option (Option (List ℕ)) → Option (List ℕ) → Type 0
-Notes None new name = ⊤
-Notes (Some before) new name = new ≡ Some name
+Notes None new name = new ≡ None
+Notes (Some before) None name = ⊤
+Notes (Some before) (Some now) name = now ≡ name

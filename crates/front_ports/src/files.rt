@@ -43,19 +43,22 @@ pub trait Files {
     /// How often a read answered `Fault`. It never falls.
     ghost faults: { Self → ℕ };
 
-    /// The name of the last read that answered `Fault`, none before the first, where that is told.
+    /// The name of the last read that answered `Fault`, none before the first, where that is told. It is told no longer
+    /// once a name could not be kept.
     ghost failed: { Self → Option (Option (List ℕ)) };
 
-    /// All bytes of the file of this name. A name that isn't there is a fault.
+    /// All bytes of the file of this name. A name that isn't there is a fault. A read that failed is one also where memory
+    /// doesn't suffice to keep its name.
     fn read(&mut self, alloc: Global, name: &str) -> Result<Bytes, FileFail>
         ensures kept { KeepsFiles (files self.old) (files self.new) }
         ensures found { IfOk result (HasFile (files self.old) name.now) }
         ensures short { IfOk result (λ bytes. length bytes ≤ MOST_FILE_BYTES) }
         ensures long { result ≡ Err FileFail.TooLong → HasLongFile (files self.old) name.now }
 
-        // A fault is counted, and its name kept.
+        // A fault is counted, and nothing else is. Its name is kept where it can be.
         ensures later { faults self.old ≤ faults self.new }
         ensures fault { result ≡ Err FileFail.Fault → Rose (faults self.old) (faults self.new) }
+        ensures sound { result ≢ Err FileFail.Fault → faults self.new ≡ faults self.old }
         ensures name { result ≡ Err FileFail.Fault
             → Notes (failed self.old) (failed self.new) (Some name.now) }
         ensures no_name { result ≢ Err FileFail.Fault → failed self.new ≡ failed self.old };

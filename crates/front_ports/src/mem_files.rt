@@ -77,6 +77,7 @@ impl Files for MemFiles {
         ensures long { result ≡ Err FileFail.TooLong → HasLongFile (Some (files_held self.old)) name.now }
         ensures later { files_faults self.old ≤ files_faults self.new }
         ensures fault { result ≡ Err FileFail.Fault → Rose (files_faults self.old) (files_faults self.new) }
+        ensures sound { result ≢ Err FileFail.Fault → files_faults self.new ≡ files_faults self.old }
         ensures name { result ≡ Err FileFail.Fault
             → Notes (Some (files_failed self.old)) (Some (files_failed self.new)) (Some name.now) }
         ensures no_name { result ≢ Err FileFail.Fault → files_failed self.new ≡ files_failed self.old }
@@ -100,7 +101,7 @@ impl Files for MemFiles {
                 Ok(Bytes::new(bytes.to_vec(alloc)?))
             }
             None => {
-                self.failed = Some(Text::new(String::from_str(alloc, name)?));
+                self.failed = Some(Text::copy_of(alloc, name)?);
                 self.faults = self.faults.saturating_add(1);
                 Err(FileFail::Fault)
             }

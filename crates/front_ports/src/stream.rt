@@ -1,4 +1,4 @@
-ghost use Rattle.std.specs.Prelude.{◌≡◌, ◌<◌, List, [], ◌∷◌, ℕ, Option, IfOk, OnOk, OnErr, length};
+ghost use Rattle.std.specs.Prelude.{◌≡◌, ◌<◌, List, [], ◌∷◌, ℕ, Option, IfOk, IfErr, OnOk, OnErr, length, take};
 ghost use Rattle.std.specs.Io.{ReadsAtMost, WritesAtMost};
 ghost use Rattle.std.specs.Io.KnownBytes.{Appends, ReadConsumes, WriteAppends};
 ghost use Rattle.front_ports.specs.Cause.{HasCause};
@@ -20,7 +20,7 @@ pub trait Source {
     /// The other side of the same object, which no read changes.
     ghost outward: { Self → Side };
 
-    /// Puts the next bytes at the front of the buffer, and answers how many there are. `Ok(0)` is the end of the input.
+    /// Puts the next bytes into the buffer, from its first byte on, and answers how many there are. `Ok(0)` is the end of the input.
     fn read(&mut self, buf: &mut [u8]) -> Result<usize, PortFault>
         requires { 0 < length buf.old }
         ensures bound { ReadsAtMost result buf.new }
@@ -40,7 +40,7 @@ pub trait ByteSink {
     /// The other side of the same object, which no write changes.
     ghost inward: { Self → Side };
 
-    /// Takes bytes from the front of the piece, one at least, and answers how many. A write of nothing is a fault.
+    /// Takes the first bytes of the piece, one at least, and answers how many. A write of nothing is a fault.
     fn write(&mut self, piece: &[u8]) -> Result<usize, PortFault>
         requires { 0 < length piece.now }
         ensures bound { WritesAtMost result piece.now }
@@ -79,16 +79,33 @@ pub trait Link: Source + ByteSink {
         ≡ record { told = Self.left link; faults = Self.read_faults link; mark = number link ∷ [] } };
 }
 
-/// Writes all of a text, in as many writes as the sink wants. On a fault, a front of it was written.
+/// Writes all of a text, in as many writes as the sink wants. On a fault, a prefix of it was written.
 pub fn write_all<O: ByteSink>(out: &mut O, text: &[u8]) -> Result<(), PortFault>
     ensures ok { OnOk result (Appends (O.written out.old) (O.written out.new) text.now) }
     ensures err { OnErr result (AppendsFront (O.written out.old) (O.written out.new) text.now) }
     ensures cause { HasCause (O.write_faults out.old) (O.write_faults out.new) result }
     ensures aside { O.inward out.new ≡ O.inward out.old }
 {
+    match write_counted(out, text) {
+        Ok(()) => Ok(()),
+        Err(_) => Err(PortFault),
+    }
+}
+
+/// Does what `write_all` does. On a fault, it says how many bytes of the text were written.
+pub fn write_counted<O: ByteSink>(out: &mut O, text: &[u8]) -> Result<(), usize>
+    ensures ok { OnOk result (Appends (O.written out.old) (O.written out.new) text.now) }
+    ensures err { IfErr result (λ n.
+        (n < length text.now) × Appends (O.written out.old) (O.written out.new) (take n text.now)) }
+    ensures cause { HasCause (O.write_faults out.old) (O.write_faults out.new) result }
+    ensures aside { O.inward out.new ≡ O.inward out.old }
+{
     let mut at = 0;
     while at < text.len() {
-        at += out.write(&text[at..])?;
+        match out.write(&text[at..]) {
+            Ok(count) => at += count,
+            Err(_) => return Err(at),
+        }
     }
     Ok(())
 }
