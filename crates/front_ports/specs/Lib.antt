@@ -3,6 +3,7 @@ pub mod Clocks
 pub mod Dials
 pub mod Doors
 pub mod FileMap
+pub mod Mark
 pub mod Memory
 pub mod MemoryClock
 pub mod MemoryDial

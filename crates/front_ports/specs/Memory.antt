@@ -2,8 +2,7 @@
 use Rattle.std.specs.Prelude.{◌≡◌, ℕ, List, [], ◌∷◌, Option, Some, drop}
 use Rattle.front_ports.specs.Side.{Side}
 use Rattle.front_ports.specs.declared.mem_bytes.MemBytes.{MemBytes}
-use Rattle.front_ports.specs.declared.mem_conn.MemConn.{MemConn}
-use Rattle.front_ports.specs.declared.mem_link.MemLink.{MemLink}
+use Rattle.front_ports.specs.declared.mem_duplex.MemDuplex.{MemDuplex}
 use Rattle.front_ports.specs.declared.mem_files.MemFiles.{MemFiles}
 use Rattle.front_ports.specs.declared.mem_stream.MemStream.{MemStream}
 
@@ -43,61 +42,41 @@ stream_written stream = bytes_written stream.output
 abbrev pub stream_write_faults : MemStream → ℕ
 stream_write_faults stream = bytes_faults stream.output
 
--- what a connection will still give
-abbrev pub conn_left : MemConn → List ℕ
-conn_left conn = stream_left conn.stream
+-- what a connection or a link will still give, and how many of its reads failed
+abbrev pub duplex_left : {M : Type 0} → MemDuplex M → List ℕ
+duplex_left duplex = stream_left duplex.stream
 
--- how many of its reads failed
-abbrev pub conn_read_faults : MemConn → ℕ
-conn_read_faults conn = stream_read_faults conn.stream
+abbrev pub duplex_read_faults : {M : Type 0} → MemDuplex M → ℕ
+duplex_read_faults duplex = stream_read_faults duplex.stream
 
--- what was written to a connection
-abbrev pub conn_written : MemConn → List ℕ
-conn_written conn = stream_written conn.stream
+-- what was written to it, and how many of its writes failed
+abbrev pub duplex_written : {M : Type 0} → MemDuplex M → List ℕ
+duplex_written duplex = stream_written duplex.stream
 
--- how many of its writes failed
-abbrev pub conn_write_faults : MemConn → ℕ
-conn_write_faults conn = stream_write_faults conn.stream
+abbrev pub duplex_write_faults : {M : Type 0} → MemDuplex M → ℕ
+duplex_write_faults duplex = stream_write_faults duplex.stream
 
--- the address of its peer
-abbrev pub conn_from : MemConn → List ℕ
-conn_from conn = conn.from
+-- its input and its output with their mark, each of which a call on the other leaves
+abbrev pub input_side : {M : Type 0} → List ℕ → MemDuplex M → Side
+input_side mark duplex = record { told = Some (duplex_left duplex); faults = duplex_read_faults duplex; mark = mark }
 
--- its input and its output, each of which a call on the other leaves
-abbrev pub conn_input : MemConn → Side
-conn_input conn = record { told = Some (conn_left conn); faults = conn_read_faults conn; mark = conn_from conn }
+abbrev pub output_side : {M : Type 0} → List ℕ → MemDuplex M → Side
+output_side mark duplex = record { told = Some (duplex_written duplex); faults = duplex_write_faults duplex; mark = mark }
 
-abbrev pub conn_output : MemConn → Side
-conn_output conn = record { told = Some (conn_written conn); faults = conn_write_faults conn; mark = conn_from conn }
+-- the address of a connection's peer
+abbrev pub conn_from : MemDuplex (List ℕ) → List ℕ
+conn_from conn = conn.mark
 
--- the same of a link, and the number of its call among those of its dial
-abbrev pub link_left : MemLink → List ℕ
-link_left link = stream_left link.stream
-
-abbrev pub link_read_faults : MemLink → ℕ
-link_read_faults link = stream_read_faults link.stream
-
-abbrev pub link_written : MemLink → List ℕ
-link_written link = stream_written link.stream
-
-abbrev pub link_write_faults : MemLink → ℕ
-link_write_faults link = stream_write_faults link.stream
-
-abbrev pub link_number : MemLink → ℕ
-link_number link = link.number
-
-abbrev pub link_input : MemLink → Side
-link_input link = record { told = Some (link_left link); faults = link_read_faults link; mark = link_number link ∷ [] }
-
-abbrev pub link_output : MemLink → Side
-link_output link = record { told = Some (link_written link); faults = link_write_faults link; mark = link_number link ∷ [] }
+-- the number of a link's call among those of its dial
+abbrev pub link_number : MemDuplex ℕ → ℕ
+link_number link = link.mark
 
 -- nothing was read from a link or written to it
-pub record IsUnused (link : MemLink) : Type 0 where
-  pub whole : link_left link ≡ stream_input link.stream
-  pub unwritten : link_written link ≡ []
-  pub no_read_fault : link_read_faults link ≡ 0
-  pub no_write_fault : link_write_faults link ≡ 0
+pub record IsUnused (link : MemDuplex ℕ) : Type 0 where
+  pub whole : duplex_left link ≡ stream_input link.stream
+  pub unwritten : duplex_written link ≡ []
+  pub no_read_fault : duplex_read_faults link ≡ 0
+  pub no_write_fault : duplex_write_faults link ≡ 0
 
 -- the names and the bytes of files
 abbrev pub files_held : MemFiles → List (List ℕ × List ℕ)

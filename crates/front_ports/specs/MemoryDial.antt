@@ -1,19 +1,19 @@
 -- What a dial in memory tells.
 use Rattle.std.specs.Prelude.{◌≡◌, ℕ, List, [], ◌∷◌, map, Bool, true, false, ◌||◌, Option, Some, None, ⊤, if◌then◌else◌}
-use Rattle.front_ports.specs.Memory.{link_left}
-use Rattle.front_ports.specs.MemoryStream.{link_stream}
+use Rattle.front_ports.specs.Memory.{duplex_left}
+use Rattle.front_ports.specs.MemoryStream.{duplex_stream}
 use Rattle.front_ports.specs.Scripts.{next_is_listed}
 use Rattle.front_ports.specs.declared.dial.Call.{Call}
 use Rattle.front_ports.specs.declared.mem_dial.Ready.{Ready}
 use Rattle.front_ports.specs.declared.mem_dial.MemDial.{MemDial}
-use Rattle.front_ports.specs.declared.mem_link.MemLink.{MemLink}
+use Rattle.front_ports.specs.declared.mem_duplex.MemDuplex.{MemDuplex}
 use Rattle.front_ports.specs.declared.mem_stream.MemStream.{MemStream}
 
 -- what each of some links has to give
-abbrev pub links_held : List MemLink → List (List ℕ)
-links_held links = map link_left links
+abbrev pub links_held : List (MemDuplex ℕ) → List (List ℕ)
+links_held links = map duplex_left links
 
-abbrev pub ready_links : List Ready → List MemLink
+abbrev pub ready_links : List Ready → List (MemDuplex ℕ)
 ready_links ready = map (λ r. r.link) ready
 
 -- what each link that no dial has had yet has to give
@@ -38,8 +38,8 @@ LosesPast (Some calls) None links = links ≡ []
 LosesPast (Some calls) (Some more) links = ⊤
 
 -- the two sides of each of some links, and of each that no dial has had yet
-abbrev pub links_streams : List MemLink → List MemStream
-links_streams links = map link_stream links
+abbrev pub links_streams : List (MemDuplex ℕ) → List MemStream
+links_streams links = map duplex_stream links
 
 abbrev pub dial_streams : MemDial → List MemStream
 dial_streams dial = links_streams (ready_links dial.ready.items)

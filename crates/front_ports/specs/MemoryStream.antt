@@ -3,8 +3,7 @@ use Rattle.std.specs.Prelude.{◌≡◌, ℕ, ◌+◌, min, List, length, Bool, 
 use Rattle.front_ports.specs.Memory.{bytes_written, bytes_room, bytes_fails, bytes_calls, stream_left}
 use Rattle.front_ports.specs.Scripts.{next_count, next_is_listed, cut_to}
 use Rattle.front_ports.specs.declared.mem_bytes.MemBytes.{MemBytes}
-use Rattle.front_ports.specs.declared.mem_conn.MemConn.{MemConn}
-use Rattle.front_ports.specs.declared.mem_link.MemLink.{MemLink}
+use Rattle.front_ports.specs.declared.mem_duplex.MemDuplex.{MemDuplex}
 use Rattle.front_ports.specs.declared.mem_stream.MemStream.{MemStream}
 use Rattle.front_ports.specs.declared.script.Script.{Script}
 
@@ -20,12 +19,9 @@ pub record WritesAsTold {E : Type 0} (old new : MemBytes) (result : Result ℕ E
   pub told : (bytes_room new ≡ bytes_room old) × (bytes_fails new ≡ bytes_fails old)
   pub counted : bytes_calls new ≡ next_count (bytes_calls old)
 
--- the two sides of a connection and of a link
-abbrev pub conn_stream : MemConn → MemStream
-conn_stream conn = conn.stream
-
-abbrev pub link_stream : MemLink → MemStream
-link_stream link = link.stream
+-- the two sides of a connection or a link
+abbrev pub duplex_stream : {M : Type 0} → MemDuplex M → MemStream
+duplex_stream duplex = duplex.stream
 
 -- where what is written to them goes
 abbrev pub stream_sink : MemStream → MemBytes

@@ -2,9 +2,9 @@ ghost use Rattle.std.specs.Prelude.{◌≡◌, ◌≤◌, ◌<◌, ◌+◌, [], 
 ghost use Rattle.std.specs.List.{All};
 ghost use Rattle.std.specs.VecDeque.{deque_len};
 ghost use Rattle.front_ports.specs.Cause.{HasCause};
-ghost use Rattle.front_ports.specs.Memory.{link_left, link_written, link_number, IsUnused};
+ghost use Rattle.front_ports.specs.Memory.{duplex_left, duplex_written, link_number, IsUnused};
 ghost use Rattle.front_ports.specs.Dials as spec;
-ghost use Rattle.front_ports.specs.Memory.{link_read_faults, link_write_faults};
+ghost use Rattle.front_ports.specs.Memory.{duplex_read_faults, duplex_write_faults};
 
 use crate::dial::{Call, Dial};
 use crate::mem_link::MemLink;
@@ -20,7 +20,7 @@ struct Ready {
     call: Call,
     ghost unused: { IsUnused link },
     ghost unsent: { call.sent ≡ [] },
-    ghost held: { call.held ≡ link_left link },
+    ghost held: { call.held ≡ duplex_left link },
 }
 
 /// A dial in memory, which gives links in their order, and tells its calls. It notes them in room that was reserved when
@@ -114,7 +114,7 @@ impl Dial for MemDial {
     ghost use Rattle.front_ports.specs.Dials.{NotesCall, NotesSent};
     ghost use Rattle.front_ports.specs.MemoryDial.{dial_links, dial_calls, dial_faults, dial_link_faults, LosesPast};
     ghost use Rattle.front_ports.specs.MemoryDial.{dial_streams, dial_fails, dial_dials, dial_will_fail};
-    ghost use Rattle.front_ports.specs.MemoryStream.{link_stream};
+    ghost use Rattle.front_ports.specs.MemoryStream.{duplex_stream};
     ghost use Rattle.front_ports.specs.Scripts.{next_count};
     ghost use Rattle.front_ports.specs.Told.{Grows};
 
@@ -128,19 +128,19 @@ impl Dial for MemDial {
 
     fn dial(&mut self, to: Address) -> Result<MemLink, PortFault>
         ensures cause { HasCause (dial_faults self.old) (dial_faults self.new) result }
-        ensures fresh { IfOk result (λ link. (link_read_faults link ≡ 0) × (link_write_faults link ≡ 0)) }
+        ensures fresh { IfOk result (λ link. (duplex_read_faults link ≡ 0) × (duplex_write_faults link ≡ 0)) }
         ensures noted { IfOk result (λ link.
-            NotesCall (dial_calls self.old) (dial_calls self.new) to (link_number link) (Some (link_left link)) (Some (link_written link))) }
+            NotesCall (dial_calls self.old) (dial_calls self.new) to (link_number link) (Some (duplex_left link)) (Some (duplex_written link))) }
         ensures failed { OnErr result (Grows (dial_calls self.old) (dial_calls self.new) (spec.failed_call to ∷ [])) }
         ensures link_faults { dial_link_faults self.new ≡ dial_link_faults self.old }
 
         // Which link it is, and that calls are told until the last one is gone.
-        ensures first { IfOk result (λ link. dial_links self.old ≡ link_left link ∷ dial_links self.new) }
+        ensures first { IfOk result (λ link. dial_links self.old ≡ duplex_left link ∷ dial_links self.new) }
         ensures links { dial_links self.new ≡ drop 1 (dial_links self.old) }
         ensures told { LosesPast (dial_calls self.old) (dial_calls self.new) (dial_links self.old) }
 
         // The link does what it was told when it was made.
-        ensures same { IfOk result (λ link. dial_streams self.old ≡ link_stream link ∷ dial_streams self.new) }
+        ensures same { IfOk result (λ link. dial_streams self.old ≡ duplex_stream link ∷ dial_streams self.new) }
         ensures streams { dial_streams self.new ≡ drop 1 (dial_streams self.old) }
 
         // Which dials fail.
@@ -170,11 +170,11 @@ impl Dial for MemDial {
     }
 
     fn done(&mut self, link: MemLink)
-        ensures noted { NotesSent (dial_calls self.old) (dial_calls self.new) (link_number link) (Some (link_written link)) }
+        ensures noted { NotesSent (dial_calls self.old) (dial_calls self.new) (link_number link) (Some (duplex_written link)) }
         ensures later { dial_link_faults self.old ≤ dial_link_faults self.new }
-        ensures faulty { 0 < link_read_faults link + link_write_faults link
+        ensures faulty { 0 < duplex_read_faults link + duplex_write_faults link
             → Rose (dial_link_faults self.old) (dial_link_faults self.new) }
-        ensures sound { link_read_faults link + link_write_faults link ≡ 0
+        ensures sound { duplex_read_faults link + duplex_write_faults link ≡ 0
             → dial_link_faults self.new ≡ dial_link_faults self.old }
         ensures faults { dial_faults self.new ≡ dial_faults self.old }
 

@@ -1,6 +1,6 @@
 ghost use Rattle.std.specs.Prelude.{◌≡◌, ◌≤◌, ◌+◌, [], IfOk, vec_len, vec_capacity};
 ghost use Rattle.std.specs.VecDeque.{deque_len};
-ghost use Rattle.front_ports.specs.Memory.{conn_from, conn_left, conn_written};
+ghost use Rattle.front_ports.specs.Memory.{conn_from, duplex_left, duplex_written};
 
 use crate::door::{Door, Visit};
 use crate::mem_conn::MemConn;
@@ -15,8 +15,8 @@ struct Expected {
     conn: MemConn,
     visit: Visit,
     ghost peer: { visit.peer ≡ conn_from conn },
-    ghost input: { visit.input ≡ conn_left conn },
-    ghost output: { visit.output ≡ conn_written conn },
+    ghost input: { visit.input ≡ duplex_left conn },
+    ghost output: { visit.output ≡ duplex_written conn },
 }
 
 /// A door in memory, which gives connections in their order, and tells those to come and those that it gave. It notes
@@ -104,7 +104,7 @@ impl Door for MemDoor {
         ensures end { IfOk result (CountsEnd (door_closes self.old) (door_closes self.new)) }
         ensures no_end { OnErr result (door_closes self.new ≡ door_closes self.old) }
         ensures noted { IfOk result (λ answer. MatchOption answer (door_given self.new ≡ door_given self.old) (λ conn.
-            NotesVisit (Some (door_given self.old)) (Some (door_given self.new)) (conn_from conn) (Some (conn_left conn)) (Some (conn_written conn)))) }
+            NotesVisit (Some (door_given self.old)) (Some (door_given self.new)) (conn_from conn) (Some (duplex_left conn)) (Some (duplex_written conn)))) }
         ensures not_noted { OnErr result (door_given self.new ≡ door_given self.old) }
 
         // Which calls fail.
@@ -131,7 +131,7 @@ impl Door for MemDoor {
     }
 
     fn done(&mut self, conn: MemConn)
-        ensures noted { NotesOutput (Some (door_given self.old)) (Some (door_given self.new)) (Some (conn_written conn)) }
+        ensures noted { NotesOutput (Some (door_given self.old)) (Some (door_given self.new)) (Some (duplex_written conn)) }
         ensures left { door_left self.new ≡ door_left self.old }
         ensures closes { door_closes self.new ≡ door_closes self.old }
         ensures faults { door_faults self.new ≡ door_faults self.old }

@@ -4,7 +4,7 @@ ghost use Rattle.front_ports.specs.Memory.{IsUnused};
 
 use crate::{
     ByteSink, Clock, Conn, Dial, Door, FileFail, Files, MemBytes, MemClock, MemConn, MemDial,
-    MemDoor, MemFiles, MemLink, PortFault, Script, Source, write_all,
+    MemDoor, MemFiles, MemLink, PortFault, Script, Source, write_all, write_counted,
 };
 use front_base::{Address, Bytes, MOMENT_END, Moment, NoMemory, Text};
 use std::alloc::Global;
@@ -47,8 +47,10 @@ fn a_connection_does_what_its_script_says(rt: HostRuntime) -> Result<(), Fail> {
 #[test]
 fn a_sink_keeps_what_was_written(rt: HostRuntime) -> Result<(), Fail> {
     let mut out = MemBytes::new(rt.alloc(), 4, Vec::new(rt.alloc()))?;
-    assert_eq!(rt; out.write(b"abcd"), Ok(4));
+    assert_eq!(rt; out.write(b"ab"), Ok(2));
+    assert_eq!(rt; write_counted(&mut out, b"cd"), Ok(()));
     assert_eq!(rt; out.write(b"e"), Err(PortFault));
+    assert_eq!(rt; write_counted(&mut out, b"e"), Err(0));
     assert_eq!(rt; out.bytes(), b"abcd".as_slice());
     Ok(())
 }
@@ -159,7 +161,7 @@ fn three_links(alloc: Global) -> Result<Vec<MemLink>, NoMemory>
 }
 
 #[test]
-fn each_dial_has_its_link_also_behind_one_that_failed(rt: HostRuntime) -> Result<(), Fail> {
+fn each_dial_has_its_link_also_after_one_that_failed(rt: HostRuntime) -> Result<(), Fail> {
     let alloc = rt.alloc();
     let mut dial = MemDial::new(alloc, three_links(alloc)?, vec![in alloc; 2]?)?;
     for answer in [Ok(*b"one"), Err(PortFault), Ok(*b"six")] {

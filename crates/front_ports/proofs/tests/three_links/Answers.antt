@@ -1,11 +1,11 @@
-use Rattle.std.proofs.Common.{[], ◌∷◌}
+use Rattle.std.proofs.Common.{ℕ, [], ◌∷◌}
 use Rattle.std.proofs.lemmas.List.Elements.{All-cons, All-nil}
 use Rattle.std.specs.List.{All}
 use Rattle.front_ports.specs.Memory.{IsUnused}
-use Rattle.front_ports.specs.declared.mem_link.MemLink.{MemLink}
+use Rattle.front_ports.specs.declared.mem_duplex.MemDuplex.{MemDuplex}
 use Rattle.front_ports.proofs.tests.three_links.Goals as goal
 
-all_three : (a b c : MemLink) → IsUnused a → IsUnused b → IsUnused c → All IsUnused (a ∷ b ∷ c ∷ [])
+all_three : (a b c : MemDuplex ℕ) → IsUnused a → IsUnused b → IsUnused c → All IsUnused (a ∷ b ∷ c ∷ [])
 all_three a b c x y z =
     All-cons IsUnused a (b ∷ c ∷ []) x (All-cons IsUnused b (c ∷ []) y (All-cons IsUnused c [] z (All-nil IsUnused)))
 
