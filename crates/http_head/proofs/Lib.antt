@@ -1,6 +1,5 @@
 mod BlockLemmas
-mod FramingLemmas
-mod FrontLemmas
+mod EmptyLineLemmas
 mod HeadLemmas
 mod LineLemmas
 mod RequestLemmas

@@ -12,11 +12,11 @@ is_blank b = b == 32 || b == 9
 abbrev pub is_text : ℕ → Bool
 is_text b = not (is_blank b)
 
--- how many blanks stand at the front
+-- how many blanks the bytes begin with
 abbrev pub blank_len : List ℕ → ℕ
 blank_len bytes = position_or_len is_text bytes
 
--- the name in whatever case is at the front
+-- the bytes begin with the name, in whatever case
 abbrev pub begins : List ℕ → List ℕ → Bool
 begins name bytes = str_eq_ignore_ascii_case (take (length name) bytes) name
 
@@ -31,7 +31,11 @@ is_element name part = is_name_and_blanks name (drop (blank_len part) part)
 abbrev pub has_element : List ℕ → List ℕ → Bool
 has_element name value = list_any (is_element name) (slice_split (λ b. b == 44) value)
 
--- a Connection header has the element `close`
+-- a Connection header names that option
+abbrev pub has_option : List ℕ → List Header → Bool
+has_option name headers =
+    list_any (λ header. is_named (codes "connection") header.name && has_element name header.value) headers
+
+-- a Connection header names the option `close`
 abbrev pub asks_to_close : List Header → Bool
-asks_to_close headers =
-    list_any (λ header. is_named (codes "connection") header.name && has_element (codes "close") header.value) headers
+asks_to_close headers = has_option (codes "close") headers

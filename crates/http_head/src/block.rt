@@ -1,6 +1,10 @@
 // Where a head ends in a stream.
 ghost use Rattle.std.specs.Prelude.{◌≡◌, ◌+◌, ◌<◌, ◌≤◌, ◌++◌, ℕ, List, Some, None, length, take, drop, IfSome};
+ghost use Rattle.http_head.specs.Answer.{IsBlockAnswer};
 ghost use Rattle.http_head.specs.Block as spec;
+ghost use Rattle.http_head.specs.EmptyLine.{EndsFirstEmptyLine};
+
+use crate::answer::BlockAnswer;
 
 /// The most bytes that a head's block may have.
 pub const MOST_HEAD_BYTES: usize = 65536;
@@ -19,7 +23,7 @@ fn run_len(bytes: &[u8]) -> usize
     }
 }
 
-// The length of a line end at the front, or 0.
+// The length of the line end that the bytes begin with, or 0.
 fn end_size(bytes: &[u8]) -> usize
     ensures value { result ≡ spec.end_size bytes.now }
     ensures within { result ≤ length bytes.now }
@@ -48,19 +52,12 @@ fn end_from(bytes: &[u8], start: usize) -> Option<usize>
     None
 }
 
-pub fn line_count(block: &[u8]) -> usize
+// How many lines a block has after its leading run.
+fn line_count(block: &[u8]) -> usize
     ensures { result ≡ spec.line_count block.now }
 {
     let run = run_len(block);
     block[run..].iter().filter(|b| **b == b'\n').count()
-}
-
-// The length of the block that the bytes begin with.
-fn block_len(bytes: &[u8]) -> Option<usize>
-    ensures value { result ≡ spec.block_len bytes.now }
-    ensures within { IfSome result (λ len. len ≤ length bytes.now) }
-{
-    end_from(bytes, run_len(bytes))
 }
 
 // The bytes that a head may have.
@@ -70,14 +67,6 @@ fn head_bytes(bytes: &[u8]) -> &[u8]
     ensures within { length result.now ≤ length bytes.now }
 {
     &bytes[..bytes.len().min(MOST_HEAD_BYTES)]
-}
-
-// The length of the head's block, where it ends within the bytes that a head may have.
-pub fn block_in(bytes: &[u8]) -> Option<usize>
-    ensures value { result ≡ spec.block_in bytes.now }
-    ensures within { IfSome result (λ len. len ≤ length bytes.now) }
-{
-    block_len(head_bytes(bytes))
 }
 
 /// How far a stream was searched for the end of a head's block, so that the search goes on as more bytes come: the
@@ -124,14 +113,29 @@ fn block_len_on(bytes: &[u8], search: &mut Search) -> Option<usize>
     end
 }
 
-// What `block_in` gives, where the bytes were searched so far.
-pub fn block_on(bytes: &[u8], search: &mut Search) -> Option<usize>
+// The length of the head's block, where it ends within the bytes that a head may have, and these were searched so far.
+fn block_on(bytes: &[u8], search: &mut Search) -> Option<usize>
     requires { spec.IsSearched bytes.now search.old }
     ensures value { result ≡ spec.block_in bytes.now }
     ensures within { IfSome result (λ len. len ≤ length bytes.now) }
     ensures searched { result ≡ None → spec.IsSearched bytes.now search.new }
 {
     block_len_on(head_bytes(bytes), search)
+}
+
+/// Where the block ends that a stream begins with, where its bytes were searched so far. After `More` the search goes on
+/// with more bytes after these, so that the work on a head is linear however it comes. After another answer a new search
+/// begins.
+pub fn find_block(bytes: &[u8], search: &mut Search) -> BlockAnswer
+    requires { spec.IsSearched bytes.now search.old }
+    ensures answer { IsBlockAnswer bytes.now result }
+    ensures searched { result ≡ BlockAnswer.More → spec.IsSearched bytes.now search.new }
+{
+    match block_on(bytes, search) {
+        Some(length) if line_count(&bytes[..length]) <= MOST_LINES => BlockAnswer::Whole(length),
+        None if bytes.len() < MOST_HEAD_BYTES => BlockAnswer::More,
+        _ => BlockAnswer::TooLarge,
+    }
 }
 
 /// What was searched stays searched as more bytes come.
@@ -154,4 +158,12 @@ pub fn blocks_stay()
 pub fn blocks_are_bounded()
     ensures { (bytes : List ℕ) (len : ℕ) → spec.block_in bytes ≡ Some len
         → (len ≤ length bytes) × (len ≤ MOST_HEAD_BYTES) }
+{}
+
+/// A head ends after its first empty line and nowhere before: its block has these bytes exactly where the first empty line
+/// ends after them, which are no more than a head may have.
+pub fn heads_end_after_an_empty_line()
+    ensures ends { (bytes : List ℕ) (len : ℕ) → spec.block_in bytes ≡ Some len → EndsFirstEmptyLine bytes len }
+    ensures found { (bytes : List ℕ) (len : ℕ) → EndsFirstEmptyLine bytes len → len ≤ MOST_HEAD_BYTES
+        → spec.block_in bytes ≡ Some len }
 {}

@@ -11,7 +11,7 @@ fn is_blank(b: u8) -> bool
     b == b' ' || b == b'\t'
 }
 
-// How many blanks stand at the front.
+// How many blanks the bytes begin with.
 fn blank_len(bytes: &[u8]) -> usize
     ensures value { result ≡ spec.blank_len bytes.now }
     ensures within { result ≤ length bytes.now }
@@ -51,11 +51,19 @@ fn has_element(value: &[u8], name: &str) -> bool
         .any(|part| is_element(part, name))
 }
 
-/// Whether a Connection header has the element `close`. Elements stand between commas, blanks round them don't count,
-/// and ASCII case is ignored.
+/// Whether a Connection header names that option (RFC 9110, section 7.6.1). Options stand between commas, blanks round
+/// them don't count, and ASCII case is ignored.
+pub fn has_option(headers: &Headers, name: &str) -> bool
+    ensures { result ≡ spec.has_option name.now headers.now }
+{
+    headers.as_slice().iter().any(|header| header.is_named("connection")
+        && has_element(header.value.as_slice(), name))
+}
+
+/// Whether a Connection header names the option `close`: no other request of the connection is read (RFC 9112, section
+/// 9.6).
 pub fn asks_to_close(headers: &Headers) -> bool
     ensures { result ≡ spec.asks_to_close headers.now }
 {
-    headers.as_slice().iter().any(|header| header.is_named("connection")
-        && has_element(header.value.as_slice(), "close"))
+    has_option(headers, "close")
 }

@@ -15,14 +15,15 @@ mod header;
 mod request;
 mod transfer;
 
-pub use answer::HeadAnswer;
+pub use answer::{BlockAnswer, HeadAnswer};
 pub use block::{
-    MOST_HEAD_BYTES, MOST_LINES, Search, blocks_are_bounded, blocks_stay, searches_go_on,
+    MOST_HEAD_BYTES, MOST_LINES, Search, blocks_are_bounded, blocks_stay, find_block,
+    heads_end_after_an_empty_line, searches_go_on,
 };
 pub use body::Framing;
-pub use connection::asks_to_close;
+pub use connection::{asks_to_close, has_option};
 pub use header::{Header, Headers};
-pub use request::{Head, MOST_HEADERS, one_head, read_request, read_request_on};
+pub use request::{Head, MOST_HEADERS, one_head, read_request, read_request_on, request_of};
 pub use transfer::framing;
 
 #[cfg(test)]

@@ -3,12 +3,12 @@ ghost use Rattle.std.specs.Prelude.{◌≡◌, ◌≤◌, ℕ, List, length, tak
 ghost use Rattle.httparse.specs.Grammar.{RequestHead};
 ghost use Rattle.httparse.specs.Spans.{IsWithin, IsHeaderWithin, IsRequestAt, IsRequestWithin, span_bytes, header_bytes};
 ghost use Rattle.http_head.specs.Answer.{EndsWithin};
-ghost use Rattle.http_head.specs.Block.{IsSearched, block_in, line_count};
+ghost use Rattle.http_head.specs.Block.{IsSearched, line_count};
 ghost use Rattle.http_head.specs.Request as spec;
 ghost use Rattle.http_head.specs.Texts.{HasTextName, HasTexts};
 
-use crate::answer::HeadAnswer;
-use crate::block::{MOST_HEAD_BYTES, MOST_LINES, Search, block_in, block_on, line_count};
+use crate::answer::{BlockAnswer, HeadAnswer};
+use crate::block::{MOST_LINES, Search, find_block};
 use crate::header::{Header, Headers};
 use front_base::{Bytes, NoMemory, Text};
 use httparse::Status;
@@ -89,7 +89,8 @@ fn spans_of(block: &[u8], headers: &mut [HeaderSpan]) -> Option<RequestSpans>
     }
 }
 
-fn head_of(alloc: Global, block: &[u8]) -> Result<Option<Head>, AllocError>
+/// The head that a block is, or none where it is no head of a request.
+pub fn request_of(alloc: Global, block: &[u8]) -> Result<Option<Head>, NoMemory>
     requires { line_count block.now ≤ MOST_LINES }
     ensures { IfOk result (λ o.
         MatchOption o (spec.IsNoRequest block.now) (spec.IsHeadOf block.now)) }
@@ -109,43 +110,15 @@ fn head_of(alloc: Global, block: &[u8]) -> Result<Option<Head>, AllocError>
     }))
 }
 
-fn answer_at(
-    alloc: Global,
-    bytes: &[u8],
-    block: Option<usize>,
-) -> Result<HeadAnswer<Head>, NoMemory>
-    requires value { block ≡ block_in bytes.now }
-    requires within { IfSome block (λ len. len ≤ length bytes.now) }
-    ensures answer { IfOk result (spec.IsRequestAnswer bytes.now) }
-    ensures within { IfOk result (EndsWithin bytes.now) }
-{
-    let Some(length) = block else {
-        return if bytes.len() < MOST_HEAD_BYTES {
-            Ok(HeadAnswer::More)
-        } else {
-            Ok(HeadAnswer::TooLarge)
-        };
-    };
-    let block = &bytes[..length];
-    if MOST_LINES < line_count(block) {
-        return Ok(HeadAnswer::TooLarge);
-    }
-    match head_of(alloc, block)? {
-        Some(head) => Ok(HeadAnswer::Whole { head, length }),
-        None => Ok(HeadAnswer::BadHead),
-    }
-}
-
-/// Reads the head of a request from the front of a stream. `More` asks for more bytes; the other answers are final.
+/// Reads the head of a request that a stream begins with. `More` asks for more bytes; the other answers are final.
 pub fn read_request(alloc: Global, bytes: &[u8]) -> Result<HeadAnswer<Head>, NoMemory>
     ensures answer { IfOk result (spec.IsRequestAnswer bytes.now) }
     ensures within { IfOk result (EndsWithin bytes.now) }
 {
-    answer_at(alloc, bytes, block_in(bytes))
+    read_request_on(alloc, bytes, &mut Search::new())
 }
 
-/// The same, where the bytes were searched so far. After `More` the search goes on with more bytes behind these, so
-/// that the work on a head is linear however it comes. After another answer a new search begins.
+/// The same, where the bytes were searched so far, as `find_block` says.
 pub fn read_request_on(
     alloc: Global,
     bytes: &[u8],
@@ -157,8 +130,15 @@ pub fn read_request_on(
     ensures searched { IfOk result (λ answer.
         answer ≡ HeadAnswer.More → IsSearched bytes.now search.new) }
 {
-    let block = block_on(bytes, search);
-    answer_at(alloc, bytes, block)
+    let length = match find_block(bytes, search) {
+        BlockAnswer::Whole(length) => length,
+        BlockAnswer::More => return Ok(HeadAnswer::More),
+        BlockAnswer::TooLarge => return Ok(HeadAnswer::TooLarge),
+    };
+    match request_of(alloc, &bytes[..length])? {
+        Some(head) => Ok(HeadAnswer::Whole { head, length }),
+        None => Ok(HeadAnswer::BadHead),
+    }
 }
 
 /// A block is one head at most.
