@@ -1,5 +1,9 @@
 mod EscapeLemmas
+mod FormLemmas
 mod PartsLemmas
+mod PathLemmas
 mod RequestLemmas
+mod SpellingLemmas
 mod TargetLemmas
+mod VerbLemmas
 mod WatchLemmas
