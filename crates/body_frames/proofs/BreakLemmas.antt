@@ -1,5 +1,5 @@
 -- Where a chunked body breaks.
-use Rattle.std.proofs.Common.{◌≡◌, ℕ, ◌+◌, ◌-◌, ◌^◌, ◌≤◌, ◌⊎◌, inl, inr, ◌∷◌, [], ◌++◌, List, length, min, Bool}
+use Rattle.std.proofs.Common.{◌≡◌, ℕ, ◌+◌, ◌-◌, ◌^◌, ◌≤◌, ◌⊎◌, inl, inr, ◌∷◌, [], ◌++◌, List, length, min, Bool, append_assoc}
 use Rattle.std.proofs.Common.{true, false, Some, None, ◌==◌, cond, refl, sym, ap, ◌∙◌, subst, arith}
 use Rattle.std.specs.Prelude.{IsTrue, nat_lt, nat_le}
 use Rattle.std.proofs.lemmas.Bool.Decides.{nat_tests}
@@ -45,17 +45,17 @@ bad_at framed room (Broken f) b at o e = absurd (cc o)
 
 -- ---- the byte that breaks it
 
-record FirstBreak (p : Place) (xs : List ℕ) (f : BodyFault) : Type 0 where
-  front : List ℕ
-  byte : ℕ
-  rest : List ℕ
-  split : xs ≡ front ++ byte ∷ rest
-  sound : IsTrue (is_sound (run p front))
-  awaits : is_open (run p front) ≡ true
-  fault : fault_of (step (run p front) byte) ≡ Some f
+pub record FirstBreak (p : Place) (xs : List ℕ) (f : BodyFault) : Type 0 where
+  pub front : List ℕ
+  pub byte : ℕ
+  pub rest : List ℕ
+  pub split : xs ≡ front ++ byte ∷ rest
+  pub sound : IsTrue (is_sound (run p front))
+  pub awaits : is_open (run p front) ≡ true
+  pub fault : fault_of (step (run p front) byte) ≡ Some f
 
 -- nothing breaks behind an end
-none_past : (xs : List ℕ) (p : Place) (f : BodyFault) → is_open p ≡ false → fault_of p ≡ None
+pub none_past : (xs : List ℕ) (p : Place) (f : BodyFault) → is_open p ≡ false → fault_of p ≡ None
     → fault_of (run p xs) ≡ None
 unfolding run
 none_past [] p f o e = e
@@ -67,7 +67,7 @@ none_past (b ∷ xs) p f o e = let n = by_mode p.framed p.room p.mode o e in non
     by_mode framed room Past o e = (refl, refl)
     by_mode framed room _ o e = absurd (cc (o, e))
 
-fault_or : (p : Place) → ((g : BodyFault) × (fault_of p ≡ Some g)) ⊎ (fault_of p ≡ None)
+pub fault_or : (p : Place) → ((g : BodyFault) × (fault_of p ≡ Some g)) ⊎ (fault_of p ≡ None)
 fault_or p = by_mode p.mode
   where
     by_mode : (m : Mode) → ((g : BodyFault) × (fault_mode m ≡ Some g)) ⊎ (fault_mode m ≡ None)
@@ -86,14 +86,14 @@ fault_or p = by_mode p.mode
     by_mode Done = inr refl
     by_mode Past = inr refl
 
-open_whole : (m : Mode) (f : BodyFault) → is_open_mode m ≡ true → fault_mode m ≡ Some f → ⊥
+pub open_whole : (m : Mode) (f : BodyFault) → is_open_mode m ≡ true → fault_mode m ≡ Some f → ⊥
 open_whole (Broken g) f o e = absurd (cc o)
 open_whole _ f o e = absurd (cc e)
 
 some_same : (f g : BodyFault) → Some g ≡ Some f → g ≡ f
 some_same f g e = cc e
 
-first_break : (xs : List ℕ) (p : Place) (f : BodyFault) → IsTrue (is_sound p) → is_open p ≡ true
+pub first_break : (xs : List ℕ) (p : Place) (f : BodyFault) → IsTrue (is_sound p) → is_open p ≡ true
     → fault_of (run p xs) ≡ Some f → FirstBreak p xs f
 unfolding run
 first_break [] p f s o e = absurd (open_whole p.mode f o e)
@@ -165,13 +165,14 @@ more_room framed r s Done b h = inl (refl, refl)
 more_room framed r s Past b h = inl (refl, refl)
 more_room framed r s (Broken f) b h = inl (refl, refl)
 
-broken_alike : (xs : List ℕ) (p q : Place) (at : ℕ) → q.mode ≡ p.mode → q.framed ≡ p.framed → p.room ≤ q.room
-    → fault_of (run p xs) ≡ Some (BadChunk at) → fault_of (run q xs) ≡ Some (BadChunk at)
+-- a place with more room is in the same mode after any bytes, or the body is too large for the other
+alike : (xs : List ℕ) (p q : Place) → q.mode ≡ p.mode → q.framed ≡ p.framed → p.room ≤ q.room
+    → ((run q xs).mode ≡ (run p xs).mode) ⊎ (fault_of (run p xs) ≡ Some TooLarge)
 unfolding run MoreRoom
-broken_alike [] p q at m f r e = ap fault_mode m ∙ e
-broken_alike (b ∷ xs) p q at m f r e =
+alike [] p q m f r = inl m
+alike (b ∷ xs) p q m f r =
     by_room (more_room p.framed p.room q.room p.mode b r)
-    (λ mode framed room. broken_alike xs (step p b) (step q b) at mode framed room e)
+    (λ mode framed room. alike xs (step p b) (step q b) mode framed room)
   where
     less : (t : Bool) (x y : ℕ) → x ≤ y → cond t (x - 1) x ≤ cond t (y - 1) y
     less true x y h = omega (arith, h)
@@ -179,9 +180,10 @@ broken_alike (b ∷ xs) p q at m f r e =
 
     by_room : MoreRoom p.framed p.room q.room p.mode b
         → ((step q b).mode ≡ (step p b).mode → (step q b).framed ≡ (step p b).framed
-        → (step p b).room ≤ (step q b).room → fault_of (run (step q b) xs) ≡ Some (BadChunk at))
-        → fault_of (run (step q b) xs) ≡ Some (BadChunk at)
-    by_room (inr k) next = absurd (cc (broken_run xs (step p b) TooLarge k, e))
+        → (step p b).room ≤ (step q b).room
+        → ((run (step q b) xs).mode ≡ (run (step p b) xs).mode) ⊎ (fault_of (run (step p b) xs) ≡ Some TooLarge))
+        → ((run (step q b) xs).mode ≡ (run (step p b) xs).mode) ⊎ (fault_of (run (step p b) xs) ≡ Some TooLarge)
+    by_room (inr k) next = inr (broken_run xs (step p b) TooLarge k)
     by_room (inl k) next =
         let mode : (step q b).mode ≡ (step p b).mode =
         ap (λ t. next_mode t q.room q.mode b) f ∙ ap (λ t. next_mode p.framed q.room t b) m ∙ k.0 in
@@ -189,6 +191,33 @@ broken_alike (b ∷ xs) p q at m f r e =
         next mode (ap (λ t. min (t + 1) (2 ^ 64 - 1)) f)
         (subst (λ t. cond (is_data_mode p.room p.mode) (p.room - 1) p.room ≤ cond t (q.room - 1) q.room) (sym same)
         (less (is_data_mode p.room p.mode) p.room q.room r))
+
+broken_alike : (xs : List ℕ) (p q : Place) (at : ℕ) → q.mode ≡ p.mode → q.framed ≡ p.framed → p.room ≤ q.room
+    → fault_of (run p xs) ≡ Some (BadChunk at) → fault_of (run q xs) ≡ Some (BadChunk at)
+broken_alike xs p q at m f r e = by_mode (alike xs p q m f r)
+  where
+    by_mode : ((run q xs).mode ≡ (run p xs).mode) ⊎ (fault_of (run p xs) ≡ Some TooLarge)
+        → fault_of (run q xs) ≡ Some (BadChunk at)
+    by_mode (inl k) = ap fault_mode k ∙ e
+    by_mode (inr k) = absurd (cc (k, e))
+
+-- where more is awaited, the text is no whole body
+pub open_not_chunked : (limit : ℕ) (text own : List ℕ) → is_open (run (start Chunked limit) text) ≡ true
+    → IsChunked text own → ⊥
+open_not_chunked limit text own o h =
+    let q = start Chunked (limit + length own) in
+    let done = (takes_chunked q text own refl h (omega arith)).0 in
+    by_mode done (alike text (start Chunked limit) q refl refl (omega arith))
+  where
+    not_both : (m : Mode) → is_done_mode m ≡ true → is_open_mode m ≡ true → ⊥
+    not_both Done d f = absurd (cc f)
+    not_both _ d f = absurd (cc d)
+
+    by_mode : is_done_mode (run (start Chunked (limit + length own)) text).mode ≡ true
+        → ((run (start Chunked (limit + length own)) text).mode ≡ (run (start Chunked limit) text).mode)
+        ⊎ (fault_of (run (start Chunked limit) text) ≡ Some TooLarge) → ⊥
+    by_mode d (inl k) = not_both (run (start Chunked limit) text).mode (ap is_done_mode (sym k) ∙ d) o
+    by_mode d (inr k) = open_whole (run (start Chunked limit) text).mode TooLarge o k
 
 -- ---- both
 
@@ -204,9 +233,9 @@ lost text rest body limit at e h fits =
     not_both Done d f = absurd (cc f)
     not_both _ d f = absurd (cc d)
 
-no_more : (text : List ℕ) (limit at : ℕ) → fault_of (run (start Chunked limit) text) ≡ Some (BadChunk at)
-    → Begins text → ⊥
-no_more text limit at e (rest, body, h) = by_size (either (nat_le (length body) limit))
+pub no_more : (text rest body : List ℕ) (limit at : ℕ) → fault_of (run (start Chunked limit) text) ≡ Some (BadChunk at)
+    → IsChunked (text ++ rest) body → ⊥
+no_more text rest body limit at e h = by_size (either (nat_le (length body) limit))
   where
     by_size : (nat_le (length body) limit ≡ true) ⊎ (nat_le (length body) limit ≡ false) → ⊥
     by_size (inl k) = lost text rest body limit at e h (grind (arith, nat_tests))
@@ -215,10 +244,10 @@ no_more text limit at e (rest, body, h) = by_size (either (nat_le (length body) 
         lost text rest body (length body) at
         (broken_alike text (start Chunked limit) (start Chunked (length body)) at refl refl more e) h (omega arith)
 
-start_sound : (limit : ℕ) → IsTrue (is_sound (start Chunked limit))
+pub start_sound : (limit : ℕ) → IsTrue (is_sound (start Chunked limit))
 start_sound limit = grind (arith, nat_tests)
 
-closed_stays : (ys : List ℕ) (q : Place) → is_open q ≡ false → is_open (run q ys) ≡ false
+pub closed_stays : (ys : List ℕ) (q : Place) → is_open q ≡ false → is_open (run q ys) ≡ false
 unfolding run
 closed_stays [] q c = c
 closed_stays (b ∷ ys) q c = closed_stays ys (step q b) (by_mode q.framed q.room q.mode c)
@@ -229,7 +258,7 @@ closed_stays (b ∷ ys) q c = closed_stays ys (step q b) (by_mode q.framed q.roo
     by_mode framed room (Broken f) c = refl
     by_mode framed room _ c = absurd (cc c)
 
-sound_run : (xs : List ℕ) (p : Place) → IsTrue (is_sound p) → is_open (run p xs) ≡ true → IsTrue (is_sound (run p xs))
+pub sound_run : (xs : List ℕ) (p : Place) → IsTrue (is_sound p) → is_open (run p xs) ≡ true → IsTrue (is_sound (run p xs))
 unfolding run
 sound_run [] p s o = s
 sound_run (b ∷ xs) p s o = by_open (either (is_open p)) (λ k. sound_run xs (step p b) (sound_step p b s k) o)
@@ -239,9 +268,16 @@ sound_run (b ∷ xs) p s o = by_open (either (is_open p)) (λ k. sound_run xs (s
     by_open (inl k) next = next k
     by_open (inr k) next = absurd (cc (closed_stays (b ∷ xs) p k, o))
 
+begins_sound : (p : Place) (text : List ℕ) → IsTrue (is_sound (run p text)) → is_open (run p text) ≡ true
+    → p.mode ≡ Digits 0 0 → ((own : List ℕ) → IsChunked text own → ⊥) → Begins text
+begins_sound p text s o m none =
+    let e = begins_open p text m s o in
+    record { rest = e.0; body = e.1; whole = e.2; none = none }
+
 pub awaits_begins : (limit : ℕ) (text : List ℕ) → is_open (run (start Chunked limit) text) ≡ true → Begins text
 awaits_begins limit text o =
-    begins_open (start Chunked limit) text refl (sound_run text (start Chunked limit) (start_sound limit) o) o
+    begins_sound (start Chunked limit) text (sound_run text (start Chunked limit) (start_sound limit) o) o refl
+    (λ own h. open_not_chunked limit text own o h)
 
 pub breaks_at : (limit at : ℕ) (text : List ℕ) → fault_of (run (start Chunked limit) text) ≡ Some (BadChunk at)
     → BreaksAt text at
@@ -254,11 +290,13 @@ breaks_at limit at text e =
     let one : fault_of (run p (n.front ++ n.byte ∷ [])) ≡ Some (BadChunk at) =
     ap fault_of (run-append p n.front (n.byte ∷ [])) ∙ n.fault in
     record {
-      front = n.front;
+      prefix = n.front;
       byte = n.byte;
       rest = n.rest;
       split = n.split;
       count = omega (arith, here, count);
-      begins = begins_open p n.front refl n.sound n.awaits;
-      breaks = no_more (n.front ++ n.byte ∷ []) limit at one;
+      begins = awaits_begins limit n.front n.awaits;
+      breaks = λ more body h.
+          no_more (n.front ++ n.byte ∷ []) more body limit at one
+          (subst (λ l. IsChunked l body) (sym (append_assoc n.front (n.byte ∷ []) more)) h);
     }

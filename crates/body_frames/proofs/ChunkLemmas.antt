@@ -11,18 +11,19 @@ use Rattle.body_frames.specs.declared.place.Mode.TheVariants.{Digits, Blank, Ext
 use Rattle.body_frames.specs.declared.place.Mode.TheVariants.{DataReturn, DataFeed, LastReturn, LastFeed, Done}
 use Rattle.body_frames.specs.declared.place.Place.{Place}
 use Rattle.body_frames.specs.Machine.{run, emitted, is_data, is_data_mode, next_mode, after_digits, after_line}
-use Rattle.body_frames.specs.Machine.{digit_value, is_blank, is_done, is_done_mode}
+use Rattle.body_frames.specs.Machine.{is_done, is_done_mode}
+use Rattle.body_frames.specs.Chunks.{digit_value, is_blank}
 use Rattle.body_frames.specs.Chunks.{is_hex, value_of, is_extension_byte, IsExtension, Line, print_line, IsLine}
 use Rattle.body_frames.specs.Chunks.{Chunk, print_chunk, AreChunks, IsChunked}
 use Rattle.body_frames.proofs.MachineLemmas.{run-append, emitted-append, run_nothing, emitted_nothing}
 
 -- from a mode with so much room the bytes lead to another, with these of the body
 pub record Leads (p : Place) (xs : List ℕ) (m : Mode) (room : ℕ) (out : List ℕ) : Type 0 where
-  mode : (run p xs).mode ≡ m
-  left : (run p xs).room ≡ room
-  body : emitted p xs ≡ out
+  pub mode : (run p xs).mode ≡ m
+  pub left : (run p xs).room ≡ room
+  pub body : emitted p xs ≡ out
 
-abbrev Passes : Mode → ℕ → List ℕ → Mode → ℕ → List ℕ → Type 0
+abbrev pub Passes : Mode → ℕ → List ℕ → Mode → ℕ → List ℕ → Type 0
 Passes m r xs n s out = (p : Place) → p.mode ≡ m → p.room ≡ r → Leads p xs n s out
 
 passes_nil : (m : Mode) (r : ℕ) → Passes m r [] m r []
@@ -34,7 +35,7 @@ passes_nil m r p e f =
       body = emitted_nothing p;
     }
 
-passes_append : (m n k : Mode) (r s t : ℕ) (xs ys o u : List ℕ) → Passes m r xs n s o → Passes n s ys k t u
+pub passes_append : (m n k : Mode) (r s t : ℕ) (xs ys o u : List ℕ) → Passes m r xs n s o → Passes n s ys k t u
     → Passes m r (xs ++ ys) k t (o ++ u)
 passes_append m n k r s t xs ys o u a b p e f =
     let x = a p e f in
@@ -202,7 +203,7 @@ pass_tail (b ∷ bs) m line size room t h f =
     (passes_append m (Extension (line + 1) size) (LineFeed size) room room room (59 ∷ [])
     (bs ++ 13 ∷ []) [] [] first rest)
 
-pass_line : (l : Line) (size room : ℕ) → IsLine l size
+pub pass_line : (l : Line) (size room : ℕ) → IsLine l size
     → Passes (Digits 0 0) room (print_line l) (after_line room size) room []
 pass_line l size room h =
     let n = length l.digits in
@@ -276,7 +277,7 @@ pass_chunk l (b ∷ bs) room left h some fits e =
 bytes_of : List Chunk → List ℕ
 bytes_of cs = flat_map (λ c. c.bytes) cs
 
-pass_chunks : (cs : List Chunk) (room left : ℕ) → AreChunks cs → length (flat_map (λ c. c.bytes) cs) ≤ room
+pub pass_chunks : (cs : List Chunk) (room left : ℕ) → AreChunks cs → length (flat_map (λ c. c.bytes) cs) ≤ room
     → left ≡ room - length (flat_map (λ c. c.bytes) cs)
     → Passes (Digits 0 0) room (flat_map print_chunk cs) (Digits 0 0) left (flat_map (λ c. c.bytes) cs)
 pass_chunks [] room left h fits e =

@@ -1,9 +1,9 @@
 -- What the machine takes to its end is a text of the grammar.
 use Rattle.std.proofs.Common.{suc, zero, ◌≡◌, ℕ, ◌+◌, ◌-◌, ◌*◌, ◌<◌, ◌≤◌, ◌⊎◌, inl, inr, ◌==◌, ◌∷◌, [], ◌++◌}
-use Rattle.std.proofs.Common.{List, length, Bool, true, false, not, ◌&&◌, nat_lt, refl, sym, ap, ◌∙◌, subst, arith}
+use Rattle.std.proofs.Common.{List, length, Bool, true, false, nat_lt, refl, sym, ap, ◌∙◌, subst, arith}
 use Rattle.std.proofs.Common.{append_assoc, append-nil, cond}
 use Rattle.std.specs.Prelude.{IsTrue, nat_le}
-use Rattle.std.specs.List.{list_all, flat_map}
+use Rattle.std.specs.List.{flat_map}
 use Rattle.std.proofs.lemmas.Bool.Decides.{nat_tests}
 use Rattle.body_frames.specs.declared.frame.BodyFault.TheVariants.{BadChunk, TooLarge}
 use Rattle.body_frames.specs.declared.place.Mode.{Mode}
@@ -12,11 +12,13 @@ use Rattle.body_frames.specs.declared.place.Mode.TheVariants.{DataReturn, DataFe
 use Rattle.body_frames.specs.declared.place.Mode.TheVariants.{Broken}
 use Rattle.body_frames.specs.declared.place.Place.{Place}
 use Rattle.body_frames.specs.Machine.{step, run, emitted, is_data, is_data_mode, next_mode, after_digits, after_line}
-use Rattle.body_frames.specs.Machine.{digit_value, is_blank, is_done, is_done_mode, is_open, is_open_mode, is_sound}
+use Rattle.body_frames.specs.Machine.{is_done, is_done_mode, is_open, is_open_mode, is_sound}
 use Rattle.body_frames.specs.Machine.{is_sound_mode}
-use Rattle.body_frames.specs.Chunks.{is_hex, value_of, is_extension_byte, IsExtension, Line, print_line, IsLine}
-use Rattle.body_frames.specs.Chunks.{Chunk, print_chunk, IsChunked, Begins, last_text}
+use Rattle.body_frames.specs.Chunks.{digit_value, print_line, IsLine}
+use Rattle.body_frames.specs.Chunks.{Chunk, print_chunk, IsChunked, last_text}
 use Rattle.body_frames.proofs.MachineLemmas.{sound_step}
+use Rattle.body_frames.proofs.SizeLines.{GoodExtension, GoodTail, GoodDigits, InLine, GoodLine, line_of, back_tail}
+use Rattle.body_frames.proofs.SizeLines.{back_digits, back_extension, in_line, line_next, same_byte, lower}
 
 record GoodData (n : ℕ) (xs body : List ℕ) : Type 0 where
   bytes : List ℕ
@@ -30,37 +32,10 @@ record GoodData (n : ℕ) (xs body : List ℕ) : Type 0 where
 abbrev GoodAfter : ℕ → List ℕ → List ℕ → Type 0
 GoodAfter size xs body = ((size ≡ 0) × (xs ≡ 13 ∷ 10 ∷ []) × (body ≡ [])) ⊎ ((0 < size) × GoodData size xs body)
 
-record GoodExtension (line size : ℕ) (xs body : List ℕ) : Type 0 where
-  bytes : List ℕ
-  rest : List ℕ
-  ok : list_all is_extension_byte bytes ≡ true
-  short : line + length bytes ≤ 254
-  split : xs ≡ bytes ++ 13 ∷ 10 ∷ rest
-  good : GoodAfter size rest body
-
-record GoodTail (line size : ℕ) (xs body : List ℕ) : Type 0 where
-  blanks : List ℕ
-  extension : List ℕ
-  rest : List ℕ
-  gap : list_all is_blank blanks ≡ true
-  ext : IsExtension extension
-  short : line + length blanks + length extension ≤ 254
-  split : xs ≡ blanks ++ (extension ++ 13 ∷ 10 ∷ rest)
-  good : GoodAfter size rest body
-
-record GoodDigits (line size : ℕ) (xs body : List ℕ) : Type 0 where
-  digits : List ℕ
-  after : List ℕ
-  some : 0 < line + length digits
-  few : line + length digits ≤ 16
-  hex : list_all is_hex digits ≡ true
-  split : xs ≡ digits ++ after
-  tail : GoodTail (line + length digits) (value_of size digits) after body
-
 abbrev Good : Mode → List ℕ → List ℕ → Type 0
-Good (Digits line size) xs body = GoodDigits line size xs body
-Good (Blank line size) xs body = GoodTail line size xs body
-Good (Extension line size) xs body = GoodExtension line size xs body
+Good (Digits line size) xs body = GoodDigits GoodAfter line size xs body
+Good (Blank line size) xs body = GoodTail GoodAfter line size xs body
+Good (Extension line size) xs body = GoodExtension GoodAfter line size xs body
 Good (LineFeed size) xs body = (rest : List ℕ) × (xs ≡ 10 ∷ rest) × GoodAfter size rest body
 Good (Data n) xs body = GoodData n xs body
 Good DataReturn xs body = (more : List ℕ) × (xs ≡ 13 ∷ 10 ∷ more) × IsChunked more body
@@ -77,50 +52,8 @@ which : (t : Bool) (m n : Mode) (xs body : List ℕ) → Good (cond t m n) xs bo
 which true m n xs body h = inl (refl, h)
 which false m n xs body h = inr (refl, h)
 
-both_true : (t u : Bool) → t && u ≡ true → (t ≡ true) × (u ≡ true)
-both_true true u e = (refl, e)
-both_true false u e = absurd (cc e)
-
-same_byte : (b n : ℕ) → b == n ≡ true → b ≡ n
-same_byte b n e = grind (arith, nat_tests)
-
-lower : (a b : ℕ) → nat_lt a b ≡ true → a < b
-lower a b e = grind (arith, nat_tests)
-
--- a chunk before what is chunked
-record GoodLine (size : ℕ) (xs : List ℕ) (rest : List ℕ) : Type 0 where
-  line : Line
-  is : IsLine line size
-  split : xs ≡ print_line line ++ rest
-
-line_of : (xs body : List ℕ) → GoodDigits 0 0 xs body
-    → (size : ℕ) × (rest : List ℕ) × GoodLine size xs rest × GoodAfter size rest body
-line_of xs body h =
-    let l : Line = record { digits = h.digits; blanks = h.tail.blanks; extension = h.tail.extension } in (
-      value_of 0 h.digits,
-      h.tail.rest,
-      record {
-        line = l;
-        is = record {
-          some = omega (arith, h.some);
-          few = omega (arith, h.few);
-          hex = h.hex;
-          gap = h.tail.gap;
-          extension = h.tail.ext;
-          short = omega (arith, h.tail.short);
-          value = refl;
-        };
-        split = h.split ∙ ap (λ r. h.digits ++ r) h.tail.split
-            ∙ regroup h.digits h.tail.blanks h.tail.extension h.tail.rest;
-      },
-      h.tail.good,
-    )
-  where
-    regroup : (a b c r : List ℕ) → a ++ (b ++ (c ++ 13 ∷ 10 ∷ r)) ≡ (a ++ (b ++ (c ++ 13 ∷ 10 ∷ []))) ++ r
-    regroup a b c r = simp append_assoc
-
-chunked_of : (xs body : List ℕ) → GoodDigits 0 0 xs body → IsChunked xs body
-chunked_of xs body h = by_after (line_of xs body h)
+chunked_of : (xs body : List ℕ) → GoodDigits GoodAfter 0 0 xs body → IsChunked xs body
+chunked_of xs body h = by_after (line_of GoodAfter xs body h)
   where
     regroup : (l d t r : List ℕ) → l ++ (d ++ 13 ∷ 10 ∷ (t ++ r)) ≡ ((l ++ (d ++ 13 ∷ 10 ∷ [])) ++ t) ++ r
     regroup l d t r = simp append_assoc
@@ -150,151 +83,6 @@ chunked_of xs body h = by_after (line_of xs body h)
           body_is = d.body_is ∙ ap (λ r. d.bytes ++ r) d.chunked.body_is;
         }
 
--- ---- one byte back
-
-back_line : (size b : ℕ) (xs body : List ℕ) → b ≡ 13 → Good (LineFeed size) xs body
-    → (rest : List ℕ) × (b ∷ xs ≡ 13 ∷ 10 ∷ rest) × GoodAfter size rest body
-back_line size b xs body e h = (h.0, cons b 13 xs (10 ∷ h.0) e h.1, h.2)
-  where
-    cons : (a c : ℕ) (k l : List ℕ) → a ≡ c → k ≡ l → a ∷ k ≡ c ∷ l
-    cons a c k l e f = cc
-
-back_tail : (framed line size b : ℕ) (xs body : List ℕ) → line ≤ 254 → Good (after_digits framed line size b) xs body
-    → GoodTail line size (b ∷ xs) body
-back_tail framed line size b xs body short h = by_first (which (b == 13) (LineFeed size) _ xs body h)
-  where
-    by_third : (((b == 59 && nat_lt line 254) ≡ true) × GoodExtension (line + 1) size xs body)
-        ⊎ (((b == 59 && nat_lt line 254) ≡ false) × ⊥) → GoodTail line size (b ∷ xs) body
-    by_third (inr k) = absurd k.1
-    by_third (inl k) =
-        let e = both_true (b == 59) (nat_lt line 254) k.0 in record {
-          blanks = [];
-          extension = b ∷ k.1.bytes;
-          rest = k.1.rest;
-          gap = refl;
-          ext = (same_byte b 59 e.0, k.1.ok);
-          short = omega (arith, k.1.short);
-          split = ap (λ l. b ∷ l) k.1.split;
-          good = k.1.good;
-        }
-
-    by_second : (((is_blank b && nat_lt line 254) ≡ true) × GoodTail (line + 1) size xs body)
-        ⊎
-        (((is_blank b && nat_lt line 254) ≡ false)
-        × Good (cond (b == 59 && nat_lt line 254) (Extension (line + 1) size) (Broken (BadChunk framed))) xs body)
-        → GoodTail line size (b ∷ xs) body
-    by_second (inl k) =
-        let e = both_true (is_blank b) (nat_lt line 254) k.0 in record {
-          blanks = b ∷ k.1.blanks;
-          extension = k.1.extension;
-          rest = k.1.rest;
-          gap = rw e.0 k.1.gap;
-          ext = k.1.ext;
-          short = omega (arith, k.1.short);
-          split = ap (λ l. b ∷ l) k.1.split;
-          good = k.1.good;
-        }
-    by_second (inr k) =
-        by_third
-        (which (b == 59 && nat_lt line 254) (Extension (line + 1) size) (Broken (BadChunk framed)) xs body k.1)
-
-    by_first : ((b == 13 ≡ true) × Good (LineFeed size) xs body)
-        ⊎
-        ((b == 13 ≡ false)
-        × Good
-        (cond (is_blank b && nat_lt line 254) (Blank (line + 1) size)
-        (cond (b == 59 && nat_lt line 254) (Extension (line + 1) size) (Broken (BadChunk framed)))) xs body)
-        → GoodTail line size (b ∷ xs) body
-    by_first (inl k) =
-        let r = back_line size b xs body (same_byte b 13 k.0) k.1 in
-        record {
-          blanks = [];
-          extension = [];
-          rest = r.0;
-          gap = refl;
-          ext = tt;
-          short = omega arith;
-          split =
-              r.1;
-          good = r.2;
-        }
-    by_first (inr k) = by_second (which (is_blank b && nat_lt line 254) (Blank (line + 1) size) _ xs body k.1)
-
-back_digits : (framed room line size b : ℕ) (xs body : List ℕ) → line ≤ 16
-    → Good (next_mode framed room (Digits line size) b) xs body → GoodDigits line size (b ∷ xs) body
-back_digits framed room line size b xs body short h =
-    by_first (which (is_hex b && nat_lt line 16) (Digits (line + 1) (size * 16 + digit_value b)) _ xs body h)
-  where
-    by_second : ((line == 0 ≡ true) × ⊥) ⊎ ((line == 0 ≡ false) × Good (after_digits framed line size b) xs body)
-        → GoodDigits line size (b ∷ xs) body
-    by_second (inl k) = absurd k.1
-    by_second (inr k) =
-        let some : 0 < line = grind (arith, nat_tests, k.0) in
-        let t : GoodTail line size (b ∷ xs) body = back_tail framed line size b xs body (omega arith) k.1 in
-        let same : line + 0 ≡ line = omega arith in
-        record {
-          digits = [];
-          after = b ∷ xs;
-          some = omega arith;
-          few = omega arith;
-          hex = refl;
-          split = refl;
-          tail =
-              subst (λ n. GoodTail n size (b ∷ xs) body) (sym same) t;
-        }
-
-    by_first : (((is_hex b && nat_lt line 16) ≡ true) × GoodDigits (line + 1) (size * 16 + digit_value b) xs body)
-        ⊎
-        (((is_hex b && nat_lt line 16) ≡ false)
-        × Good (cond (line == 0) (Broken (BadChunk framed)) (after_digits framed line size b)) xs body)
-        → GoodDigits line size (b ∷ xs) body
-    by_first (inl k) =
-        let e = both_true (is_hex b) (nat_lt line 16) k.0 in
-        let g = k.1 in
-        let same : line + 1 + length g.digits ≡ line + length (b ∷ g.digits) = omega arith in
-        record {
-          digits = b ∷ g.digits;
-          after = g.after;
-          some = omega arith;
-          few = omega (arith, g.few);
-          hex = rw e.0 g.hex;
-          split = ap (λ l. b ∷ l) g.split;
-          tail = subst (λ n. GoodTail n (value_of (size * 16 + digit_value b) g.digits) g.after body) same g.tail;
-        }
-    by_first (inr k) =
-        by_second (which (line == 0) (Broken (BadChunk framed)) (after_digits framed line size b) xs body k.1)
-
-back_extension : (framed room line size b : ℕ) (xs body : List ℕ) → line ≤ 254
-    → Good (next_mode framed room (Extension line size) b) xs body → GoodExtension line size (b ∷ xs) body
-back_extension framed room line size b xs body short h = by_first (which (b == 13) (LineFeed size) _ xs body h)
-  where
-    by_second : (b == 13 ≡ false)
-        → (((not (b == 10) && nat_lt line 254) ≡ true) × GoodExtension (line + 1) size xs body)
-        ⊎ (((not (b == 10) && nat_lt line 254) ≡ false) × ⊥) → GoodExtension line size (b ∷ xs) body
-    by_second f (inr k) = absurd k.1
-    by_second f (inl k) =
-        let e = both_true (not (b == 10)) (nat_lt line 254) k.0 in record {
-          bytes = b ∷ k.1.bytes;
-          rest = k.1.rest;
-          ok = rw (f, e.0) k.1.ok;
-          short = omega (arith, k.1.short);
-          split = ap (λ l. b ∷ l) k.1.split;
-          good = k.1.good;
-        }
-
-    by_first : ((b == 13 ≡ true) × Good (LineFeed size) xs body)
-        ⊎
-        ((b == 13 ≡ false)
-        × Good
-        (cond (not (b == 10) && nat_lt line 254) (Extension (line + 1) size) (Broken (BadChunk framed))) xs body)
-        → GoodExtension line size (b ∷ xs) body
-    by_first (inl k) =
-        let r = back_line size b xs body (same_byte b 13 k.0) k.1 in
-        record { bytes = []; rest = r.0; ok = refl; short = omega arith; split = r.1; good = r.2 }
-    by_first (inr k) =
-        by_second k.0
-        (which (not (b == 10) && nat_lt line 254) (Extension (line + 1) size) (Broken (BadChunk framed)) xs body k.1)
-
 back_after : (room size : ℕ) (xs body : List ℕ) → Good (after_line room size) xs body → GoodAfter size xs body
 back_after room size xs body h = by_first (which (size == 0) LastReturn _ xs body h)
   where
@@ -320,16 +108,29 @@ back_expect framed wanted b next xs body h = by_first (which (b == wanted) next 
     by_first (inl k) = (same_byte b wanted k.0, k.1)
     by_first (inr k) = absurd k.1
 
+-- a mode within a size line, or broken there, and what it is in `Good`
+to_line : (m : Mode) (xs body : List ℕ) → in_line m ≡ true → Good m xs body → InLine GoodAfter m xs body
+to_line (Digits line size) xs body e h = h
+to_line (Blank line size) xs body e h = h
+to_line (Extension line size) xs body e h = h
+to_line (LineFeed size) xs body e h = h
+to_line (Broken f) xs body e h = h
+to_line _ xs body e h = absurd (cc e)
+
 cons_same : (a c : ℕ) (k l : List ℕ) → a ≡ c → k ≡ l → a ∷ k ≡ c ∷ l
 cons_same a c k l e f = cc
 
 back : (framed room : ℕ) (m : Mode) (b : ℕ) (xs out : List ℕ) → IsTrue (is_sound_mode room m)
     → Good (next_mode framed room m b) xs out → Good m (b ∷ xs) ((cond (is_data_mode room m) (b ∷ []) []) ++ out)
 back framed room (Digits line size) b xs out s h =
-    back_digits framed room line size b xs out (grind (arith, nat_tests)) h
-back framed room (Blank line size) b xs out s h = back_tail framed line size b xs out (grind (arith, nat_tests)) h
+    back_digits GoodAfter framed room line size b xs out (grind (arith, nat_tests))
+    (to_line (next_mode framed room (Digits line size) b) xs out (line_next framed room (Digits line size) b refl) h)
+back framed room (Blank line size) b xs out s h =
+    back_tail GoodAfter framed line size b xs out (grind (arith, nat_tests))
+    (to_line (after_digits framed line size b) xs out (line_next framed room (Blank line size) b refl) h)
 back framed room (Extension line size) b xs out s h =
-    back_extension framed room line size b xs out (grind (arith, nat_tests)) h
+    back_extension GoodAfter framed room line size b xs out (grind (arith, nat_tests))
+    (to_line (next_mode framed room (Extension line size) b) xs out (line_next framed room (Extension line size) b refl) h)
 back framed room (LineFeed size) b xs out s h =
     let k = back_expect framed 10 b (after_line room size) xs out h in
     (xs, cons_same b 10 xs xs k.0 refl, back_after room size xs out k.1)
@@ -509,7 +310,7 @@ after_ends zero = record { rest = 13 ∷ 10 ∷ []; out = []; good = inl (refl, 
 after_ends (suc n) = let d = data_ends (suc n) in
     record { rest = d.rest; out = d.out; good = inr (omega arith, d.good) }
 
-tail_ends : (line size : ℕ) → line ≤ 254 → (rest : List ℕ) × (out : List ℕ) × GoodTail line size rest out
+tail_ends : (line size : ℕ) → line ≤ 254 → (rest : List ℕ) × (out : List ℕ) × GoodTail GoodAfter line size rest out
 tail_ends line size h = let a = after_ends size in (
   13 ∷ 10 ∷ a.rest,
   a.out,
@@ -560,7 +361,7 @@ digits_end (suc line) size h =
             hex = refl;
             split =
                 refl;
-            tail = subst (λ n. GoodTail n size t.0 t.1) (sym same) t.2;
+            tail = subst (λ n. GoodTail GoodAfter n size t.0 t.1) (sym same) t.2;
           };
     }
 
@@ -592,7 +393,7 @@ ends room (Broken f) s o = absurd (cc o)
 
 -- where bytes are awaited, some make a text of the grammar
 pub begins_open : (p : Place) (text : List ℕ) → p.mode ≡ Digits 0 0 → IsTrue (is_sound (run p text))
-    → is_open (run p text) ≡ true → Begins text
+    → is_open (run p text) ≡ true → (rest : List ℕ) × (body : List ℕ) × IsChunked (text ++ rest) body
 begins_open p text m s o =
     let e = ends (run p text).room (run p text).mode s o in
     (e.rest, emitted p text ++ e.out, chunked_before p text e.rest e.out m e.good)

@@ -3,3 +3,7 @@ pub mod ChunkLemmas
 pub mod ChunkSound
 pub mod BreakLemmas
 pub mod WrittenLemmas
+pub mod SizeLines
+pub mod OverLemmas
+pub mod BodyLemmas
+pub mod FirstLemmas

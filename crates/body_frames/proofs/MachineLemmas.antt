@@ -16,8 +16,9 @@ use Rattle.body_frames.specs.declared.place.Mode.TheVariants.{Broken}
 use Rattle.body_frames.specs.declared.place.Place.{Place}
 use Rattle.body_frames.specs.Machine.{step, run, emitted, is_data, is_open, is_open_mode, is_framing, is_sound}
 use Rattle.body_frames.specs.Machine.{is_sound_mode, most_left, framing_left, next_mode, is_data_mode, after_digits}
-use Rattle.body_frames.specs.Machine.{after_line, digit_value, fault_of, fault_mode, is_done, is_done_mode, data_left}
+use Rattle.body_frames.specs.Machine.{after_line, fault_of, fault_mode, is_done, is_done_mode, data_left}
 use Rattle.body_frames.specs.Machine.{data_left_mode, jump, jump_mode}
+use Rattle.body_frames.specs.Chunks.{digit_value}
 
 pub run-append : (p : Place) (xs ys : List ℕ) → run p (xs ++ ys) ≡ run (run p xs) ys
 unfolding run

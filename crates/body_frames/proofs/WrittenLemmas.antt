@@ -9,7 +9,7 @@ use Rattle.std.specs.Str.Parse.{AllDigits, digits_value_after}
 use Rattle.std.proofs.lemmas.Fmt.{digits_is_IsNumeral}
 use Rattle.std.proofs.lemmas.Grind.{pow_more}
 use Rattle.std.proofs.lemmas.Bool.Decides.{nat_tests}
-use Rattle.body_frames.specs.Machine.{digit_value}
+use Rattle.body_frames.specs.Chunks.{digit_value}
 use Rattle.body_frames.specs.Chunks.{is_hex, value_of, Line, print_line, IsLine, print_chunk}
 use Rattle.body_frames.specs.Chunks.{IsChunked, IsPiece, chunk_text, last_text}
 use Rattle.body_frames.proofs.ChunkSound.{no_chunk}

@@ -1,15 +1,27 @@
 -- The grammar of a chunked body (RFC 9112, section 7.1), without trailers.
-use Rattle.std.specs.Prelude.{◌≡◌, ℕ, ◌+◌, ◌*◌, ◌<◌, ◌≤◌, ◌^◌, ◌-◌, min, ◌==◌, not, nat_lt, ◌&&◌, Bool, true, false}
+use Rattle.std.specs.Prelude.{◌≡◌, ℕ, ◌+◌, ◌*◌, ◌<◌, ◌≤◌, ◌^◌, ◌-◌, min, ◌==◌, not, nat_lt, nat_le, ◌&&◌, ◌||◌, Bool, true, false}
+use Rattle.std.specs.Prelude.{if◌then◌else◌}
 use Rattle.std.specs.Prelude.{List, [], ◌∷◌, ◌++◌, length}
 use Rattle.std.specs.List.{list_all, flat_map}
 use Rattle.std.specs.Fmt.{digits}
-use Rattle.body_frames.specs.Machine.{digit_value, is_blank}
+
+-- a space or a tab
+abbrev pub is_blank : ℕ → Bool
+is_blank b = b == 32 || b == 9
+
+-- a digit's value, or 16
+unfoldable pub digit_value : ℕ → ℕ
+digit_value b =
+    if nat_le 48 b && nat_le b 57 then b - 48
+    else if nat_le 97 b && nat_le b 102 then b - 87
+    else if nat_le 65 b && nat_le b 70 then b - 55
+    else 16
 
 -- a hexadecimal digit
 abbrev pub is_hex : ℕ → Bool
 is_hex b = nat_lt (digit_value b) 16
 
--- the number that digits write, behind one that stands before them
+-- the number that digits write after one that stands before them
 abbrev pub value_of : ℕ → List ℕ → ℕ
 value_of n [] = n
 value_of n (d ∷ ds) = value_of (n * 16 + digit_value d) ds
@@ -66,20 +78,23 @@ pub record IsChunked (text body : List ℕ) : Type 0 where
   pub text_is : text ≡ flat_map print_chunk chunks ++ (print_line last ++ 13 ∷ 10 ∷ [])
   pub body_is : body ≡ flat_map (λ c. c.bytes) chunks
 
--- some more makes it a chunked body
-abbrev pub Begins : List ℕ → Type 0
-Begins text = (rest : List ℕ) × (body : List ℕ) × IsChunked (text ++ rest) body
+-- the text is the first part of a chunked body: some more makes it one, and it is none yet
+pub record Begins (text : List ℕ) : Type 0 where
+  pub rest : List ℕ
+  pub body : List ℕ
+  pub whole : IsChunked (text ++ rest) body
+  pub none : (own : List ℕ) → IsChunked text own → ⊥
 
--- the text breaks at a byte: what stands before it begins a chunked body, and with it nothing does. So many bytes stand
--- before it, as far as 64 bits count
+-- the text breaks at a byte: what stands before it is the first part of a chunked body, and nothing that begins with
+-- both is one. So many bytes stand before it, as far as 64 bits count
 pub record BreaksAt (text : List ℕ) (at : ℕ) : Type 0 where
-  pub front : List ℕ
+  pub prefix : List ℕ
   pub byte : ℕ
   pub rest : List ℕ
-  pub split : text ≡ front ++ byte ∷ rest
-  pub count : at ≡ min (length front) (2 ^ 64 - 1)
-  pub begins : Begins front
-  pub breaks : Begins (front ++ byte ∷ []) → ⊥
+  pub split : text ≡ prefix ++ byte ∷ rest
+  pub count : at ≡ min (length prefix) (2 ^ 64 - 1)
+  pub begins : Begins prefix
+  pub breaks : (more body : List ℕ) → IsChunked (prefix ++ byte ∷ more) body → ⊥
 
 -- what a chunk may carry
 abbrev pub IsPiece : List ℕ → Type 0

@@ -1,6 +1,9 @@
 -- A body in its frame (RFC 9112, sections 6.1, 6.2, 6.3 and 7.1): a place in it, and how each byte moves the place.
-use Rattle.std.specs.Prelude.{◌≡◌, ℕ, ◌+◌, ◌-◌, ◌*◌, ◌^◌, ◌≤◌, min, ◌==◌, not, nat_lt, nat_le, ◌&&◌, ◌||◌, Bool}
-use Rattle.std.specs.Prelude.{true, false, if◌then◌else◌, List, [], ◌∷◌, ◌++◌, length, take, drop, Option, Some, None}
+use Rattle.std.specs.Prelude.{◌≡◌, ℕ, ◌+◌, ◌-◌, ◌*◌, ◌^◌, ◌≤◌, min, ◌==◌, not, nat_lt, nat_le, ◌&&◌, Bool}
+use Rattle.std.specs.Prelude.{true, false, if◌then◌else◌, List, [], ◌∷◌, ◌++◌, length, take, drop, Some}
+use Rattle.body_frames.specs.Chunks.{is_blank, digit_value}
+pub use Rattle.body_frames.specs.Progress.{is_done, is_done_mode, fault_of, fault_mode, ends_here, ends_here_mode}
+pub use Rattle.body_frames.specs.Progress.{is_open, is_open_mode, framing_left, most_left}
 use Rattle.body_frames.specs.declared.frame.BodyFault.{BodyFault}
 use Rattle.body_frames.specs.declared.frame.BodyFault.TheVariants.{BadChunk, TooLarge}
 use Rattle.body_frames.specs.declared.frame.Frame.{Frame}
@@ -10,17 +13,6 @@ use Rattle.body_frames.specs.declared.place.Mode.TheVariants.{Whole, Open, Digit
 use Rattle.body_frames.specs.declared.place.Mode.TheVariants.{DataReturn, DataFeed, LastReturn, LastFeed, Done, Past}
 use Rattle.body_frames.specs.declared.place.Mode.TheVariants.{Broken}
 use Rattle.body_frames.specs.declared.place.Place.{Place}
-
-abbrev pub is_blank : ℕ → Bool
-is_blank b = b == 32 || b == 9
-
--- a digit's value, or 16
-unfoldable pub digit_value : ℕ → ℕ
-digit_value b =
-    if nat_le 48 b && nat_le b 57 then b - 48
-    else if nat_le 97 b && nat_le b 102 then b - 87
-    else if nat_le 65 b && nat_le b 70 then b - 55
-    else 16
 
 -- a fault at the byte that comes
 abbrev pub bad : ℕ → Mode
@@ -88,39 +80,6 @@ is_data_mode room _ = false
 abbrev pub is_data : Place → Bool
 is_data p = is_data_mode p.room p.mode
 
-abbrev pub is_done_mode : Mode → Bool
-is_done_mode Done = true
-is_done_mode _ = false
-
-abbrev pub fault_mode : Mode → Option BodyFault
-fault_mode (Broken fault) = Some fault
-fault_mode _ = None
-
-abbrev pub is_done : Place → Bool
-is_done p = is_done_mode p.mode
-
-abbrev pub fault_of : Place → Option BodyFault
-fault_of p = fault_mode p.mode
-
--- an end of the input here leaves a whole body
-abbrev pub ends_here_mode : Mode → Bool
-ends_here_mode Done = true
-ends_here_mode Open = true
-ends_here_mode _ = false
-
-abbrev pub ends_here : Place → Bool
-ends_here p = ends_here_mode p.mode
-
--- more bytes are awaited
-abbrev pub is_open_mode : Mode → Bool
-is_open_mode Done = false
-is_open_mode Past = false
-is_open_mode (Broken fault) = false
-is_open_mode _ = true
-
-abbrev pub is_open : Place → Bool
-is_open p = is_open_mode p.mode
-
 -- the byte that comes is none of the body's
 abbrev pub is_framing : Place → Bool
 is_framing p = is_open p && not (is_data p)
@@ -177,23 +136,6 @@ is_sound_mode room _ = true
 
 abbrev pub is_sound : Place → Bool
 is_sound p = is_sound_mode p.room p.mode
-
--- how many bytes may come at most, beside those of the room
-abbrev pub framing_left : Mode → ℕ
-framing_left Open = 1
-framing_left (Digits line size) = 300 - line
-framing_left (Blank line size) = 300 - line
-framing_left (Extension line size) = 300 - line
-framing_left (LineFeed size) = 20
-framing_left DataReturn = 310
-framing_left DataFeed = 305
-framing_left LastReturn = 10
-framing_left LastFeed = 5
-framing_left _ = 0
-
--- a bound on the bytes that are still awaited
-abbrev pub most_left : Place → ℕ
-most_left p = p.room * 1000 + framing_left p.mode
 
 -- the bytes of the piece that a feed took, and the body's among them
 pub record Took (old new : Place) (piece : List ℕ) (taken from to : ℕ) : Type 0 where

@@ -1,6 +1,7 @@
 // A place in a body, and how the bytes that come move it.
 ghost use Rattle.std.specs.Prelude.{◌≡◌, ◌<◌, ◌≤◌, ◌+◌, ◌-◌, ℕ, false, true, [], None, IsTrue};
 ghost use Rattle.std.specs.Prelude.{length, take, drop, min};
+ghost use Rattle.body_frames.specs.Chunks as chunks;
 ghost use Rattle.body_frames.specs.Machine as spec;
 
 use crate::frame::BodyFault;
@@ -14,7 +15,7 @@ pub enum Mode {
     Open,
     /// A digit of a size line, or what may follow one. `line` counts the bytes of the line so far.
     Digits { line: u64, size: u64 },
-    /// A blank behind the digits, or what may follow one.
+    /// A blank after the digits, or what may follow one.
     Blank { line: u64, size: u64 },
     /// A byte of an extension, or the line's end.
     Extension { line: u64, size: u64 },
@@ -22,15 +23,15 @@ pub enum Mode {
     LineFeed(u64),
     /// So many bytes of a chunk, one at least.
     Data(u64),
-    /// The CR and the LF behind a chunk's bytes.
+    /// The CR and the LF after a chunk's bytes.
     DataReturn,
     DataFeed,
-    /// The CR and the LF behind the last size line.
+    /// The CR and the LF after the last size line.
     LastReturn,
     LastFeed,
     /// Nothing: the body is whole.
     Done,
-    /// A byte came behind the end. No decoder gets here.
+    /// A byte came after the end. No decoder gets here.
     Past,
     Broken(BodyFault),
 }
@@ -43,9 +44,9 @@ pub struct Place {
     pub room: u64,
 }
 
-#[tactic(auto, unfolding(crate::specs::Machine::digit_value))]
+#[tactic(auto, unfolding(crate::specs::Chunks::digit_value))]
 fn digit_value(b: u8) -> u64
-    ensures { result ≡ spec.digit_value b }
+    ensures { result ≡ chunks.digit_value b }
 {
     match b {
         b'0'..=b'9' => (b - b'0') as u64,
@@ -130,7 +131,7 @@ fn after_extension(framed: u64, line: u64, size: u64, b: u8) -> Mode
     }
 }
 
-// What is awaited behind a byte that isn't one of the body's.
+// What is awaited after a byte that isn't one of the body's.
 fn next_mode(place: &Place, b: u8) -> Mode
     requires sound { IsTrue (spec.is_sound place.now) }
     requires framing { spec.is_framing place.now ≡ true }

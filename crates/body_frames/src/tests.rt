@@ -63,7 +63,7 @@ fn decoded(
 #[test]
 fn bodies_are_the_same_however_they_are_cut(rt: HostRuntime) -> Result<(), Fail> {
     let cases = [
-        // RFC 9112, section 7.1: sizes in hexadecimal of either case, and zeros in front of them.
+        // RFC 9112, section 7.1: sizes in hexadecimal of either case, and zeros before them.
         (Frame::Chunked, "3\r\nabc\r\n0\r\n\r\n", "abc", End::Whole),
         (
             Frame::Chunked,
@@ -78,7 +78,7 @@ fn bodies_are_the_same_however_they_are_cut(rt: HostRuntime) -> Result<(), Fail>
             End::Whole,
         ),
         (Frame::Chunked, "0\r\n\r\n", "", End::Whole),
-        // Section 7.1.1: extensions are skipped, with the blanks in front of them.
+        // Section 7.1.1: extensions are skipped, with the blanks before them.
         (
             Frame::Chunked,
             "1 \t;name=\"a;b\"\r\na\r\n000;last\r\n\r\n",
@@ -105,7 +105,7 @@ fn bodies_are_the_same_however_they_are_cut(rt: HostRuntime) -> Result<(), Fail>
         (Frame::Chunked, "1\r\nab", "a", End::Bad(4)),
         (Frame::Chunked, "1\r\na\n", "a", End::Bad(4)),
         (Frame::Chunked, "00000000000000001\r\n", "", End::Bad(16)),
-        // A size that passes the limit is judged at the end of its line.
+        // A size that exceeds the limit is judged at the end of its line.
         (Frame::Chunked, "14\r\n", "", End::More),
         (Frame::Chunked, "15\r\n", "", End::Large),
         (Frame::Chunked, "2\r\nab\r\n13\r\n", "ab", End::Large),
