@@ -14,7 +14,7 @@ mod request;
 mod times;
 mod user;
 
-pub use lines::line;
+pub use lines::{line, push_line};
 
 #[cfg(test)]
 mod tests;

@@ -1,4 +1,4 @@
-ghost use Rattle.std.specs.Prelude.{◌≡◌, ◌++◌, IfOk};
+ghost use Rattle.std.specs.Prelude.{◌≡◌, ◌++◌, IfOk, OnOk, OnErr};
 ghost use Rattle.event_text.specs.Members.{joined};
 ghost use Rattle.event_text.specs.Line as spec;
 
@@ -37,4 +37,15 @@ pub fn line(alloc: Global, event: &Event) -> Result<Bytes, NoMemory>
     push_times(alloc, &mut out, event)?;
     out.push(b'}')?;
     Ok(Bytes::new(out))
+}
+
+/// Writes the event's line after what is there, without a line feed. Where memory runs out, what is there stays as it
+/// was.
+pub fn push_line(out: &mut Vec<u8>, event: &Event) -> Result<(), NoMemory>
+    ensures ok { OnOk result (out.new.items ≡ out.old.items ++ spec.line_text event.now) }
+    ensures kept { OnErr result (out.new.items ≡ out.old.items) }
+{
+    let line = line(*out.allocator(), event)?;
+    out.extend_from_slice(line.as_slice())?;
+    Ok(())
 }
