@@ -14,7 +14,8 @@ mod request;
 mod times;
 mod user;
 
-pub use lines::{line, push_line};
+pub use lines::{line, push_line, stripped_line};
+pub use reply::objects_exceed;
 
 #[cfg(test)]
 mod tests;

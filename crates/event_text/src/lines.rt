@@ -3,7 +3,7 @@ ghost use Rattle.event_text.specs.Members.{joined};
 ghost use Rattle.event_text.specs.Line as spec;
 
 use crate::members::push_text;
-use crate::reply::push_reply;
+use crate::reply::{push_reply, push_status_if_any};
 use crate::request::push_request;
 use crate::times::push_times;
 use front_base::{Bytes, NoMemory, audit_id_text};
@@ -34,7 +34,7 @@ pub fn line(alloc: Global, event: &Event) -> Result<Bytes, NoMemory>
     push_event(alloc, &mut out, event)?;
     push_request(&mut out, event)?;
     push_reply(&mut out, event)?;
-    push_times(alloc, &mut out, event)?;
+    push_times(alloc, &mut out, event, event.truncated)?;
     out.push(b'}')?;
     Ok(Bytes::new(out))
 }
@@ -48,4 +48,18 @@ pub fn push_line(out: &mut Vec<u8>, event: &Event) -> Result<(), NoMemory>
     let line = line(*out.allocator(), event)?;
     out.extend_from_slice(line.as_slice())?;
     Ok(())
+}
+
+/// The line of the event without its objects, which says that they were taken out.
+pub fn stripped_line(alloc: Global, event: &Event) -> Result<Bytes, NoMemory>
+    ensures { IfOk result (λ line. line ≡ spec.line_text (spec.stripped event.now)) }
+{
+    let mut out = Vec::with_capacity(alloc, USUAL_BYTES)?;
+    out.push(b'{')?;
+    push_event(alloc, &mut out, event)?;
+    push_request(&mut out, event)?;
+    push_status_if_any(&mut out, event.code)?;
+    push_times(alloc, &mut out, event, true)?;
+    out.push(b'}')?;
+    Ok(Bytes::new(out))
 }
