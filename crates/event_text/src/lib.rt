@@ -11,6 +11,7 @@ mod members;
 mod object_ref;
 mod reply;
 mod request;
+mod tail;
 mod times;
 mod user;
 

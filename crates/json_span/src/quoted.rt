@@ -1,4 +1,4 @@
-ghost use Rattle.std.specs.Prelude.{◌≡◌, ◌<◌, ◌++◌, IfOk, flat_map};
+ghost use Rattle.std.specs.Prelude.{◌≡◌, ◌<◌, ◌≤◌, ◌++◌, true, length, take, IfOk, OnOk, OnErr, flat_map};
 ghost use Rattle.std.specs.List.{list_all};
 ghost use Rattle.json_span.specs.Quote as spec;
 
@@ -28,7 +28,8 @@ fn short_escape(byte: u8) -> Option<u8>
 }
 
 fn push_escaped(out: &mut Vec<u8>, byte: u8) -> Result<(), AllocError>
-    ensures { IfOk result (λ _. out.new.items ≡ out.old.items ++ spec.escaped byte) }
+    ensures ok { OnOk result (out.new.items ≡ out.old.items ++ spec.escaped byte) }
+    ensures kept { OnErr result (out.new.items ≡ out.old.items) }
 {
     if let Some(letter) = short_escape(byte) {
         out.extend_from_slice(&[b'\\', letter])?;
@@ -55,40 +56,57 @@ fn stands_for_itself(byte: u8) -> bool
     byte >= 32 && byte != b'"' && byte != b'\\'
 }
 
-fn needs_no_escape(text: &[u8]) -> bool
-    ensures { result ≡ list_all spec.stands_for_itself text.now }
+// How many bytes at the start stand for themselves.
+fn plain_len(text: &[u8]) -> usize
+    ensures within { result ≤ length text.now }
+    ensures plain { list_all spec.stands_for_itself (take result text.now) ≡ true }
 {
-    text.iter().all(|byte| stands_for_itself(*byte))
-}
-
-fn push_each(out: &mut Vec<u8>, text: &[u8]) -> Result<(), AllocError>
-    ensures { IfOk result (λ _. out.new.items ≡ out.old.items ++ flat_map spec.escaped text.now) }
-{
-    for byte in text {
-        push_escaped(out, *byte)?;
+    let mut len = 0;
+    while len < text.len() && stands_for_itself(text[len]) {
+        len += 1;
     }
-    Ok(())
+    len
 }
 
-// Most texts need no escape, and are copied at once.
+// The bytes that stand for themselves are copied in whole ranges.
 fn push_inside(out: &mut Vec<u8>, text: &[u8]) -> Result<(), AllocError>
-    ensures { IfOk result (λ _. out.new.items ≡ out.old.items ++ flat_map spec.escaped text.now) }
+    ensures ok { OnOk result (out.new.items ≡ out.old.items ++ flat_map spec.escaped text.now) }
+    ensures kept { OnErr result (take (length out.old.items) out.new.items ≡ out.old.items) }
 {
-    if needs_no_escape(text) {
-        out.extend_from_slice(text)?;
-        return Ok(());
+    let mut at = 0;
+    while at < text.len() {
+        let end = at + plain_len(&text[at..]);
+        out.extend_from_slice(&text[at..end])?;
+        if end == text.len() {
+            return Ok(());
+        }
+        push_escaped(out, text[end])?;
+        at = end + 1;
     }
-    push_each(out, text)
+    Ok(())
 }
 
-/// Writes the text at the end of the bytes, as `quote` spells it.
-pub fn push_quoted(out: &mut Vec<u8>, text: &str) -> Result<(), AllocError>
-    ensures { IfOk result (λ _. out.new.items ≡ out.old.items ++ spec.quoted text.now) }
+fn push_string(out: &mut Vec<u8>, text: &[u8]) -> Result<(), AllocError>
+    ensures ok { OnOk result (out.new.items ≡ out.old.items ++ spec.quoted text.now) }
+    ensures kept { OnErr result (take (length out.old.items) out.new.items ≡ out.old.items) }
 {
     out.push(b'"')?;
-    push_inside(out, text.as_bytes())?;
+    push_inside(out, text)?;
     out.push(b'"')?;
     Ok(())
+}
+
+/// Writes the text after what is there, as `quote` spells it. Where memory runs out, what is there stays as it was.
+pub fn push_quoted(out: &mut Vec<u8>, text: &str) -> Result<(), AllocError>
+    ensures ok { OnOk result (out.new.items ≡ out.old.items ++ spec.quoted text.now) }
+    ensures kept { OnErr result (out.new.items ≡ out.old.items) }
+{
+    let start = out.len();
+    let written = push_string(out, text.as_bytes());
+    if written.is_err() {
+        out.truncate(start);
+    }
+    written
 }
 
 /// The text as a JSON string, with its quotation marks: short escapes where there are any, `\u00` and two lower-case
@@ -96,7 +114,7 @@ pub fn push_quoted(out: &mut Vec<u8>, text: &str) -> Result<(), AllocError>
 pub fn quote(alloc: Global, text: &str) -> Result<Vec<u8>, AllocError>
     ensures { IfOk result (λ string. string.items ≡ spec.quoted text.now) }
 {
-    let mut string = Vec::new(alloc);
+    let mut string = Vec::with_capacity(alloc, text.len().saturating_add(2))?;
     push_quoted(&mut string, text)?;
     Ok(string)
 }
