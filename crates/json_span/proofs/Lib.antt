@@ -2,6 +2,7 @@ pub mod CompleteLemmas
 pub mod FlatLemmas
 pub mod NestingLemmas
 pub mod NumberLemmas
+pub mod PassLemmas
 pub mod QuoteLemmas
 pub mod RunLemmas
 pub mod SoundLemmas

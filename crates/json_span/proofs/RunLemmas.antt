@@ -128,7 +128,7 @@ module _ {S : Type 0} (step : S → ℕ → Option S) (ends : S → Bool) (keeps
   pub same_step : (s r : S) (b : ℕ) (bs out : List ℕ) → step s b ≡ step r b → Gives r (b ∷ bs) out → Gives s (b ∷ bs) out
   same_step s r b bs out e h = subst (λ (o : Option S). MatchOption o ⊥ (λ n. Accepts step ends n bs) × (by_option o [] (λ n. keep (keeps n b) b (output n bs)) ≡ out)) (sym e) h
 
-  output-append : (s n : S) (xs ys : List ℕ) → run step ends s xs ≡ Some n → output s (xs ++ ys) ≡ output s xs ++ output n ys
+  pub output-append : (s n : S) (xs ys : List ℕ) → run step ends s xs ≡ Some n → output s (xs ++ ys) ≡ output s xs ++ output n ys
   output-append s n [] ys e = ap (λ m. output m ys) (cc e)
   output-append s n (b ∷ bs) ys e = by_step (step s b) (λ m d. output-append m n bs ys d) e
     where

@@ -33,10 +33,3 @@ compacted text out p e ends kept =
 
 pub whole_output : (text : List ℕ) (i : ℕ) → length text ≤ i → output place_step place_ends keeps start (take i text) ≡ output place_step place_ends keeps start text
 whole_output text i past = ap (output place_step place_ends keeps start) (take_all i text past)
-
--- a byte that is kept was pushed
-pub pushed : (old new out more : List ℕ) (k : Bool) (b : ℕ) → k ≡ true → new ≡ old ++ b ∷ [] → old ≡ out → more ≡ out ++ keep k b [] → new ≡ more
-pushed old new out more k b kept is same all = is ∙ ap (λ l. l ++ b ∷ []) same ∙ sym (all ∙ ap (λ c. out ++ keep c b []) kept)
-
-pub passed_over : (old new out more : List ℕ) (k : Bool) (b : ℕ) → k ≡ false → new ≡ old → old ≡ out → more ≡ out ++ keep k b [] → new ≡ more
-passed_over old new out more k b skipped is same all = is ∙ same ∙ sym (all ∙ ap (λ c. out ++ keep c b []) skipped ∙ append-nil out)

@@ -88,6 +88,24 @@ string_ends inside.AfterEd = false
 string_ends inside.AfterF0 = false
 string_ends inside.AfterF4 = false
 
+-- plain characters follow one another
+abbrev pub stays_inside : Inside → ℕ → Bool
+stays_inside inside.Plain b = is_plain b
+stays_inside inside.Start b = false
+stays_inside inside.Escape b = false
+stays_inside inside.Hex4 b = false
+stays_inside inside.Hex3 b = false
+stays_inside inside.Hex2 b = false
+stays_inside inside.Hex1 b = false
+stays_inside inside.Tail1 b = false
+stays_inside inside.Tail2 b = false
+stays_inside inside.Tail3 b = false
+stays_inside inside.AfterE0 b = false
+stays_inside inside.AfterEd b = false
+stays_inside inside.AfterF0 b = false
+stays_inside inside.AfterF4 b = false
+stays_inside inside.Closed b = false
+
 -- ---- literals: the letters that are still to come
 
 abbrev pub letter : ℕ → Letters → ℕ → Option Letters
@@ -129,6 +147,11 @@ abbrev pub token_step : Token → ℕ → Option Token
 token_step (token.Number l) b = option_map token.Number (number_step l b)
 token_step (token.Text i) b = option_map token.Text (string_step i b)
 token_step (token.Literal l) b = option_map token.Literal (letters_step l b)
+
+abbrev pub stays_in_token : Token → ℕ → Bool
+stays_in_token (token.Number l) b = false
+stays_in_token (token.Text i) b = stays_inside i b
+stays_in_token (token.Literal l) b = false
 
 abbrev pub token_ends : Token → Bool
 token_ends (token.Number l) = number_ends l
@@ -231,3 +254,16 @@ keeps p b = is_inside p.mode || not (is_blank b)
 
 abbrev pub start : Place
 start = at [] mode.Before
+
+-- ---- runs: bytes that leave the place as it is
+
+-- plain characters in a string, and blanks between tokens
+abbrev pub stays : Mode → ℕ → Bool
+stays mode.Before b = is_blank b
+stays mode.FirstItem b = is_blank b
+stays mode.FirstName b = is_blank b
+stays mode.Name b = is_blank b
+stays (mode.InName i) b = stays_inside i b
+stays mode.Colon b = is_blank b
+stays (mode.InToken t) b = stays_in_token t b
+stays mode.After b = is_blank b

@@ -1,5 +1,6 @@
 -- How far the machine passes a text, for private clauses.
-use Rattle.std.specs.Prelude.{◌≡◌, ◌⊎◌, ℕ, suc, ◌≤◌, List, [], ◌∷◌, Option, Some, None}
+use Rattle.std.specs.Prelude.{◌≡◌, ◌⊎◌, ℕ, suc, ◌≤◌, List, [], ◌∷◌, true, Option, Some, None}
+use Rattle.std.specs.List.{list_all}
 use Rattle.json_span.specs.Strings.{IsString}
 use Rattle.json_span.specs.Value.{Value, Members, no_members, member, flat, depth, Spells, max_depth}
 use Rattle.json_span.specs.Machine.{string_step, place_step}
@@ -24,6 +25,12 @@ string_reach = reach string_step
 
 abbrev pub place_reach : Place → List ℕ → ℕ
 place_reach = reach place_step
+
+-- the bytes were passed: a run that leaves the place as it is, or one byte
+abbrev pub Passed : Place → List ℕ → Place → Type 0
+Passed old bytes new =
+    ((list_all (machine.stays old.mode) bytes ≡ true) × (new ≡ old))
+    ⊎ ((b : ℕ) × (bytes ≡ b ∷ []) × (place_step old b ≡ Some new))
 
 -- a compact member's name and value
 abbrev pub IsEntry : List ℕ → Value → Type 0

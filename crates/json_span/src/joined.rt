@@ -12,15 +12,20 @@ pub fn compact(alloc: Global, text: &[u8]) -> Result<Vec<u8>, JsonError>
     ensures err { IfErr result (λ error. IsRefusal text.now error) }
 {
     let mut place = Place::new();
-    let mut joined = Vec::new(alloc);
-    for (at, byte) in text.iter().enumerate() {
-        if !place.passes(*byte) {
+    let mut joined = Vec::with_capacity(alloc, text.len())?;
+    // What is kept is copied in whole ranges: the one that began at `from` isn't copied yet.
+    let (mut from, mut at) = (0, 0);
+    while at < text.len() {
+        let Some(passed) = place.pass(&text[at..]) else {
             return Err(JsonError::NotJson(JsonFault { at }));
+        };
+        if !place.keeps(text[at]) {
+            joined.extend_from_slice(&text[from..at])?;
+            from = at + passed;
         }
-        if place.keeps(*byte) {
-            joined.push(*byte)?;
-        }
+        at += passed;
     }
+    joined.extend_from_slice(&text[from..])?;
     if place.ends() {
         Ok(joined)
     } else {

@@ -27,12 +27,14 @@ fn value_len(text: &[u8]) -> usize
     ensures within { result ≤ length text.now }
 {
     let mut place = Place::new();
-    for (at, byte) in text.iter().enumerate() {
-        if !place.passes(*byte) {
-            return at;
+    let mut at = 0;
+    while at < text.len() {
+        match place.pass(&text[at..]) {
+            Some(passed) => at += passed,
+            None => return at,
         }
     }
-    text.len()
+    at
 }
 
 // Whether the string says the name, as it is spelled.

@@ -1,10 +1,12 @@
-ghost use Rattle.std.specs.Prelude.{◌≡◌, Some, None, if◌then◌else◌};
+ghost use Rattle.std.specs.Prelude.{◌≡◌, ◌≤◌, ◌<◌, true, length, take, slice_index, IfSome, Some, None, if◌then◌else◌};
+ghost use Rattle.std.specs.List.{list_all};
 ghost use Rattle.json_span.specs.Strings as strings;
 ghost use Rattle.json_span.specs.Machine as spec;
+ghost use Rattle.json_span.specs.Span as span;
 ghost use Rattle.json_span.specs.declared.nesting.Kind.TheVariants as kind;
 
 use crate::nesting::{Kind, Nesting};
-use crate::string::{Inside, string_ends, string_step};
+use crate::string::{Inside, plain_len, string_ends, string_step};
 use crate::token::{Token, token_ends, token_first, token_step};
 
 // What may come next in a text.
@@ -31,6 +33,18 @@ fn is_blank(byte: u8) -> bool
     ensures { result ≡ strings.is_blank byte }
 {
     matches!(byte, b' ' | b'\t' | b'\n' | b'\r')
+}
+
+// How many bytes at the start are blanks.
+fn blank_len(text: &[u8]) -> usize
+    ensures within { result ≤ length text.now }
+    ensures blank { list_all strings.is_blank (take result text.now) ≡ true }
+{
+    let mut len = 0;
+    while len < text.len() && is_blank(text[len]) {
+        len += 1;
+    }
+    len
 }
 
 impl Place {
@@ -157,7 +171,7 @@ impl Place {
     }
 
     // Passes the byte, or says that no text goes on with it.
-    pub fn passes(&mut self, byte: u8) -> bool
+    fn passes(&mut self, byte: u8) -> bool
         ensures { spec.place_step self.old byte ≡ (if result then Some self.new else None) }
     {
         match self.mode {
@@ -171,6 +185,34 @@ impl Place {
             Mode::InToken(token) => self.in_token(token, byte),
             Mode::After => self.follows(byte),
         }
+    }
+
+    // How many bytes at the start leave the place as it is.
+    fn run_len(&self, text: &[u8]) -> usize
+        ensures within { result ≤ length text.now }
+        ensures stays { list_all (spec.stays self.now.mode) (take result text.now) ≡ true }
+    {
+        match self.mode {
+            Mode::InName(Inside::Plain) | Mode::InToken(Token::Text(Inside::Plain)) => {
+                plain_len(text)
+            }
+            Mode::InName(_) | Mode::InToken(_) => 0,
+            _ => blank_len(text),
+        }
+    }
+
+    // Passes a run, or one byte, and says how many bytes that were; or says that no text goes on with the first byte.
+    pub fn pass(&mut self, text: &[u8]) -> Option<usize>
+        requires { 0 < length text.now }
+        ensures passed { IfSome result (λ n.
+            (0 < n) × (n ≤ length text.now) × span.Passed self.old (take n text.now) self.new) }
+        ensures refused { result ≡ None → spec.place_step self.old (slice_index text.now 0) ≡ None }
+    {
+        let run = self.run_len(text);
+        if 0 < run {
+            return Some(run);
+        }
+        if self.passes(text[0]) { Some(1) } else { None }
     }
 
     // Whether a text may end here.

@@ -1,4 +1,6 @@
-ghost use Rattle.std.specs.Prelude.{◌≡◌, Some, None, if◌then◌else◌};
+ghost use Rattle.std.specs.Prelude.{◌≡◌, ◌≤◌, true, length, take, Some, None, if◌then◌else◌};
+ghost use Rattle.std.specs.List.{list_all};
+ghost use Rattle.json_span.specs.Strings as strings;
 ghost use Rattle.json_span.specs.Strings.{is_hex, within};
 ghost use Rattle.json_span.specs.Machine as spec;
 
@@ -97,6 +99,24 @@ pub fn string_step(inside: Inside, byte: u8) -> Option<Inside>
         Inside::AfterF4 => if_within(128, byte, 143, Inside::Tail2),
         Inside::Closed => None,
     }
+}
+
+fn is_plain(byte: u8) -> bool
+    ensures { result ≡ strings.is_plain byte }
+{
+    32 <= byte && byte <= 127 && byte != b'"' && byte != b'\\'
+}
+
+// How many bytes at the start are characters of ASCII that stand for themselves.
+pub fn plain_len(text: &[u8]) -> usize
+    ensures within { result ≤ length text.now }
+    ensures plain { list_all strings.is_plain (take result text.now) ≡ true }
+{
+    let mut len = 0;
+    while len < text.len() && is_plain(text[len]) {
+        len += 1;
+    }
+    len
 }
 
 pub fn string_ends(inside: Inside) -> bool

@@ -12,9 +12,11 @@ pub fn check(text: &[u8]) -> Result<(), JsonFault>
     ensures err { IfErr result (λ fault. FaultAt IsText text.now fault.at) }
 {
     let mut place = Place::new();
-    for (at, byte) in text.iter().enumerate() {
-        if !place.passes(*byte) {
-            return Err(JsonFault { at });
+    let mut at = 0;
+    while at < text.len() {
+        match place.pass(&text[at..]) {
+            Some(passed) => at += passed,
+            None => return Err(JsonFault { at }),
         }
     }
     if place.ends() {
