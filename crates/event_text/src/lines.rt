@@ -1,42 +1,57 @@
-ghost use Rattle.std.specs.Prelude.{◌≡◌, ◌++◌, IfOk, OnOk, OnErr};
+ghost use Rattle.std.specs.Prelude.{◌≡◌, ◌++◌, [], IfOk, OnOk, OnErr};
 ghost use Rattle.event_text.specs.Members.{joined};
 ghost use Rattle.event_text.specs.Line as spec;
 
 use crate::members::push_text;
 use crate::reply::{push_reply, push_status_if_any};
 use crate::request::push_request;
+use crate::tail::Tail;
 use crate::times::push_times;
 use front_base::{Bytes, NoMemory, audit_id_text};
 use stage_event::Event;
 use std::alloc::Global;
+use std::mem;
 
 // Most lines without bodies fit into so many bytes.
 const USUAL_BYTES: usize = 1024;
 
-// Which event it is: the members that are always first, without a comma in front.
-fn push_event(alloc: Global, out: &mut Vec<u8>, event: &Event) -> Result<(), NoMemory>
-    ensures { IfOk result (λ _. out.new.items ≡ out.old.items ++ joined (spec.event_members event.now)) }
+// Which event it is: the members that are always first, the first of them without a comma.
+fn push_event(alloc: Global, out: &mut Tail, event: &Event) -> Result<(), NoMemory>
+    ensures ok { OnOk result (out.new.written ≡ out.old.written ++ joined (spec.event_members event.now)) }
+    ensures before { out.new.before ≡ out.old.before }
 {
     let id = audit_id_text(alloc, event.id)?;
-    out.extend_from_slice(b"\"kind\":\"Event\",\"apiVersion\":\"audit.k8s.io/v1\"")?;
+    out.extend(b"\"kind\":\"Event\",\"apiVersion\":\"audit.k8s.io/v1\"")?;
     push_text(out, "level", event.level.name())?;
     push_text(out, "auditID", id.as_str())?;
     push_text(out, "stage", event.stage.name())?;
     Ok(())
 }
 
-/// The event as one line of JSON without white space, without a line feed.
-pub fn line(alloc: Global, event: &Event) -> Result<Bytes, NoMemory>
-    ensures { IfOk result (λ line. line ≡ spec.line_text event.now) }
+fn push_whole(alloc: Global, out: &mut Tail, event: &Event) -> Result<(), NoMemory>
+    ensures ok { OnOk result (out.old.written ≡ [] → out.new.written ≡ spec.line_text event.now) }
+    ensures before { out.new.before ≡ out.old.before }
 {
-    let mut out = Vec::with_capacity(alloc, USUAL_BYTES)?;
-    out.push(b'{')?;
-    push_event(alloc, &mut out, event)?;
-    push_request(&mut out, event)?;
-    push_reply(&mut out, event)?;
-    push_times(alloc, &mut out, event, event.truncated)?;
-    out.push(b'}')?;
-    Ok(Bytes::new(out))
+    out.extend(b"{")?;
+    push_event(alloc, out, event)?;
+    push_request(out, event)?;
+    push_reply(out, event)?;
+    push_times(alloc, out, event, event.truncated)?;
+    out.extend(b"}")?;
+    Ok(())
+}
+
+fn push_stripped(alloc: Global, out: &mut Tail, event: &Event) -> Result<(), NoMemory>
+    ensures ok { OnOk result (out.old.written ≡ [] → out.new.written ≡ spec.line_text (spec.stripped event.now)) }
+    ensures before { out.new.before ≡ out.old.before }
+{
+    out.extend(b"{")?;
+    push_event(alloc, out, event)?;
+    push_request(out, event)?;
+    push_status_if_any(out, event.code)?;
+    push_times(alloc, out, event, true)?;
+    out.extend(b"}")?;
+    Ok(())
 }
 
 /// Writes the event's line after what is there, without a line feed. Where memory runs out, what is there stays as it
@@ -45,21 +60,34 @@ pub fn push_line(out: &mut Vec<u8>, event: &Event) -> Result<(), NoMemory>
     ensures ok { OnOk result (out.new.items ≡ out.old.items ++ spec.line_text event.now) }
     ensures kept { OnErr result (out.new.items ≡ out.old.items) }
 {
-    let line = line(*out.allocator(), event)?;
-    out.extend_from_slice(line.as_slice())?;
-    Ok(())
+    let alloc = *out.allocator();
+    let mut tail = Tail::after(mem::replace(out, Vec::new(alloc)));
+    match push_whole(alloc, &mut tail, event) {
+        Ok(()) => {
+            *out = tail.into_bytes();
+            Ok(())
+        }
+        Err(fault) => {
+            *out = tail.take_back();
+            Err(fault)
+        }
+    }
+}
+
+/// The event as one line of JSON without white space, without a line feed.
+pub fn line(alloc: Global, event: &Event) -> Result<Bytes, NoMemory>
+    ensures { IfOk result (λ line. line ≡ spec.line_text event.now) }
+{
+    let mut out = Vec::with_capacity(alloc, USUAL_BYTES)?;
+    push_line(&mut out, event)?;
+    Ok(Bytes::new(out))
 }
 
 /// The line of the event without its objects, which says that they were taken out.
 pub fn stripped_line(alloc: Global, event: &Event) -> Result<Bytes, NoMemory>
     ensures { IfOk result (λ line. line ≡ spec.line_text (spec.stripped event.now)) }
 {
-    let mut out = Vec::with_capacity(alloc, USUAL_BYTES)?;
-    out.push(b'{')?;
-    push_event(alloc, &mut out, event)?;
-    push_request(&mut out, event)?;
-    push_status_if_any(&mut out, event.code)?;
-    push_times(alloc, &mut out, event, true)?;
-    out.push(b'}')?;
-    Ok(Bytes::new(out))
+    let mut tail = Tail::after(Vec::with_capacity(alloc, USUAL_BYTES)?);
+    push_stripped(alloc, &mut tail, event)?;
+    Ok(Bytes::new(tail.into_bytes()))
 }

@@ -1,8 +1,8 @@
-ghost use Rattle.std.specs.Prelude.{◌≡◌, ◌<◌, [], ◌++◌, length, take, slice_set, OnOk, OnErr};
+ghost use Rattle.std.specs.Prelude.{◌≡◌, ◌<◌, [], ◌++◌, length, take, slice_set, OnOk};
 ghost use Rattle.json_span.specs.Quote.{quoted};
-ghost use Rattle.event_text.specs.Tail as spec;
 
-use std::alloc::{AllocError, Global};
+use json_span::push_quoted;
+use std::alloc::AllocError;
 use std::marker::Model;
 
 // What is written after the bytes of a buffer. It can be taken back: nothing that is written changes what was there.
@@ -60,6 +60,14 @@ impl Tail {
         ensures before { self.new.before ≡ self.old.before }
     {
         self.bytes.extend_from_slice(bytes)
+    }
+
+    // The text as a JSON string.
+    pub fn quoted(&mut self, text: &str) -> Result<(), AllocError>
+        ensures ok { OnOk result (self.new.written ≡ self.old.written ++ quoted text.now) }
+        ensures before { self.new.before ≡ self.old.before }
+    {
+        push_quoted(&mut self.bytes, text)
     }
 
     pub fn set(&mut self, at: usize, byte: u8)
