@@ -1,3 +1,4 @@
+pub mod Begun
 pub mod Due
 pub mod Events
 pub mod Kept

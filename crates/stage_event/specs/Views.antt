@@ -65,6 +65,12 @@ no_facts id =
 abbrev pub with_bodies : Kept → Kept → Facts → Facts
 with_bodies request reply facts = record facts { request = request; reply = reply }
 
+abbrev pub with_start : ℕ → Facts → Facts
+with_start started facts = record facts { started = started }
+
+abbrev pub with_info : Info → Facts → Facts
+with_info info facts = record facts { info = info }
+
 -- what is recorded, given whether each body is
 abbrev pub recorded : Bool → Bool → Facts → Facts
 recorded request reply facts =

@@ -1,3 +1,6 @@
+ghost use Rattle.std.specs.Prelude.{◌≡◌};
+ghost use Rattle.stage_event.specs.Begun.{begun};
+
 use front_base::{AuditId, Bytes, Info, Moment, Text, User};
 
 /// What is kept of a body, for events to show.
@@ -15,8 +18,9 @@ pub enum Kept {
     CutOff,
 }
 
-/// What is known of a request and its reply. Before the reply has ended the later facts are not known: no event of an
-/// earlier stage shows them.
+/// What is known of a request and its reply. `Facts::begin` makes them when the request was received; the fields that
+/// are known later are then set one after another. No event of a stage depends on what is known only after it
+/// (`stages_hide`).
 #[derive(Debug, Drop)]
 pub struct Facts {
     pub id: AuditId,
@@ -29,14 +33,45 @@ pub struct Facts {
     pub peer: [u8; 4],
     /// The first `User-Agent` header, or nothing.
     pub agent: Text,
-    /// The reply's status code.
+    /// The reply's status code, which is known when the reply starts.
     pub status: u16,
-    /// The request's body.
+    /// The request's body, which is known when the reply starts.
     pub request: Kept,
-    /// The reply's body.
+    /// The reply's body, which is known when the reply is complete.
     pub reply: Kept,
     pub received: Moment,
     /// When a long-running request's reply head was known. It says nothing of other requests.
     pub started: Moment,
     pub complete: Moment,
+}
+
+impl Facts {
+    /// The facts of a request that was received. Of the reply nothing is known: until they are set, its status is 0, no
+    /// body was asked for, and the later moments are that of the request.
+    pub fn begin(
+        id: AuditId,
+        target: Text,
+        info: Info,
+        user: User,
+        peer: [u8; 4],
+        agent: Text,
+        received: Moment,
+    ) -> Facts
+        ensures { result ≡ begun id target info user peer agent received }
+    {
+        Facts {
+            id,
+            target,
+            info,
+            user,
+            peer,
+            agent,
+            status: 0,
+            request: Kept::NotAsked,
+            reply: Kept::NotAsked,
+            received,
+            started: received,
+            complete: received,
+        }
+    }
 }

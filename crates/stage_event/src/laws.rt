@@ -1,27 +1,57 @@
-ghost use Rattle.std.specs.Prelude.{◌≡◌, ℕ, List, false};
+ghost use Rattle.std.specs.Prelude.{◌≡◌, ℕ, List, true, false};
+ghost use Rattle.front_base.specs.Info.{is_long_running};
+ghost use Rattle.front_base.specs.declared.info.Info.{Info};
 ghost use Rattle.front_base.specs.declared.level.Level.{Level};
-ghost use Rattle.front_base.specs.declared.level.Level.TheVariants.{Metadata, Request};
+ghost use Rattle.front_base.specs.declared.level.Level.TheVariants as Level;
 ghost use Rattle.front_base.specs.declared.stage.Stage.{Stage};
+ghost use Rattle.front_base.specs.declared.stage.Stage.TheVariants as Stage;
 ghost use Rattle.stage_event.specs.declared.facts.Facts.{Facts};
 ghost use Rattle.stage_event.specs.declared.facts.Kept.{Kept};
 ghost use Rattle.stage_event.specs.Kept.{IsKept};
-ghost use Rattle.stage_event.specs.Views.{view, with_bodies};
+ghost use Rattle.stage_event.specs.Begun.{as_begun, filled};
+ghost use Rattle.stage_event.specs.Views.{view, with_bodies, with_start, with_info};
 ghost use Rattle.stage_event.specs.Events.{event};
 
 use json_span::one_value;
 
-/// What a level hides reaches no event: not the bodies at Metadata or of a request that names no resource, not the
-/// reply's body at Request, and at every level nothing beyond the level's view.
+/// What a level hides reaches no event. At None that is all but the ID; at Metadata the bodies; at Request the reply's
+/// body. At every level it is the body of a reply to a request that runs long, when the reply to any other request
+/// started, and of a request that names no resource the bodies and all of its information but the path and the verb.
 pub fn levels_hide()
-    ensures views { (stage : Stage) (level : Level) (these those : Facts)
-        → view level these ≡ view level those → event stage level these ≡ event stage level those }
+    ensures none { (stage : Stage) (these those : Facts)
+        → these.id ≡ those.id → event stage Level.None these ≡ event stage Level.None those }
     ensures metadata { (stage : Stage) (facts : Facts) (request reply : Kept)
-        → event stage Metadata (with_bodies request reply facts) ≡ event stage Metadata facts }
+        → event stage Level.Metadata (with_bodies request reply facts) ≡ event stage Level.Metadata facts }
     ensures request { (stage : Stage) (facts : Facts) (reply : Kept)
-        → event stage Request (with_bodies facts.request reply facts) ≡ event stage Request facts }
+        → event stage Level.Request (with_bodies facts.request reply facts) ≡ event stage Level.Request facts }
+    ensures long_running { (stage : Stage) (level : Level) (facts : Facts) (reply : Kept)
+        → is_long_running facts.info ≡ true
+        → event stage level (with_bodies facts.request reply facts) ≡ event stage level facts }
+    ensures start { (stage : Stage) (level : Level) (facts : Facts) (started : ℕ)
+        → is_long_running facts.info ≡ false
+        → event stage level (with_start started facts) ≡ event stage level facts }
     ensures other { (stage : Stage) (level : Level) (facts : Facts) (request reply : Kept)
         → facts.info.resource_request ≡ false
         → event stage level (with_bodies request reply facts) ≡ event stage level facts }
+    ensures unnamed { (stage : Stage) (level : Level) (facts : Facts) (info : Info)
+        → facts.info.resource_request ≡ false → info.resource_request ≡ false
+        → info.path ≡ facts.info.path → info.verb ≡ facts.info.verb
+        → event stage level (with_info info facts) ≡ event stage level facts }
+{}
+
+/// What is known only after a stage reaches none of its events: status, bodies and the later moments not that of
+/// `RequestReceived`, which is thus made of what `Facts::begin` takes; the reply's body and the moment when it was
+/// complete not that of `ResponseStarted`.
+pub fn stages_hide()
+    ensures received { (level : Level) (facts : Facts) (status started complete : ℕ) (request reply : Kept)
+        → event Stage.RequestReceived level (filled status request reply started complete facts)
+        ≡ event Stage.RequestReceived level facts }
+    ensures begun { (level : Level) (facts : Facts)
+        → event Stage.RequestReceived level (as_begun facts) ≡ event Stage.RequestReceived level facts }
+    ensures started { (level : Level) (facts : Facts) (reply : Kept) (complete : ℕ)
+        → event Stage.ResponseStarted level
+            (filled facts.status facts.request reply facts.started complete facts)
+        ≡ event Stage.ResponseStarted level facts }
 {}
 
 /// What a level leaves of the facts is all that it leaves when it is asked again.

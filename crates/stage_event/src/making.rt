@@ -6,7 +6,7 @@ ghost use Rattle.stage_event.specs.Events as spec;
 use crate::due::{reply_due, request_due};
 use crate::event::{Event, ObjectRef};
 use crate::facts::{Facts, Kept};
-use front_base::{Bytes, Info, Level, Moment, NoMemory, Stage};
+use front_base::{Bytes, Info, Level, Moment, NoMemory, Stage, Text};
 use std::alloc::Global;
 
 fn object_of(alloc: Global, kept: &Kept) -> Result<Option<Bytes>, NoMemory>
@@ -147,4 +147,105 @@ pub fn event_at(alloc: Global, stage: Stage, level: Level, facts: &Facts) -> Res
         at: moment(stage, facts),
         truncated: false,
     })
+}
+
+fn object_from(shows: bool, kept: Kept) -> Option<Bytes>
+    ensures { result ≡ spec.object (views.shown_if shows kept) }
+{
+    match kept {
+        Kept::Compact(text) => {
+            if shows {
+                Some(text)
+            } else {
+                None
+            }
+        }
+        _ => None,
+    }
+}
+
+fn request_object_from(stage: Stage, shows: bool, kept: Kept) -> Option<Bytes>
+    ensures { result ≡ spec.request_object stage (views.shown_if shows kept) }
+{
+    object_from(shows && stage != Stage::RequestReceived, kept)
+}
+
+fn response_object_from(stage: Stage, shows: bool, kept: Kept) -> Option<Bytes>
+    ensures { result ≡ spec.response_object stage (views.shown_if shows kept) }
+{
+    object_from(shows && stage == Stage::ResponseComplete, kept)
+}
+
+// The verb, and the object that the request names, if any.
+fn asked_of(info: Info) -> (Text, Option<ObjectRef>)
+    ensures verb { result.0 ≡ info.verb }
+    ensures object { result.1 ≡ spec.object_ref info }
+{
+    let named = info.resource_request && is_named(&info);
+    let Info {
+        verb,
+        group,
+        version,
+        namespace,
+        resource,
+        subresource,
+        name,
+        ..
+    } = info;
+    let object = ObjectRef {
+        resource,
+        namespace,
+        name,
+        group,
+        version,
+        subresource,
+    };
+    if named {
+        (verb, Some(object))
+    } else {
+        (verb, None)
+    }
+}
+
+/// The event that `event_at` gives, made of the facts themselves: nothing is copied. It serves a request's last event.
+pub fn event_from(stage: Stage, level: Level, facts: Facts) -> Event
+    requires level { level ≢ Level.None }
+    requires stage { stage ≢ Stage.Panic }
+    ensures { result ≡ spec.event stage level facts }
+{
+    let code = code(stage, facts.status);
+    let at = moment(stage, &facts);
+    let shows_request = request_due(level, &facts.info);
+    let shows_reply = reply_due(level, &facts.info);
+    let Facts {
+        id,
+        target,
+        info,
+        user,
+        peer,
+        agent,
+        request,
+        reply,
+        received,
+        ..
+    } = facts;
+    let (verb, object_ref) = asked_of(info);
+    Event {
+        level,
+        id,
+        stage,
+        target,
+        verb,
+        user,
+        impersonated: None,
+        peer,
+        agent,
+        object_ref,
+        code,
+        request_object: request_object_from(stage, shows_request, request),
+        response_object: response_object_from(stage, shows_reply, reply),
+        received,
+        at,
+        truncated: false,
+    }
 }
