@@ -1,7 +1,7 @@
 -- A text of plain bytes needs no escape.
-use Rattle.std.proofs.Common.{◌≡◌, ℕ, ◌+◌, ◌<◌, length, take, drop, get_or, Bool, true, false, ◌&&◌, List, [], ◌∷◌, ◌++◌, refl, ap, sym, ◌∙◌, append_assoc, arith}
+use Rattle.std.proofs.Common.{◌≡◌, ℕ, ◌+◌, ◌<◌, length, take, drop, get_or, Bool, true, false, ◌&&◌, List, [], ◌∷◌, ◌++◌, refl, ap, sym, ◌∙◌, append_assoc, subst, length-drop, ◌≤◌, arith}
 use Rattle.std.proofs.lemmas.Grind.{flat_map-append}
-use Rattle.std.proofs.lemmas.List.{append-nil, take_more}
+use Rattle.std.proofs.lemmas.List.{append-nil, take_more, take_all, take-append-drop}
 use Rattle.std.proofs.Math.Seq.{take-add}
 use Rattle.std.proofs.lemmas.Bool.Decides.{nat_tests}
 use Rattle.std.specs.List.{flat_map, list_all}
@@ -48,3 +48,14 @@ ranged text before done out at n k same plain h e =
     ∙ (ap (λ l. l ++ take k (drop at text)) h
     ∙ (append_assoc before (flat_map escaped (take at text)) (take k (drop at text))
     ∙ ap (λ l. before ++ l) (sym (plain_range text at n k same plain))))
+
+-- the rest of a text, where all of it stands for itself
+pub plain_rest : (out : List ℕ) (start n : ℕ) → length out ≤ start + n →
+    list_all stands_for_itself (take n (drop start out)) ≡ true →
+    out ≡ take start out ++ flat_map escaped (drop start out)
+plain_rest out start n all plain =
+    let whole : take n (drop start out) ≡ drop start out =
+    take_all n (drop start out) (omega (arith, length-drop start out)) in
+    sym (take-append-drop start out)
+    ∙ ap (λ l. take start out ++ l)
+    (sym (plain-text (drop start out) (subst (λ l. list_all stands_for_itself l ≡ true) whole plain)))

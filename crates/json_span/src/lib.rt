@@ -25,7 +25,7 @@ pub use fault::{JsonError, JsonFault};
 pub use joined::compact;
 pub use laws::{compact_keeps_the_value, one_fault, one_value};
 pub use members::member;
-pub use quoted::{push_quoted, quote};
+pub use quoted::{escape_from, push_quoted, quote};
 pub use text::check;
 
 #[cfg(test)]

@@ -1,4 +1,4 @@
-ghost use Rattle.std.specs.Prelude.{◌≡◌, ◌<◌, ◌≤◌, ◌++◌, true, length, take, IfOk, OnOk, OnErr, flat_map};
+ghost use Rattle.std.specs.Prelude.{◌≡◌, ◌<◌, ◌≤◌, ◌++◌, true, length, take, drop, IfOk, OnOk, OnErr, flat_map};
 ghost use Rattle.std.specs.List.{list_all};
 ghost use Rattle.json_span.specs.Quote as spec;
 
@@ -107,6 +107,23 @@ pub fn push_quoted(out: &mut Vec<u8>, text: &str) -> Result<(), AllocError>
         out.truncate(start);
     }
     written
+}
+
+/// Spells what stands from `start` on as the inside of a JSON string, for a text that was written in its place. Where no
+/// byte of it needs an escape nothing changes, and no memory is needed. Where memory runs out, only what stood before
+/// `start` is sure to stay.
+pub fn escape_from(out: &mut Vec<u8>, start: usize) -> Result<(), AllocError>
+    requires { start ≤ length out.old.items }
+    ensures ok { OnOk result (out.new.items
+        ≡ take start out.old.items ++ flat_map spec.escaped (drop start out.old.items)) }
+    ensures kept { OnErr result (take start out.new.items ≡ take start out.old.items) }
+{
+    if plain_len(&out[start..]) == out.len() - start {
+        return Ok(());
+    }
+    let text = out[start..].to_vec(*out.allocator())?;
+    out.truncate(start);
+    push_inside(out, text.as_slice())
 }
 
 /// The text as a JSON string, with its quotation marks: short escapes where there are any, `\u00` and two lower-case

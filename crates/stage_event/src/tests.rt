@@ -72,6 +72,10 @@ fn nobody(alloc: Global) -> Result<User, NoMemory> {
     })
 }
 
+fn moment(micros: u64) -> Result<Moment, NoMemory> {
+    Moment::new(micros).ok_or(NoMemory)
+}
+
 fn body(alloc: Global, text: &str) -> Result<Kept, NoMemory> {
     kept(alloc, text.as_bytes())
 }
@@ -91,9 +95,9 @@ fn facts(alloc: Global, verb: &str) -> Result<Facts, NoMemory> {
         status: 200,
         request: body(alloc, "{ }")?,
         reply: body(alloc, "[ ]")?,
-        received: Moment::epoch(),
-        started: Moment::epoch(),
-        complete: Moment::epoch(),
+        received: moment(1)?,
+        started: moment(2)?,
+        complete: moment(3)?,
     })
 }
 
