@@ -44,7 +44,7 @@ record Begun (ks : List Kind) (t : List ℕ) : Type 0 where
   is : t ≡ blanks ++ (text ++ rest)
   outer : Outer ks rest
 
--- all that an array has behind its bracket, and what may follow it
+-- all that an array has after its bracket, and what may follow it
 record Filled (ks : List Kind) (t : List ℕ) : Type 0 where
   items : Items
   inner : List ℕ
@@ -54,7 +54,7 @@ record Filled (ks : List Kind) (t : List ℕ) : Type 0 where
   is : t ≡ inner ++ rest
   outer : Outer ks rest
 
--- all that an object has behind its bracket, and what may follow it
+-- all that an object has after its bracket, and what may follow it
 record FilledObject (ks : List Kind) (t : List ℕ) : Type 0 where
   members : Members
   inner : List ℕ
@@ -98,7 +98,7 @@ record Ended (ks : List Kind) (k : Token) (t : List ℕ) : Type 0 where
   is : t ≡ front ++ rest
   outer : Outer ks rest
 
--- ---- a byte in front
+-- ---- a byte before
 
 padded_blank : (P : List ℕ → Type 0) (b : ℕ) (t : List ℕ) → is_blank b ≡ true → Padded P t → Padded P (b ∷ t)
 padded_blank P b t e p = (b ∷ p.0, p.1, p.2, (e, p.3), p.4, p.5, ap (λ l. b ∷ l) p.6)
@@ -321,7 +321,7 @@ named_of ks bs r =
 
 -- ---- what a byte leads to
 
--- a byte behind a value
+-- a byte after a value
 follow_taken : (ks : List Kind) (b : ℕ) (bs : List ℕ)
     → ((js : List Kind) → length js ≤ 128 → Goes (at js mode.After) bs → Outer js bs)
     → ((js : List Kind) → length js ≤ 128 → Goes (at js mode.Before) bs → Begun js bs)
@@ -414,7 +414,7 @@ names_taken {R} ks m b bs blank named ended h = by_blank (is_blank b) refl h
     by_blank true e k = blank e k
     by_blank false e k = by_quote (b == 34) refl k
 
--- a byte behind a name
+-- a byte after a name
 colon_byte : (ks : List Kind) (b : ℕ) (bs : List ℕ) → (Goes (at ks mode.Colon) bs → Coloned ks bs) → (Goes (at ks mode.Before) bs → Begun ks bs)
     → Then (colon ks b) bs → Coloned ks (b ∷ bs)
 colon_byte ks b bs more before h = by_blank (is_blank b) refl h

@@ -119,7 +119,7 @@ pub brace_of : (text : List ℕ) → 0 < length text → get_or text 0 0 ≡ 123
 brace_of [] h e = absurd (omega (arith, h))
 brace_of (b ∷ bs) h e = (bs, ap (λ x. x ∷ bs) e)
 
--- the member that begins here, and those behind it
+-- the member that begins here, and those after it
 pub record Next (name text : List ℕ) (i : ℕ) (v : Value) : Type 0 where
   pub string : List ℕ
   pub value : Value
@@ -197,7 +197,7 @@ named_so name text i colon to v n same asked is_colon is_to =
     ∙ ap (λ k. cond same (Some (k + 1, i + length n.string + 1 + length (flat n.value))) (span_from (i + length n.string + 1 + length (flat n.value) + 1) name n.others)) (sym is_colon)
     ∙ ap (λ k. cond same (Some (colon + 1, k)) (span_from (k + 1) name n.others)) (sym is_to)
 
--- the bytes behind the member
+-- the bytes after the member
 pub behind_next : (name text : List ℕ) (i to : ℕ) (v : Value) (n : Next name text i v) → to ≡ i + length n.string + 1 + length (flat n.value) → drop to text ≡ flat_members true n.others
 behind_next name text i to v n is =
     ap (λ k. drop k text) is ∙ drop_behind text (flat n.value) (flat_members true n.others) (i + length n.string + 1) (behind_colon text n.string (flat n.value ++ flat_members true n.others) i n.is)

@@ -1,11 +1,11 @@
 -- What a run of the machine says of the text.
-use Rattle.std.proofs.Common.{◌≡◌, ℕ, ◌≤◌, ◌<◌, ◌∷◌, [], ◌++◌, List, length, take, get_or, Bool, true, false, Some, None, sym, ap, ◌∙◌, subst}
-use Rattle.std.proofs.lemmas.List.{append-nil, take_all}
+use Rattle.std.proofs.Common.{◌≡◌, ℕ, ◌≤◌, ◌<◌, List, length, take, get_or, true, false, Some, None, ap, ◌∙◌, subst}
+use Rattle.std.proofs.lemmas.List.{take_all}
 use Rattle.json_span.specs.Value.{IsText, Compacts}
 use Rattle.json_span.specs.Fault.{FaultAt}
 use Rattle.json_span.specs.Machine.{place_step, place_ends, keeps, start}
 use Rattle.json_span.specs.declared.place.Place.{Place}
-use Rattle.json_span.proofs.RunLemmas.{run, run_accepted, stops_at, ends_early, output, keep}
+use Rattle.json_span.proofs.RunLemmas.{run, run_accepted, stops_at, ends_early, output}
 use Rattle.json_span.proofs.SoundLemmas.{text_taken}
 use Rattle.json_span.proofs.CompleteLemmas.{text_goes, text_gives, place_completion, place_completes}
 

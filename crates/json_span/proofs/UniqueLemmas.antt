@@ -136,7 +136,7 @@ members_end (member n v ms) t x h = rw h.7 (inr (inl refl), refl)
 string_begins : (n : List ℕ) → IsString n → Begins n
 string_begins n h = token_begins n (inr (inr h))
 
--- a padded body, what stands behind it, and the whole
+-- a padded body, what stands after it, and the whole
 padded_parts : (P : List ℕ → Type 0) (t more : List ℕ) (p : Padded P t) → t ++ more ≡ p.0 ++ (p.1 ++ (p.2 ++ more))
 padded_parts P t more p = ap (λ l. l ++ more) p.6 ∙ append_assoc p.0 (p.1 ++ p.2) more ∙ ap (λ l. p.0 ++ l) (append_assoc p.1 p.2 more)
 

@@ -178,7 +178,7 @@ separates [] = None
 separates (kind.Array ∷ kinds) = Some (at (kind.Array ∷ kinds) mode.Before)
 separates (kind.Object ∷ kinds) = Some (at (kind.Object ∷ kinds) mode.Name)
 
--- a byte behind a value
+-- a byte after a value
 abbrev pub follows : List Kind → ℕ → Option Place
 follows kinds b =
     if is_blank b then Some (at kinds mode.After) else if b == 44 then separates kinds
@@ -196,7 +196,7 @@ abbrev pub names : List Kind → Mode → ℕ → Option Place
 names kinds m b =
     if is_blank b then Some (at kinds m) else if b == 34 then Some (at kinds (mode.InName inside.Plain)) else None
 
--- a byte behind a name
+-- a byte after a name
 abbrev pub colon : List Kind → ℕ → Option Place
 colon kinds b =
     if is_blank b then Some (at kinds mode.Colon) else if b == 58 then Some (at kinds mode.Before) else None

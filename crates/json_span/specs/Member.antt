@@ -12,7 +12,7 @@ span_from at name (member n v ms) =
     if bytes_eq n (in_quotes name) then Some (at + length n + 1, at + length n + 1 + length (flat v))
     else span_from (at + length n + 1 + length (flat v) + 1) name ms
 
--- from the first byte of the value to the one behind it
+-- from the first byte of the value to the one after it
 abbrev pub member_span : List ℕ → Value → Option (ℕ × ℕ)
 member_span name (token t) = None
 member_span name (array vs) = None

@@ -38,7 +38,7 @@ abbrev pub IsFraction : List ℕ → Type 0
 IsFraction [] = Unit {0}
 IsFraction (p ∷ ds) = (p ≡ 46) × IsDigits ds
 
--- digits, with or without a sign in front
+-- digits, with or without a sign before them
 abbrev pub IsPower : List ℕ → Type 0
 IsPower [] = ⊥
 IsPower (b ∷ bs) = IsDigits (b ∷ bs) ⊎ (is_sign b ≡ true) × IsDigits bs

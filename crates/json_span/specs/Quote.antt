@@ -6,7 +6,7 @@ use Rattle.std.specs.Prelude.{List, [], ◌∷◌, ◌++◌, codes, flat_map, Op
 abbrev pub hex_digit : ℕ → ℕ
 hex_digit n = if nat_lt n 10 then 48 + n else 87 + n
 
--- the letter behind the backslash of a short escape
+-- the letter after the backslash of a short escape
 abbrev pub short_escape : ℕ → Option ℕ
 short_escape b =
     if b == 34 then Some 34 else if b == 92 then Some 92 else if b == 8 then Some 98 else if b == 9 then Some 116

@@ -34,7 +34,7 @@ Meets [] (b ∷ bs) = ⊥
 Meets (p ∷ ps) [] = ⊥
 Meets (p ∷ ps) (b ∷ bs) = (p b ≡ true) × Meets ps bs
 
--- a byte of a character in UTF-8 behind its first
+-- a byte of a character in UTF-8 after its first
 abbrev pub tail : ℕ → Bool
 tail = within 128 191
 

@@ -20,7 +20,7 @@ mutual
 
 -- ---- the tokens joined
 
--- a comma in front of all but the first
+-- a comma before all but the first
 abbrev pub comma_if : Bool → List ℕ
 comma_if later = if later then 44 ∷ [] else []
 

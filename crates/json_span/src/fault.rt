@@ -6,7 +6,7 @@ use std::alloc::{AllocError, AllocFailed};
 /// Bytes that are no JSON text.
 #[derive(Clone, Copy, Debug, PartialEq, Eq)]
 pub struct JsonFault {
-    /// How many bytes at the front still begin some JSON text.
+    /// How many bytes at the start still begin some JSON text.
     pub at: usize,
 }
 

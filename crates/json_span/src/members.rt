@@ -6,7 +6,7 @@ ghost use Rattle.json_span.specs.Span as spec;
 use crate::place::Place;
 use crate::string::{Inside, string_step};
 
-// How many bytes from the front on belong to the string there.
+// How many bytes at the start belong to the string there.
 fn string_len(text: &[u8]) -> usize
     ensures reach { result ≡ spec.string_reach Inside.Start text.now }
     ensures within { result ≤ length text.now }
@@ -21,7 +21,7 @@ fn string_len(text: &[u8]) -> usize
     text.len()
 }
 
-// How many bytes from the front on belong to the value there.
+// How many bytes at the start belong to the value there.
 fn value_len(text: &[u8]) -> usize
     ensures reach { result ≡ spec.place_reach spec.start text.now }
     ensures within { result ≤ length text.now }

@@ -85,7 +85,7 @@ impl Place {
         true
     }
 
-    // A byte behind a value.
+    // A byte after a value.
     fn follows(&mut self, byte: u8) -> bool
         ensures { spec.follows self.old.nesting byte ≡ (if result then Some self.new else None) }
     {
@@ -132,7 +132,7 @@ impl Place {
         is_blank(byte)
     }
 
-    // A byte behind a name.
+    // A byte after a name.
     fn colon(&mut self, byte: u8) -> bool
         ensures { spec.colon self.old.nesting byte ≡ (if result then Some self.new else None) }
     {

@@ -1,4 +1,4 @@
-use crate::{JsonError, JsonFault, check, compact, member, quote};
+use crate::{JsonError, JsonFault, check, compact, escape_from, member, push_quoted, quote};
 use std::alloc::{AllocError, Global};
 use std::test::Fail;
 
@@ -127,7 +127,7 @@ fn nested(alloc: Global, open: usize, closed: usize) -> Result<Vec<u8>, AllocErr
 }
 
 #[test]
-fn a_fault_stands_behind_the_longest_front(rt: HostRuntime) -> Result<(), Fail> {
+fn a_fault_stands_after_the_longest_prefix(rt: HostRuntime) -> Result<(), Fail> {
     let alloc = rt.alloc();
     let cases: [(&[u8], usize); 9] = [
         (b"", 0),
@@ -205,5 +205,15 @@ fn quotes_and_finds_members(rt: HostRuntime) -> Result<(), Fail> {
     for (text, name, span) in cases {
         assert_eq!(rt; member(text, name), span, "{text:?}");
     }
+    Ok(())
+}
+
+#[test]
+fn texts_are_escaped_in_their_place(rt: HostRuntime) -> Result<(), Fail> {
+    let mut out = b"\"a\"b".to_vec(rt.alloc())?;
+    escape_from(&mut out, 1)?;
+    assert_eq!(rt; out.as_slice(), b"\"a\\\"b".as_slice());
+    push_quoted(&mut out, "/\t")?;
+    assert_eq!(rt; out.as_slice(), b"\"a\\\"b\"/\\t\"".as_slice());
     Ok(())
 }

@@ -1,4 +1,4 @@
-use Rattle.std.proofs.Common.{◌≡◌, ◌+◌, ◌≤◌, length, vec_len, arith}
+use Rattle.std.proofs.Common.{◌≡◌, length, vec_len, arith}
 use Rattle.std.proofs.lemmas.List.{take_rest}
 use Rattle.json_span.proofs.QuoteLemmas.{plain_rest}
 use Rattle.json_span.proofs.quoted.escape_from.Goals as goal

@@ -1,4 +1,4 @@
-use Rattle.std.proofs.Common.{◌≡◌, ◌+◌, ◌-◌, ◌<◌, ◌++◌, length, take, drop, get_or, ap, sym, ◌∙◌, append_assoc, arith}
+use Rattle.std.proofs.Common.{◌≡◌, ◌+◌, ◌-◌, ◌<◌, ◌++◌, length, take, get_or, ap, sym, ◌∙◌, append_assoc, arith}
 use Rattle.std.specs.Prelude.{flat_map}
 use Rattle.std.proofs.lemmas.List.{take_all, take_rest}
 use Rattle.json_span.specs.Quote.{escaped}
@@ -27,9 +27,9 @@ loop-at-preserved c =
     let more : at + n < length text = omega arith in (
       omega arith,
       c.in_ok-push_escaped.ensures.ok
-      ∙ (ap (λ l. l ++ escaped (get_or text (at + n) 0))
-      (ranged text before c.loop-at.out.items _ at n (at + n - at) size plain c.loop-at.invariant.1
-      c.in_ok-extend_from_slice.ensures.items)
-      ∙ (append_assoc before (flat_map escaped (take (at + n) text)) (escaped (get_or text (at + n) 0))
-      ∙ ap (λ l. before ++ l) (sym (escaped_more text (at + n) more)))),
+          ∙ (ap (λ l. l ++ escaped (get_or text (at + n) 0))
+          (ranged text before c.loop-at.out.items _ at n (at + n - at) size plain c.loop-at.invariant.1
+          c.in_ok-extend_from_slice.ensures.items)
+          ∙ (append_assoc before (flat_map escaped (take (at + n) text)) (escaped (get_or text (at + n) 0))
+          ∙ ap (λ l. before ++ l) (sym (escaped_more text (at + n) more)))),
     )

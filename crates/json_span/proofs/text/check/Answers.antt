@@ -1,4 +1,4 @@
-use Rattle.std.proofs.Common.{◌≡◌, None, refl, sym, ◌∙◌, ap, take, length, ◌-◌, drop, arith, length-drop}
+use Rattle.std.proofs.Common.{◌≡◌, None, refl, sym, ◌∙◌, ap, arith, length-drop}
 use Rattle.json_span.specs.Machine.{place_step}
 use Rattle.json_span.proofs.TextLemmas.{whole, accepted, stopped, unended}
 use Rattle.json_span.proofs.PassLemmas.{next_leads, rest_first}
