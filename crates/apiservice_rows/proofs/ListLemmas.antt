@@ -1,12 +1,12 @@
 -- The rows of a list, one item after another.
-use Rattle.std.proofs.Common.{◌≡◌, true, ◌∷◌, [], ◌++◌, List, Some, Result, Ok, Err, refl, sym, ap, ◌∙◌, append_assoc}
+use Rattle.std.proofs.Common.{◌≡◌, Bool, true, false, ◌∷◌, [], ◌++◌, List, Some, Result, Ok, Err, refl, sym, ap, ◌∙◌, append_assoc}
 use Rattle.serde_json.specs.Data.{Data, Items, no_items, item}
-use Rattle.apiservice_rows.specs.Fault.{◌>>=◌, fault_of, Fails}
+use Rattle.json_value.specs.Results.{◌>>=◌, fault_of, Unless}
+use Rattle.apiservice_rows.specs.Fault.{is_memory, Fails}
 use Rattle.apiservice_rows.specs.Object.{row_of}
 use Rattle.apiservice_rows.specs.Row.{Row}
 use Rattle.apiservice_rows.specs.RowList.{item_rows}
 use Rattle.apiservice_rows.specs.declared.fault.RowFault.{RowFault}
-use Rattle.apiservice_rows.specs.declared.fault.RowFault.TheVariants.{NotJson, BadField, NameMismatch, Range, Repeated, Full, NoMemory}
 
 -- what is read of the others, behind the rows in front
 abbrev pub with_front : List Row → Result (List Row) RowFault → Result (List Row) RowFault
@@ -37,17 +37,12 @@ fault_is : {A : Type 0} (r : Result A RowFault) (f : RowFault) → fault_of r �
 fault_is (Ok x) f e = absurd (cc e)
 fault_is (Err g) f e = cc e
 
-stops : {A B : Type 0} (r : Result A RowFault) (all : Result B RowFault) → ((f : RowFault) → r ≡ Err f → all ≡ Err f)
-    → (f : RowFault) → Fails f (fault_of r) → Fails f (fault_of all)
-stops r all h NoMemory e = tt
-stops r all h NotJson e = ap fault_of (h NotJson (fault_is r NotJson e))
-stops r all h NameMismatch e = ap fault_of (h NameMismatch (fault_is r NameMismatch e))
-stops r all h Full e = ap fault_of (h Full (fault_is r Full e))
-stops r all h (BadField name) e = ap fault_of (h (BadField name) (fault_is r (BadField name) e))
-stops r all h (Range name) e = ap fault_of (h (Range name) (fault_is r (Range name) e))
-stops r all h (Repeated name) e = ap fault_of (h (Repeated name) (fault_is r (Repeated name) e))
+stops : {A B : Type 0} (b : Bool) (r : Result A RowFault) (all : Result B RowFault) (f : RowFault) → (r ≡ Err f → all ≡ Err f)
+    → Unless b (fault_of r ≡ Some f) → Unless b (fault_of all ≡ Some f)
+stops true r all f h e = tt
+stops false r all f h e = ap fault_of (h (fault_is r f e))
 
 -- the fault of an item is that of the list
 pub fault_stops : (done : List Row) (d : Data) (ds : Items) (all : Result (List Row) RowFault) (f : RowFault)
     → Fails f (fault_of (row_of true d)) → with_front done (item_rows (item d ds)) ≡ all → Fails f (fault_of all)
-fault_stops done d ds all f fails is = stops (row_of true d) all (λ g e. sym is ∙ rows_stop done d ds g e) f fails
+fault_stops done d ds all f fails is = stops (is_memory f) (row_of true d) all f (λ e. sym is ∙ rows_stop done d ds f e) fails

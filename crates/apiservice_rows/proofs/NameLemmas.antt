@@ -3,7 +3,7 @@ use Rattle.std.proofs.Common.{◌≡◌, ℕ, Bool, true, false, cond, List, [],
 use Rattle.std.specs.Prelude.{not, ◌||◌}
 use Rattle.std.specs.Str.{bytes_eq}
 use Rattle.std.proofs.lemmas.List.{map-append}
-use Rattle.apiservice_rows.specs.Fault.{fault_of}
+use Rattle.json_value.specs.Results.{fault_of}
 use Rattle.apiservice_rows.specs.Row.{Row}
 use Rattle.apiservice_rows.specs.RowList.{is_among, names_of, repeated, distinct}
 use Rattle.apiservice_rows.specs.declared.fault.RowFault.TheVariants.{Repeated}

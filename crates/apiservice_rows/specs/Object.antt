@@ -2,12 +2,12 @@
 use Rattle.std.specs.Prelude.{ℕ, ◌+◌, ◌==◌, ◌&&◌, ◌||◌, not, nat_lt, Bool, true, false, if◌then◌else◌, List, [], ◌∷◌, length, Option, Some, None, option_and_then, Result, Ok, Err, codes}
 use Rattle.std.specs.Char.{is_ascii_digit, is_ascii_lowercase}
 use Rattle.std.specs.Str.{bytes_eq}
-use Rattle.serde_json.specs.Data.{Data, null, boolean, number, string, array, object, Num, unsigned, negative, float, Items, no_items, item}
+use Rattle.serde_json.specs.Data.{Data, Num, unsigned, negative, float, Items, no_items, item}
 use Rattle.serde_json.specs.Find.{as_str, as_number}
 use Rattle.serde_json.specs.Written.{has_float, compact_text}
-use Rattle.json_value.specs.Members.{present, inner, text_in, is_text, is_object}
+use Rattle.json_value.specs.Members.{present, inner, text_in, is_text, is_object, list_or}
 use Rattle.json_value.specs.Read.{value_of}
-use Rattle.apiservice_rows.specs.Fault.{◌>>=◌, found_or}
+use Rattle.json_value.specs.Results.{◌>>=◌, found_or}
 use Rattle.apiservice_rows.specs.Row.{Row, own_name}
 use Rattle.apiservice_rows.specs.declared.fault.RowFault.{RowFault}
 use Rattle.apiservice_rows.specs.declared.fault.RowFault.TheVariants.{NotJson, BadField, NameMismatch, Range}
@@ -150,17 +150,8 @@ is_available (item d ds) =
 abbrev pub available_by : Items → Result Bool RowFault
 available_by ds = if are_objects ds then Ok (is_available ds) else Err (BadField (codes "conditions"))
 
-abbrev pub some_conditions : Data → Result Bool RowFault
-some_conditions null = Err (BadField (codes "conditions"))
-some_conditions (boolean b) = Err (BadField (codes "conditions"))
-some_conditions (number n) = Err (BadField (codes "conditions"))
-some_conditions (string s) = Err (BadField (codes "conditions"))
-some_conditions (array ds) = available_by ds
-some_conditions (object ms) = Err (BadField (codes "conditions"))
-
 abbrev pub conditions_in : Option Data → Result Bool RowFault
-conditions_in None = Ok true
-conditions_in (Some d) = some_conditions d
+conditions_in found = list_or (BadField (codes "conditions")) (Ok true) available_by found
 
 abbrev pub some_status : Data → Result Bool RowFault
 some_status d =

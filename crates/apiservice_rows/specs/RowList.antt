@@ -1,10 +1,10 @@
 -- A list of APIService objects and its rows, or its first fault.
 use Rattle.std.specs.Prelude.{ℕ, ◌||◌, nat_lt, Bool, true, false, if◌then◌else◌, List, [], ◌∷◌, ◌++◌, map, length, Option, Some, None, Result, Ok, Err, codes}
 use Rattle.std.specs.Str.{bytes_eq}
-use Rattle.serde_json.specs.Data.{Data, null, boolean, number, string, array, object, Items, no_items, item}
-use Rattle.json_value.specs.Members.{present, is_text}
+use Rattle.serde_json.specs.Data.{Data, Items, no_items, item}
+use Rattle.json_value.specs.Members.{present, is_text, list_or}
 use Rattle.json_value.specs.Read.{value_of}
-use Rattle.apiservice_rows.specs.Fault.{◌>>=◌, found_or}
+use Rattle.json_value.specs.Results.{◌>>=◌, found_or}
 use Rattle.apiservice_rows.specs.Object.{row_of}
 use Rattle.apiservice_rows.specs.Row.{Row}
 use Rattle.apiservice_rows.specs.declared.fault.RowFault.{RowFault}
@@ -19,14 +19,9 @@ item_rows (item d ds) = do
   others ← item_rows ds
   Ok (first ∷ others)
 
+-- an absent list is at fault too
 abbrev pub items_in : Option Data → Result (List Row) RowFault
-items_in None = Err (BadField (codes "items"))
-items_in (Some null) = Err (BadField (codes "items"))
-items_in (Some (boolean b)) = Err (BadField (codes "items"))
-items_in (Some (number n)) = Err (BadField (codes "items"))
-items_in (Some (string s)) = Err (BadField (codes "items"))
-items_in (Some (array ds)) = item_rows ds
-items_in (Some (object ms)) = Err (BadField (codes "items"))
+items_in found = list_or (BadField (codes "items")) (Err (BadField (codes "items"))) item_rows found
 
 -- a list by its kind, as `kubectl get apiservices -o json` prints one
 abbrev pub is_list : Data → Bool

@@ -63,10 +63,8 @@ impl From<ValueError> for RowFault {
 pub fn bad_field(alloc: Global, name: &str) -> RowFault
     ensures { Fails result (Some (RowFault.BadField name.now)) }
 {
-    match String::from_str(alloc, name) {
-        Ok(name) => RowFault::BadField {
-            name: Text::new(name),
-        },
+    match Text::copy_of(alloc, name) {
+        Ok(name) => RowFault::BadField { name },
         Err(_) => RowFault::NoMemory,
     }
 }
@@ -75,10 +73,8 @@ pub fn bad_field(alloc: Global, name: &str) -> RowFault
 pub fn out_of_range(alloc: Global, name: &str) -> RowFault
     ensures { Fails result (Some (RowFault.Range name.now)) }
 {
-    match String::from_str(alloc, name) {
-        Ok(name) => RowFault::Range {
-            name: Text::new(name),
-        },
+    match Text::copy_of(alloc, name) {
+        Ok(name) => RowFault::Range { name },
         Err(_) => RowFault::NoMemory,
     }
 }
@@ -87,10 +83,8 @@ pub fn out_of_range(alloc: Global, name: &str) -> RowFault
 pub fn repeated(alloc: Global, name: &str) -> RowFault
     ensures { Fails result (Some (RowFault.Repeated name.now)) }
 {
-    match String::from_str(alloc, name) {
-        Ok(name) => RowFault::Repeated {
-            name: Text::new(name),
-        },
+    match Text::copy_of(alloc, name) {
+        Ok(name) => RowFault::Repeated { name },
         Err(_) => RowFault::NoMemory,
     }
 }

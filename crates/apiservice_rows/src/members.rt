@@ -1,5 +1,5 @@
 // The members of an APIService object, one check each.
-ghost use Rattle.std.specs.Prelude.{◌≡◌, Ok, false, IfOk, OnOk, option_map};
+ghost use Rattle.std.specs.Prelude.{◌≡◌, false, IfOk, OnOk, option_map};
 ghost use Rattle.serde_json.specs.View.{view, items_view};
 ghost use Rattle.serde_json.specs.Written.{has_float};
 ghost use Rattle.apiservice_rows.specs.Fault.{Gives};
@@ -13,13 +13,6 @@ use front_base::Text;
 use json_value::{has_float, inner, is_text, present, text_in};
 use serde_json::Value;
 use std::alloc::Global;
-
-// A text of one's own.
-fn owned(alloc: Global, text: &str) -> Result<Text, RowFault>
-    ensures { Gives (λ t. t) result (Ok text.now) }
-{
-    Ok(Text::new(String::from_str(alloc, text)?))
-}
 
 // Whether a member is that text; in a list it may be absent.
 fn is_head_text(in_list: bool, text: &str, found: Option<&Value>) -> bool
@@ -58,7 +51,7 @@ pub fn name_of(alloc: Global, value: &Value) -> Result<Text, RowFault>
     ensures { Gives (λ t. t) result (spec.name_of (view value.now)) }
 {
     match text_in(inner(value, "metadata", "name")) {
-        Some(text) if !text.is_empty() => owned(alloc, text),
+        Some(text) if !text.is_empty() => Ok(Text::copy_of(alloc, text)?),
         _ => Err(bad_field(alloc, "name")),
     }
 }
@@ -67,7 +60,7 @@ fn some_group(alloc: Global, found: &Value) -> Result<Text, RowFault>
     ensures { Gives (λ t. t) result (spec.some_group (view found.now)) }
 {
     match found.as_str() {
-        Some(text) if is_group(text) => owned(alloc, text),
+        Some(text) if is_group(text) => Ok(Text::copy_of(alloc, text)?),
         _ => Err(bad_field(alloc, "group")),
     }
 }
@@ -89,7 +82,7 @@ pub fn version_of(alloc: Global, value: &Value) -> Result<Text, RowFault>
     ensures no_dot { IfOk result (λ t. has_dot t ≡ false) }
 {
     match text_in(inner(value, "spec", "version")) {
-        Some(text) if is_version(text) => owned(alloc, text),
+        Some(text) if is_version(text) => Ok(Text::copy_of(alloc, text)?),
         _ => Err(bad_field(alloc, "version")),
     }
 }
@@ -123,7 +116,7 @@ fn service_text(alloc: Global, name: &str, service: &Value) -> Result<Text, RowF
     ensures { Gives (λ t. t) result (spec.service_text name.now (view service.now)) }
 {
     match text_in(present(service, name)) {
-        Some(text) if is_service_name(text) => owned(alloc, text),
+        Some(text) if is_service_name(text) => Ok(Text::copy_of(alloc, text)?),
         _ => Err(bad_field(alloc, name)),
     }
 }
@@ -208,12 +201,13 @@ fn available_by(alloc: Global, conditions: &Vec<Value>) -> Result<bool, RowFault
     Ok(is_available(conditions))
 }
 
-fn some_conditions(alloc: Global, found: &Value) -> Result<bool, RowFault>
-    ensures { Gives (λ b. b) result (spec.some_conditions (view found.now)) }
+fn conditions_in(alloc: Global, found: Option<&Value>) -> Result<bool, RowFault>
+    ensures { Gives (λ b. b) result (spec.conditions_in (option_map (λ v. view v.now) found.entry)) }
 {
     match found {
-        Value::Array(conditions) => available_by(alloc, conditions),
-        _ => Err(bad_field(alloc, "conditions")),
+        None => Ok(true),
+        Some(Value::Array(conditions)) => available_by(alloc, conditions),
+        Some(_) => Err(bad_field(alloc, "conditions")),
     }
 }
 
@@ -223,10 +217,7 @@ fn some_status(alloc: Global, status: &Value) -> Result<bool, RowFault>
     if !status.is_object() {
         return Err(bad_field(alloc, "status"));
     }
-    match present(status, "conditions") {
-        None => Ok(true),
-        Some(found) => some_conditions(alloc, found),
-    }
+    conditions_in(alloc, present(status, "conditions"))
 }
 
 // Available where no condition says otherwise.

@@ -45,17 +45,11 @@ impl Model for Row {
     ghost invariant = { λ r. seen.IsRowName r.name r.version r.group };
 }
 
-fn copy_text(alloc: Global, text: &Text) -> Result<Text, NoMemory>
-    ensures { IfOk result (λ copy. copy ≡ text.now) }
-{
-    Ok(Text::new(String::from_str(alloc, text.as_str())?))
-}
-
 fn copy_service(alloc: Global, service: &ServiceRef) -> Result<ServiceRef, NoMemory>
     ensures { IfOk result (λ copy. copy ≡ service.now) }
 {
-    let namespace = copy_text(alloc, &service.namespace)?;
-    let name = copy_text(alloc, &service.name)?;
+    let namespace = service.namespace.copy(alloc)?;
+    let name = service.name.copy(alloc)?;
     Ok(ServiceRef {
         namespace,
         name,
@@ -84,11 +78,11 @@ impl Row {
     pub fn copy(&self, alloc: Global) -> Result<Row, NoMemory>
         ensures { IfOk result (λ copy. copy ≡ self.now) }
     {
-        let name = copy_text(alloc, &self.name)?;
-        let group = copy_text(alloc, &self.group)?;
-        let version = copy_text(alloc, &self.version)?;
+        let name = self.name.copy(alloc)?;
+        let group = self.group.copy(alloc)?;
+        let version = self.version.copy(alloc)?;
         let service = copy_present(alloc, &self.service)?;
-        let object = Bytes::new(self.object.as_slice().to_vec(alloc)?);
+        let object = self.object.copy(alloc)?;
         Ok(Row {
             name,
             group,

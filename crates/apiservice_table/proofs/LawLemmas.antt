@@ -6,7 +6,7 @@ use Rattle.std.proofs.lemmas.Bool.Decides.{nat_tests}
 use Rattle.std.proofs.lemmas.Slice.Eq.{bytes_eq-Decides}
 use Rattle.json_value.specs.Members.{present}
 use Rattle.json_value.specs.Read.{value_of}
-use Rattle.apiservice_rows.specs.Fault.{◌>>=◌, found_or}
+use Rattle.json_value.specs.Results.{◌>>=◌, found_or}
 use Rattle.apiservice_rows.specs.Object.{row_of}
 use Rattle.apiservice_rows.specs.Row.{Row}
 use Rattle.apiservice_rows.specs.RowList.{is_among, repeated, names_of, distinct, few, items_in, is_list, one_row, list_rows, read_rows}

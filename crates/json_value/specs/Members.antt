@@ -1,8 +1,9 @@
 -- The members of a JSON value.
-use Rattle.std.specs.Prelude.{ℕ, Bool, true, false, List, Option, Some, None, option_and_then}
+use Rattle.std.specs.Prelude.{ℕ, Bool, true, false, List, Option, Some, None, option_and_then, Result, Ok}
 use Rattle.std.specs.Str.{bytes_eq}
-use Rattle.serde_json.specs.Data.{Data, null, boolean, number, string, array, object}
-use Rattle.serde_json.specs.Find.{get, as_str}
+use Rattle.serde_json.specs.Data.{Data, null, boolean, number, string, array, object, Items}
+use Rattle.serde_json.specs.Find.{get, as_array, as_bool, as_str}
+use Rattle.json_value.specs.Results.{◌>>=◌, found_or}
 
 abbrev pub not_null : Data → Option Data
 not_null null = None
@@ -40,3 +41,13 @@ is_object (number n) = false
 is_object (string s) = false
 is_object (array ds) = false
 is_object (object ms) = true
+
+-- what is read of a member that must be a list, and what stands for one that is absent
+abbrev pub list_or : {A E : Type 0} → E → Result A E → (Items → Result A E) → Option Data → Result A E
+list_or fault absent read None = absent
+list_or fault absent read (Some d) = found_or fault (as_array d) >>= read
+
+-- a member that must be true or false, and what stands for one that is absent
+abbrev pub bool_or : {E : Type 0} → E → Bool → Option Data → Result Bool E
+bool_or fault absent None = Ok absent
+bool_or fault absent (Some d) = found_or fault (as_bool d)

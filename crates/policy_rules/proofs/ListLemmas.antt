@@ -1,7 +1,7 @@
 -- What is read of a list's items, one after another.
 use Rattle.std.proofs.Common.{◌≡◌, ℕ, ◌+◌, ◌∷◌, [], ◌++◌, List, Result, Ok, Err, refl, ap, ◌∙◌, append_assoc}
 use Rattle.serde_json.specs.Data.{Data, Items, item}
-use Rattle.policy_rules.specs.Fault.{◌>>=◌}
+use Rattle.json_value.specs.Results.{◌>>=◌}
 use Rattle.policy_rules.specs.Reading.{each_from}
 use Rattle.policy_rules.specs.declared.fault.PolicyFault.{PolicyFault}
 

@@ -3,17 +3,17 @@
 use Rattle.std.specs.Prelude.{ℕ, ◌+◌, ◌==◌, ◌&&◌, ◌||◌, not, Bool, true, false, if◌then◌else◌, List, [], ◌∷◌, nat_eq, Option, Some, None, option_and_then, Result, Ok, Err, codes}
 use Rattle.std.specs.List.{list_any, starts_with}
 use Rattle.std.specs.Str.{bytes_eq}
-use Rattle.serde_json.specs.Data.{Data, null, boolean, number, string, array, object, Items, no_items, item}
+use Rattle.serde_json.specs.Data.{Data, Items, no_items, item}
 use Rattle.serde_json.specs.Find.{as_str}
 use Rattle.serde_json.specs.Written.{has_float}
-use Rattle.json_value.specs.Members.{present, text_in, is_text, is_object}
+use Rattle.json_value.specs.Members.{present, text_in, is_text, is_object, list_or, bool_or}
 use Rattle.json_value.specs.Read.{value_of}
+use Rattle.json_value.specs.Results.{◌>>=◌, found_or}
 use Rattle.front_base.specs.Level.{level_name}
 use Rattle.front_base.specs.Stage.{stage_name}
 use Rattle.front_base.specs.declared.level.Level.{Level}
 use Rattle.front_base.specs.declared.level.Level.TheVariants as level
 use Rattle.front_base.specs.declared.stage.Stage.TheVariants as stage
-use Rattle.policy_rules.specs.Fault.{◌>>=◌, found_or}
 use Rattle.policy_rules.specs.Matching.{is_empty, is_about_resources, front}
 use Rattle.policy_rules.specs.Policy.{nothing}
 use Rattle.policy_rules.specs.declared.fault.PolicyFault.{PolicyFault}
@@ -39,17 +39,11 @@ text_of rule name d = found_or (BadField rule name) (as_str d)
 unfoldable pub texts_of : Option ℕ → List ℕ → Items → Result (List (List ℕ)) PolicyFault
 texts_of rule name ds = each_from (λ place d. text_of rule name d) 0 ds
 
--- a list of texts; absent is empty
+-- absent is empty
 abbrev pub texts_in : Option ℕ → List ℕ → Option Data → Result (List (List ℕ)) PolicyFault
-texts_in rule name None = Ok []
-texts_in rule name (Some null) = Err (BadField rule name)
-texts_in rule name (Some (boolean b)) = Err (BadField rule name)
-texts_in rule name (Some (number n)) = Err (BadField rule name)
-texts_in rule name (Some (string s)) = Err (BadField rule name)
-texts_in rule name (Some (array ds)) = texts_of rule name ds
-texts_in rule name (Some (object ms)) = Err (BadField rule name)
+texts_in rule name found = list_or (BadField rule name) (Ok []) (texts_of rule name) found
 
--- ---- stages and truth values
+-- ---- stages
 
 abbrev pub is_stage : Data → Bool
 is_stage d =
@@ -76,31 +70,15 @@ omit_by ds = record {
 unfoldable pub omit_of : Option ℕ → Items → Result Omit PolicyFault
 omit_of rule ds = if are_stages ds then Ok (omit_by ds) else Err (BadField rule (codes "omitStages"))
 
--- a list of names of stages; absent is empty
+-- names of stages; absent is none
 abbrev pub omit_in : Option ℕ → Option Data → Result Omit PolicyFault
-omit_in rule None = Ok nothing
-omit_in rule (Some null) = Err (BadField rule (codes "omitStages"))
-omit_in rule (Some (boolean b)) = Err (BadField rule (codes "omitStages"))
-omit_in rule (Some (number n)) = Err (BadField rule (codes "omitStages"))
-omit_in rule (Some (string s)) = Err (BadField rule (codes "omitStages"))
-omit_in rule (Some (array ds)) = omit_of rule ds
-omit_in rule (Some (object ms)) = Err (BadField rule (codes "omitStages"))
+omit_in rule found = list_or (BadField rule (codes "omitStages")) (Ok nothing) (omit_of rule) found
 
--- a truth value, or absent
-abbrev pub managed_in : Option ℕ → Option Data → Result (Unit {0}) PolicyFault
-managed_in rule None = Ok tt
-managed_in rule (Some null) = Err (BadField rule (codes "omitManagedFields"))
-managed_in rule (Some (boolean b)) = Ok tt
-managed_in rule (Some (number n)) = Err (BadField rule (codes "omitManagedFields"))
-managed_in rule (Some (string s)) = Err (BadField rule (codes "omitManagedFields"))
-managed_in rule (Some (array ds)) = Err (BadField rule (codes "omitManagedFields"))
-managed_in rule (Some (object ms)) = Err (BadField rule (codes "omitManagedFields"))
-
--- what both a policy and a rule may leave out
+-- what both a policy and a rule may leave out; absent is false
 unfoldable pub omissions_of : Option ℕ → Data → Result Omit PolicyFault
 omissions_of rule d = do
   omit ← omit_in rule (present (codes "omitStages") d)
-  managed ← managed_in rule (present (codes "omitManagedFields") d)
+  managed ← bool_or (BadField rule (codes "omitManagedFields")) false (present (codes "omitManagedFields") d)
   Ok omit
 
 -- ---- levels
@@ -140,15 +118,9 @@ element_of place d =
 unfoldable pub elements_of : ℕ → Items → Result (List GroupResources) PolicyFault
 elements_of rule ds = each_from (λ place d. element_of rule d) 0 ds
 
--- a list of objects; absent is empty
+-- absent is empty
 abbrev pub elements_in : ℕ → Option Data → Result (List GroupResources) PolicyFault
-elements_in place None = Ok []
-elements_in place (Some null) = Err (BadField (Some place) (codes "resources"))
-elements_in place (Some (boolean b)) = Err (BadField (Some place) (codes "resources"))
-elements_in place (Some (number n)) = Err (BadField (Some place) (codes "resources"))
-elements_in place (Some (string s)) = Err (BadField (Some place) (codes "resources"))
-elements_in place (Some (array ds)) = elements_of place ds
-elements_in place (Some (object ms)) = Err (BadField (Some place) (codes "resources"))
+elements_in place found = list_or (BadField (Some place) (codes "resources")) (Ok []) (elements_of place) found
 
 -- ---- a rule
 
@@ -215,19 +187,14 @@ head_of d =
 unfoldable pub rules_of : Items → Result (List Rule) PolicyFault
 rules_of ds = each_from rule_of 0 ds
 
+-- a list that isn't empty
 abbrev pub some_rules : Items → Result (List Rule) PolicyFault
 some_rules no_items = Err NoRules
 some_rules (item d ds) = rules_of (item d ds)
 
--- a list that isn't empty
+-- absent is empty
 abbrev pub rules_in : Option Data → Result (List Rule) PolicyFault
-rules_in None = Err NoRules
-rules_in (Some null) = Err (BadField None (codes "rules"))
-rules_in (Some (boolean b)) = Err (BadField None (codes "rules"))
-rules_in (Some (number n)) = Err (BadField None (codes "rules"))
-rules_in (Some (string s)) = Err (BadField None (codes "rules"))
-rules_in (Some (array ds)) = some_rules ds
-rules_in (Some (object ms)) = Err (BadField None (codes "rules"))
+rules_in found = list_or (BadField None (codes "rules")) (Err NoRules) some_rules found
 
 -- the policy of a text, or the first of its faults in this order
 unfoldable pub read_policy : List ℕ → Result Policy PolicyFault

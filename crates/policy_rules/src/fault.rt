@@ -2,9 +2,9 @@ ghost use Rattle.std.specs.Prelude.{◌≡◌, Some};
 ghost use Rattle.policy_rules.specs.Fault.{Fails, no_value};
 ghost use Rattle.policy_rules.specs.declared.fault.PolicyFault.TheVariants as fault;
 
-use front_base::{NoMemory, Text};
+use front_base::{NoMemory as OutOfMemory, Text};
 use json_value::ValueError;
-use std::alloc::{AllocError, AllocFailed, Global};
+use std::alloc::{AllocFailed, Global};
 
 /// Why a text gives no policy. A `rule` is a place in the list of rules, from 0.
 #[derive(Debug, Drop)]
@@ -24,10 +24,10 @@ pub enum PolicyFault {
     NoMemory,
 }
 
-impl From<AllocError> for PolicyFault {
+impl From<OutOfMemory> for PolicyFault {
     ghost from_gives = { λ _ e. e ≡ fault.NoMemory };
 
-    fn from(_: AllocError) -> Self {
+    fn from(_: OutOfMemory) -> Self {
         PolicyFault::NoMemory
     }
 }
@@ -55,11 +55,8 @@ impl From<ValueError> for PolicyFault {
 pub fn bad_field(alloc: Global, rule: Option<u32>, name: &str) -> PolicyFault
     ensures { Fails result (Some (PolicyFault.BadField rule name.now)) }
 {
-    match String::from_str(alloc, name) {
-        Ok(name) => PolicyFault::BadField {
-            rule,
-            name: Text::new(name),
-        },
+    match Text::copy_of(alloc, name) {
+        Ok(name) => PolicyFault::BadField { rule, name },
         Err(_) => PolicyFault::NoMemory,
     }
 }

@@ -1,7 +1,8 @@
 // The members of a policy and of a rule, one check each.
-ghost use Rattle.std.specs.Prelude.{◌≡◌, Ok, Some, option_map};
+ghost use Rattle.std.specs.Prelude.{◌≡◌, Some, false, option_map};
 ghost use Rattle.serde_json.specs.View.{view, items_view};
 ghost use Rattle.front_base.specs.Stage.{stage_name};
+ghost use Rattle.json_value.specs.Members.{bool_or};
 ghost use Rattle.policy_rules.specs.Fault.{Gives};
 ghost use Rattle.policy_rules.specs.Reading as spec;
 
@@ -12,12 +13,6 @@ use json_value::{is_text, present, text_in};
 use serde_json::Value;
 use std::alloc::Global;
 
-fn owned(alloc: Global, text: &str) -> Result<Text, PolicyFault>
-    ensures { Gives (λ t. t) result (Ok text.now) }
-{
-    Ok(Text::new(String::from_str(alloc, text)?))
-}
-
 pub fn text_of(
     alloc: Global,
     rule: Option<u32>,
@@ -27,7 +22,7 @@ pub fn text_of(
     ensures { Gives (λ t. t) result (spec.text_of rule name.now (view value.now)) }
 {
     match value.as_str() {
-        Some(text) => owned(alloc, text),
+        Some(text) => Ok(Text::copy_of(alloc, text)?),
         None => Err(bad_field(alloc, rule, name)),
     }
 }
@@ -119,13 +114,19 @@ fn omit_in(alloc: Global, rule: Option<u32>, found: Option<&Value>) -> Result<Om
     }
 }
 
-fn check_managed(alloc: Global, rule: Option<u32>, found: Option<&Value>) -> Result<(), PolicyFault>
-    ensures { Gives (λ u. u) result (spec.managed_in rule (option_map (λ v. view v.now) found.entry)) }
+fn bool_in(
+    alloc: Global,
+    rule: Option<u32>,
+    name: &str,
+    found: Option<&Value>,
+) -> Result<bool, PolicyFault>
+    ensures { Gives (λ b. b) result (bool_or
+        (PolicyFault.BadField rule name.now) false (option_map (λ v. view v.now) found.entry)) }
 {
     match found {
-        None => Ok(()),
-        Some(Value::Bool(_)) => Ok(()),
-        Some(_) => Err(bad_field(alloc, rule, "omitManagedFields")),
+        None => Ok(false),
+        Some(Value::Bool(truth)) => Ok(*truth),
+        Some(_) => Err(bad_field(alloc, rule, name)),
     }
 }
 
@@ -135,7 +136,13 @@ pub fn omissions_of(alloc: Global, rule: Option<u32>, value: &Value) -> Result<O
     ensures { Gives (λ o. o) result (spec.omissions_of rule (view value.now)) }
 {
     let omit = omit_in(alloc, rule, present(value, "omitStages"))?;
-    check_managed(alloc, rule, present(value, "omitManagedFields"))?;
+    // no decision says anything of managed fields yet
+    bool_in(
+        alloc,
+        rule,
+        "omitManagedFields",
+        present(value, "omitManagedFields"),
+    )?;
     Ok(omit)
 }
 

@@ -6,7 +6,8 @@ use Rattle.std.specs.Cmp.Lexicographic.{slice_cmp}
 use Rattle.std.specs.Ordering.{nat_cmp}
 use Rattle.std.specs.Str.{bytes_eq}
 use Rattle.std.specs.declared.cmp.Ordering.{Ordering}
-use Rattle.apiservice_rows.specs.Fault.{Fails, fault_of}
+use Rattle.json_value.specs.Results.{fault_of}
+use Rattle.apiservice_rows.specs.Fault.{Fails}
 use Rattle.apiservice_rows.specs.Row.{Row}
 use Rattle.apiservice_rows.specs.RowList.{is_among, names_of, repeated, distinct}
 use Rattle.apiservice_rows.specs.declared.fault.RowFault.{RowFault}
