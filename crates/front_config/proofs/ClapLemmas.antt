@@ -9,7 +9,8 @@ use Rattle.clap.specs.Takes.{is_given}
 use Rattle.clap.specs.Walk.{Held, Row, Rule, Text, finished, first_of, has_row, nothing_held, rows_after, settled, walk, walk_from, with_default}
 use Rattle.front_config.specs.Parser.{app_with, bare, given_in, is_doubtful, row_for}
 use Rattle.front_config.specs.Spelling.{Named, is_among, options_of}
-use Rattle.front_config.specs.Words.{given_of, if_distinct, usage_or, value_of}
+use Rattle.json_value.specs.Results.{found_or}
+use Rattle.front_config.specs.Words.{given_of, if_distinct, value_of}
 use Rattle.front_config.specs.declared.fault.WordsFault.TheVariants.{Usage}
 use Rattle.front_config.proofs.DistinctLemmas.{added_is, value_is}
 use Rattle.front_config.proofs.DoubtLemmas.{doubtful_is_none}
@@ -124,7 +125,7 @@ module _ (names words : List (List ℕ)) (sure : list_any is_doubtful words ≡ 
   unfolding given_of
   refuses fails = go options refl (agrees names words sure utf8)
     where
-      go : (o : Option (List Named)) → options ≡ o → Agrees o faults_of found → usage_or options ≡ Err Usage
+      go : (o : Option (List Named)) → options ≡ o → Agrees o faults_of found → found_or Usage options ≡ Err Usage
       go None e a = rw e refl
       go (Some given) e a = absurd (fails a.0)
 
@@ -133,7 +134,7 @@ module _ (names words : List (List ℕ)) (sure : list_any is_doubtful words ≡ 
   unfolding given_of
   takes = go options refl (agrees names words sure utf8)
     where
-      go : (o : Option (List Named)) → options ≡ o → Agrees o faults_of found → (faults_of ≡ [] → IsOk (usage_or options)) × (IsOk (usage_or options) → faults_of ≡ [])
+      go : (o : Option (List Named)) → options ≡ o → Agrees o faults_of found → (faults_of ≡ [] → IsOk (found_or Usage options)) × (IsOk (found_or Usage options) → faults_of ≡ [])
       go None e fails = ((λ none. absurd (fails none)), (λ ok. absurd (true≢false (sym (rw e at ok)))))
       go (Some given) e a = ((λ none. rw e refl), (λ ok. a.0))
 
@@ -143,10 +144,10 @@ module _ (names words : List (List ℕ)) (sure : list_any is_doubtful words ≡ 
     where
       go : (o : Option (List Named)) → options ≡ o → Agrees o faults_of found → first_of name found ≡ value_of name given
       go None e fails =
-          let none = sym (ap usage_or e) ∙ h in
+          let none = sym (ap (found_or Usage) e) ∙ h in
           cc none
       go (Some held) e a =
-          let ok = sym (ap usage_or e) ∙ h in
+          let ok = sym (ap (found_or Usage) e) ∙ h in
           let same : held ≡ given = cc ok in
           ap (first_of name) a.1 ∙ value_is name held ∙ ap (value_of name) same
 

@@ -1,13 +1,12 @@
--- The first fault of several readings is that of all.
-use Rattle.std.proofs.Common.{Result, Ok, Err}
-use Rattle.front_config.specs.Words.{◌>>=◌, Fails, fault_of}
-use Rattle.front_config.specs.declared.fault.WordsFault.{WordsFault}
-use Rattle.front_config.specs.declared.fault.WordsFault.TheVariants.{Usage, Limits, NoMemory}
+-- The first fault of several checks is that of all.
+use Rattle.std.proofs.Common.{Bool, true, false, Some, Result, Ok, Err, ◌≡◌}
+use Rattle.json_value.specs.Results.{◌>>=◌, Fails, Unless, fault_of}
 
-pub fails_first : {A B : Type 0} (fault : WordsFault) (first : Result A WordsFault) (next : A → Result B WordsFault)
-    → Fails fault (fault_of first) → Fails fault (fault_of (first >>= next))
-fails_first NoMemory first next h = tt
-fails_first Usage (Err e) next h = h
-fails_first Usage (Ok a) next h = absurd (cc h)
-fails_first (Limits name) (Err e) next h = h
-fails_first (Limits name) (Ok a) next h = absurd (cc h)
+pub fails_first : {A B E : Type 0} (is_memory : E → Bool) (fault : E) (first : Result A E) (next : A → Result B E)
+    → Fails is_memory fault (fault_of first) → Fails is_memory fault (fault_of (first >>= next))
+fails_first is_memory fault (Err e) next h = h
+fails_first is_memory fault (Ok a) next h = never (is_memory fault) h
+  where
+    never : (b : Bool) → Unless b (fault_of (Ok a) ≡ Some fault) → Unless b (fault_of (next a) ≡ Some fault)
+    never true h = tt
+    never false h = absurd (cc h)

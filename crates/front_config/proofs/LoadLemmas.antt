@@ -6,7 +6,8 @@ use Rattle.token_users.specs.File.{file_records}
 use Rattle.token_users.specs.declared.record.Record.{Record}
 use Rattle.token_users.specs.declared.fault.TokenFault.{TokenFault}
 use Rattle.token_users.specs.declared.fault.TokenFault.TheVariants as token
-use Rattle.front_config.specs.Load.{◌>>=◌, Read, IsRead, fault_of, Fails, Gives, HasCause, token_answer, tokens_in, policy_answer, policy_in, rows_answer, opened, table_in}
+use Rattle.json_value.specs.Results.{◌>>=◌, fault_of}
+use Rattle.front_config.specs.Load.{Read, IsRead, Gives, HasCause, token_answer, tokens_in, policy_answer, policy_in, rows_answer, opened, table_in}
 use Rattle.apiservice_rows.specs.Row.{Row}
 use Rattle.apiservice_rows.specs.RowList.{read_rows}
 use Rattle.apiservice_rows.specs.declared.fault.RowFault.{RowFault}
@@ -19,15 +20,6 @@ use Rattle.front_config.specs.declared.command.FileNames.{FileNames}
 use Rattle.front_config.specs.declared.fault.LoadFault.{LoadFault}
 use Rattle.front_config.specs.declared.fault.LoadFault.TheVariants.{ReadFault, BadFile, NoMemory}
 use Rattle.front_config.specs.declared.fault.Which.{Which}
-
--- the first fault is that of all
-pub fails_first : {A B : Type 0} (fault : LoadFault) (first : Result A LoadFault) (next : A → Result B LoadFault)
-    → Fails fault (fault_of first) → Fails fault (fault_of (first >>= next))
-fails_first NoMemory first next h = tt
-fails_first (ReadFault which) (Err e) next h = h
-fails_first (ReadFault which) (Ok a) next h = absurd (cc h)
-fails_first (BadFile which why) (Err e) next h = h
-fails_first (BadFile which why) (Ok a) next h = absurd (cc h)
 
 -- what is given after a first reading is given by both
 pub gives_next : {A B : Type 0} (first : Result A LoadFault) (a : A) (next : A → Result B LoadFault) (result : Result B LoadFault)

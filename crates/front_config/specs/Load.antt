@@ -1,5 +1,7 @@
 -- What the files of a configuration give.
-use Rattle.std.specs.Prelude.{◌≡◌, ℕ, ◌≤◌, List, [], length, Option, Some, None, Result, Ok, Err, ⊤}
+use Rattle.std.specs.Prelude.{◌≡◌, ℕ, ◌≤◌, Bool, true, false, List, [], length, Option, Some, None, Result, Ok, Err, ⊤}
+use Rattle.json_value.specs.Results.{◌>>=◌}
+use Rattle.json_value.specs.Results as results
 use Rattle.front_ports.specs.Cause.{Rose}
 use Rattle.front_ports.specs.FileMap.{HasFile, HasLongFile, Notes}
 use Rattle.front_ports.specs.declared.files.TheConstants.{MOST_FILE_BYTES}
@@ -26,11 +28,6 @@ use Rattle.front_config.specs.declared.fault.LoadFault.{LoadFault}
 use Rattle.front_config.specs.declared.fault.LoadFault.TheVariants.{ReadFault, BadFile, NoMemory}
 use Rattle.front_config.specs.declared.fault.Which.{Which}
 use Rattle.front_config.specs.declared.fault.Which.TheVariants as file
-
-infixl 10 ◌>>=◌
-abbrev pub ◌>>=◌ : {A B : Type 0} → Result A LoadFault → (A → Result B LoadFault) → Result B LoadFault
-(Ok x) >>= f = f x
-(Err e) >>= f = Err e
 
 -- what a read of a file gives: its bytes, or why there are none
 abbrev pub Read : Type 0
@@ -105,20 +102,14 @@ load_of names tokens policy services = do
 
 -- ---- answers
 
-abbrev pub fault_of : {A : Type 0} → Result A LoadFault → Option LoadFault
-fault_of (Ok a) = None
-fault_of (Err fault) = Some fault
-
--- a fault that is answered is the one that is due, unless memory ran out
-abbrev pub Fails : LoadFault → Option LoadFault → Type 0
-Fails (ReadFault which) due = due ≡ Some (ReadFault which)
-Fails (BadFile which fault) due = due ≡ Some (BadFile which fault)
-Fails NoMemory due = Unit {0}
+abbrev pub is_memory : LoadFault → Bool
+is_memory (ReadFault which) = false
+is_memory (BadFile which fault) = false
+is_memory NoMemory = true
 
 -- what is answered is what is due, unless memory ran out
 abbrev pub Gives : {A : Type 0} → Result A LoadFault → Result A LoadFault → Type 0
-Gives (Ok a) due = due ≡ Ok a
-Gives (Err fault) due = Fails fault (fault_of due)
+Gives = results.Gives is_memory (λ a. a)
 
 -- the name that the words give for a file
 abbrev pub name_for : FileNames → Which → Option (List ℕ)

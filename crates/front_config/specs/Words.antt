@@ -1,7 +1,9 @@
 -- The command lines of the program.
-use Rattle.std.specs.Prelude.{◌≡◌, ℕ, ◌&&◌, not, nat_lt, Bool, true, if◌then◌else◌, List, [], ◌∷◌, length, Option, Some, None, Result, Ok, Err, codes}
+use Rattle.std.specs.Prelude.{ℕ, ◌&&◌, not, nat_lt, Bool, true, false, if◌then◌else◌, List, [], ◌∷◌, length, Option, Some, None, Result, Ok, Err, codes}
 use Rattle.std.specs.List.{list_any}
 use Rattle.std.specs.Str.{bytes_eq}
+use Rattle.json_value.specs.Results.{◌>>=◌, found_or}
+use Rattle.json_value.specs.Results as results
 use Rattle.front_base.specs.Number as base
 use Rattle.front_base.specs.declared.moment.TheConstants.{MOMENT_END}
 use Rattle.front_config.specs.Spelling.{Named, options_of}
@@ -11,15 +13,6 @@ use Rattle.front_config.specs.declared.command.ExplainWords.{ExplainWords}
 use Rattle.front_config.specs.declared.command.FileNames.{FileNames}
 use Rattle.front_config.specs.declared.fault.WordsFault.{WordsFault}
 use Rattle.front_config.specs.declared.fault.WordsFault.TheVariants.{Usage, Limits, NoMemory}
-
-infixl 10 ◌>>=◌
-abbrev pub ◌>>=◌ : {A B : Type 0} → Result A WordsFault → (A → Result B WordsFault) → Result B WordsFault
-(Ok x) >>= f = f x
-(Err e) >>= f = Err e
-
-abbrev pub usage_or : {A : Type 0} → Option A → Result A WordsFault
-usage_or None = Err Usage
-usage_or (Some a) = Ok a
 
 -- ---- options by their names
 
@@ -37,7 +30,7 @@ if_distinct (Some given) = if are_distinct given then Some given else None
 
 -- the options of a command, each given once at most
 unfoldable pub given_of : List (List ℕ) → List (List ℕ) → Result (List Named) WordsFault
-given_of names words = usage_or (if_distinct (options_of names words))
+given_of names words = found_or Usage (if_distinct (options_of names words))
 
 -- the value of the option of that name
 abbrev pub value_of : List ℕ → List Named → Option (List ℕ)
@@ -50,7 +43,7 @@ number_of text = if nat_lt 20 (length text) then None else base.number_of text
 
 abbrev pub number_or : ℕ → Option (List ℕ) → Result ℕ WordsFault
 number_or default None = Ok default
-number_or default (Some text) = usage_or (number_of text)
+number_or default (Some text) = found_or Usage (number_of text)
 
 -- ---- commands
 
@@ -90,17 +83,15 @@ command_of (word ∷ words) = if bytes_eq word (codes "explain") then explained 
 
 -- ---- answers
 
-abbrev pub fault_of : {A : Type 0} → Result A WordsFault → Option WordsFault
-fault_of (Ok a) = None
-fault_of (Err fault) = Some fault
+abbrev pub is_memory : WordsFault → Bool
+is_memory Usage = false
+is_memory (Limits name) = false
+is_memory NoMemory = true
 
 -- a fault that is answered is the one that is due, unless memory ran out
 abbrev pub Fails : WordsFault → Option WordsFault → Type 0
-Fails Usage due = due ≡ Some Usage
-Fails (Limits name) due = due ≡ Some (Limits name)
-Fails NoMemory due = Unit {0}
+Fails = results.Fails is_memory
 
 -- what is answered, seen by view, is what is due, unless memory ran out
 abbrev pub Gives : {A B : Type 0} → (A → B) → Result A WordsFault → Result B WordsFault → Type 0
-Gives view (Ok a) due = due ≡ Ok (view a)
-Gives view (Err fault) due = Fails fault (fault_of due)
+Gives = results.Gives is_memory

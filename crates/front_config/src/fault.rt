@@ -5,7 +5,6 @@ ghost use Rattle.front_config.specs.declared.fault.WordsFault.TheVariants as wor
 use apiservice_rows::RowFault;
 use front_base::{NoMemory as OutOfMemory, Text};
 use policy_rules::PolicyFault;
-use std::alloc::{AllocError, AllocFailed};
 
 /// Why words are no command that can be run.
 #[derive(Debug, Drop)]
@@ -19,22 +18,6 @@ pub enum WordsFault {
     },
     /// Memory ran out.
     NoMemory,
-}
-
-impl From<AllocError> for WordsFault {
-    ghost from_gives = { λ _ e. e ≡ words_fault.NoMemory };
-
-    fn from(_: AllocError) -> Self {
-        WordsFault::NoMemory
-    }
-}
-
-impl<T: Drop> From<AllocFailed<T>> for WordsFault {
-    ghost from_gives = { λ _ e. e ≡ words_fault.NoMemory };
-
-    fn from(_: AllocFailed<T>) -> Self {
-        WordsFault::NoMemory
-    }
 }
 
 impl From<OutOfMemory> for WordsFault {
@@ -56,7 +39,7 @@ pub enum Which {
 /// Why the bytes of a file are refused.
 #[derive(Debug, Drop)]
 pub enum FileFault {
-    /// There are more than `front_ports::MOST_FILE_BYTES`.
+    /// It has more than `front_base::MOST_FILE_BYTES` bytes.
     TooLong,
     /// The row of a token file with this number is no record. Rows are counted from 0, without blank lines.
     Token(u32),
@@ -71,7 +54,7 @@ pub enum FileFault {
 pub enum LoadFault {
     /// There is no such file, or reading it failed.
     ReadFault { which: Which },
-    /// A file was read, and says what can't be.
+    /// An invalid file.
     BadFile { which: Which, fault: FileFault },
     /// Memory ran out.
     NoMemory,

@@ -1,5 +1,5 @@
 -- The records of a file, row by row.
-use Rattle.std.proofs.Common.{◌≡◌, ℕ, zero, suc, ◌+◌, ◌≤◌, ◌∷◌, [], ◌++◌, List, length, Bool, true, false, cond, Option, Some, None, Result, Ok, Err, refl, ap, ◌∙◌, append_assoc, arith}
+use Rattle.std.proofs.Common.{◌≡◌, ℕ, zero, suc, ◌+◌, ◌≤◌, ◌∷◌, [], ◌++◌, List, length, Bool, true, false, cond, Option, Some, None, Result, Ok, Err, refl, sym, ap, ◌∙◌, append_assoc, arith}
 use Rattle.std.specs.Prelude.{◌==◌}
 use Rattle.csv.specs.Machine.{Read, next_record}
 use Rattle.csv.specs.Reading as csv
@@ -7,10 +7,11 @@ use Rattle.csv.specs.Reading.{default_config, is_bom, records_next, strip_bom}
 use Rattle.csv.specs.declared.parser.Config.{Config}
 use Rattle.csv.specs.declared.parser.State.{State}
 use Rattle.csv.specs.declared.parser.State.TheVariants as st
-use Rattle.token_users.specs.File.{◌>>=◌, record_of, records_from, rows_of, Answers}
+use Rattle.json_value.specs.Results.{◌>>=◌, fault_of, Unless}
+use Rattle.token_users.specs.Fault.{is_memory, Fails}
+use Rattle.token_users.specs.File.{record_of, records_from, rows_of}
 use Rattle.token_users.specs.declared.record.Record.{Record}
 use Rattle.token_users.specs.declared.fault.TokenFault.{TokenFault}
-use Rattle.token_users.specs.declared.fault.TokenFault.TheVariants.{BadRow, NoMemory}
 
 -- the records that were read, and then those of the rows that are left
 abbrev pub with_records : List Record → Result (List Record) TokenFault → Result (List Record) TokenFault
@@ -20,33 +21,41 @@ with_records-append : (a b : List Record) (r : Result (List Record) TokenFault) 
 with_records-append a b (Ok rs) = ap Ok (append_assoc a b rs)
 with_records-append a b (Err e) = refl
 
-pub records_more : (done : List Record) (i : ℕ) (row : List (List ℕ)) (rows : List (List (List ℕ))) (r : Record) → Ok r ≡ record_of i row → (length r.token == 0) ≡ false
+pub records_more : (done : List Record) (i : ℕ) (row : List (List ℕ)) (rows : List (List (List ℕ))) (r : Record) → record_of i row ≡ Ok r → (length r.token == 0) ≡ false
     → with_records (done ++ r ∷ []) (records_from (i + 1) rows) ≡ with_records done (records_from i (row ∷ rows))
 unfolding records_from
-records_more done i row rows r is kept = with_records-append done (r ∷ []) (records_from (i + 1) rows) ∙ rw (← is, kept) refl
+records_more done i row rows r is kept = with_records-append done (r ∷ []) (records_from (i + 1) rows) ∙ rw (is, kept) refl
 
-pub records_skip : (done : List Record) (i : ℕ) (row : List (List ℕ)) (rows : List (List (List ℕ))) (r : Record) → Ok r ≡ record_of i row → (length r.token == 0) ≡ true
+pub records_skip : (done : List Record) (i : ℕ) (row : List (List ℕ)) (rows : List (List (List ℕ))) (r : Record) → record_of i row ≡ Ok r → (length r.token == 0) ≡ true
     → with_records done (records_from (i + 1) rows) ≡ with_records done (records_from i (row ∷ rows))
 unfolding records_from
-records_skip done i row rows r is empty = rw (← is, empty) (same (records_from (i + 1) rows))
+records_skip done i row rows r is empty = rw (is, empty) (same (records_from (i + 1) rows))
   where
     same : (q : Result (List Record) TokenFault) → with_records done q ≡ with_records done (q >>= (λ rs. Ok rs))
     same (Ok rs) = refl
     same (Err f) = refl
 
-records_stop : (done : List Record) (i : ℕ) (row : List (List ℕ)) (rows : List (List (List ℕ))) (f : TokenFault) → Err f ≡ record_of i row → Err f ≡ with_records done (records_from i (row ∷ rows))
+records_stop : (done : List Record) (i : ℕ) (row : List (List ℕ)) (rows : List (List (List ℕ))) (f : TokenFault) → record_of i row ≡ Err f → with_records done (records_from i (row ∷ rows)) ≡ Err f
 unfolding records_from
-records_stop done i row rows f e = rw (← e) refl
+records_stop done i row rows f e = rw e refl
 
 pub records_end : (done : List Record) (i : ℕ) → with_records done (records_from i []) ≡ Ok (done ++ [])
 unfolding records_from
 records_end done i = refl
 
+fault_is : {A : Type 0} (r : Result A TokenFault) (f : TokenFault) → fault_of r ≡ Some f → r ≡ Err f
+fault_is (Ok x) f e = absurd (cc e)
+fault_is (Err g) f e = cc e
+
+stops : {A B : Type 0} (b : Bool) (r : Result A TokenFault) (all : Result B TokenFault) (f : TokenFault) → (r ≡ Err f → all ≡ Err f)
+    → Unless b (fault_of r ≡ Some f) → Unless b (fault_of all ≡ Some f)
+stops true r all f h e = tt
+stops false r all f h e = ap fault_of (h (fault_is r f e))
+
 -- the fault of a row is that of the file
 pub fault_stops : (done : List Record) (i : ℕ) (row : List (List ℕ)) (rows : List (List (List ℕ))) (all : Result (List Record) TokenFault) (f : TokenFault)
-    → Answers (Err f) (record_of i row) → with_records done (records_from i (row ∷ rows)) ≡ all → Answers (Err f) all
-fault_stops done i row rows all NoMemory fails is = tt
-fault_stops done i row rows all (BadRow number) fails is = records_stop done i row rows (BadRow number) fails ∙ is
+    → Fails f (fault_of (record_of i row)) → with_records done (records_from i (row ∷ rows)) ≡ all → Fails f (fault_of all)
+fault_stops done i row rows all f fails is = stops (is_memory f) (record_of i row) all f (λ e. sym is ∙ records_stop done i row rows f e) fails
 
 -- there are at most as many rows as bytes, and one
 some_rows : (more : State → List ℕ → List (List (List ℕ))) (n : ℕ) (read : Option Read) → ((s : State) (xs : List ℕ) → length (more s xs) ≤ n) → length (records_next more read) ≤ suc n

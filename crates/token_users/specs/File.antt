@@ -5,15 +5,10 @@ use Rattle.std.specs.List.{list_all, slice_split}
 use Rattle.std.specs.Str.{is_utf8}
 use Rattle.csv.specs.Reading.{default_config, records, strip_bom}
 use Rattle.csv.specs.Records.{field_at}
+use Rattle.json_value.specs.Results.{◌>>=◌, found_or}
 use Rattle.token_users.specs.declared.fault.TokenFault.{TokenFault}
-use Rattle.token_users.specs.declared.fault.TokenFault.TheVariants.{BadRow, NoMemory}
+use Rattle.token_users.specs.declared.fault.TokenFault.TheVariants.{BadRow}
 use Rattle.token_users.specs.declared.record.Record.{Record}
-
--- the first fault of several readings is that of all
-infixl 10 ◌>>=◌
-abbrev pub ◌>>=◌ : {A B : Type 0} → Result A TokenFault → (A → Result B TokenFault) → Result B TokenFault
-(Ok x) >>= f = f x
-(Err e) >>= f = Err e
 
 -- no byte is a control character of ASCII
 abbrev pub is_plain : List ℕ → Bool
@@ -40,10 +35,6 @@ text_at fields i = option_and_then if_text (field_at fields i)
 -- the field of the groups, which may be left out
 abbrev pub groups_at : List (List ℕ) → Option (List ℕ)
 groups_at fields = if nat_lt (length fields) 4 then Some [] else text_at fields 3
-
-abbrev pub found_or : {A : Type 0} → TokenFault → Option A → Result A TokenFault
-found_or fault None = Err fault
-found_or fault (Some a) = Ok a
 
 -- what the fields of the row with this number say: token, user, uid and groups; fields behind the fourth say nothing
 unfoldable pub record_of : ℕ → List (List ℕ) → Result Record TokenFault
@@ -73,16 +64,6 @@ rows_of bytes = records default_config (strip_bom bytes)
 -- the records of a file in their order, or the first fault
 abbrev pub file_records : List ℕ → Result (List Record) TokenFault
 file_records bytes = records_from 0 (rows_of bytes)
-
--- an answer is this one, unless memory ran out
-abbrev pub Answers : {A : Type 0} → Result A TokenFault → Result A TokenFault → Type 0
-Answers (Err NoMemory) stated = Unit {0}
-Answers answer stated = answer ≡ stated
-
--- an answer that gives a vector, as one that gives its list
-abbrev pub listed : {A B : Type 0} → (A → B) → Result A TokenFault → Result B TokenFault
-listed items (Ok x) = Ok (items x)
-listed items (Err e) = Err e
 
 -- the texts of borrowed parts
 abbrev pub texts_of : List (Bor (List ℕ)) → List (List ℕ)

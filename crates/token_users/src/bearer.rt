@@ -3,7 +3,6 @@ ghost use Rattle.std.specs.Prelude.{◌≡◌, IfOk};
 ghost use Rattle.token_users.specs.Who as spec;
 
 use crate::asker::Who;
-use crate::copy;
 use crate::tokens::Tokens;
 use front_base::NoMemory;
 use http_head::Head;
@@ -43,7 +42,7 @@ fn who_sends(alloc: Global, tokens: &Tokens, value: &[u8]) -> Result<Who, NoMemo
         return Ok(Who::Anonymous);
     }
     match tokens.user(token) {
-        Some(user) => Ok(Who::Known(copy::user(alloc, user)?)),
+        Some(user) => Ok(Who::Known(user.copy(alloc)?)),
         None => Ok(Who::BadToken),
     }
 }

@@ -2,7 +2,7 @@ ghost use Rattle.std.specs.Prelude.{◌≡◌};
 ghost use Rattle.token_users.specs.declared.fault.TokenFault.TheVariants as fault;
 
 use front_base::NoMemory as OutOfMemory;
-use std::alloc::{AllocError, AllocFailed};
+use std::alloc::AllocFailed;
 
 /// Why a token file isn't read.
 #[derive(Clone, Copy, Debug, PartialEq, Eq)]
@@ -11,14 +11,6 @@ pub enum TokenFault {
     BadRow { row: u32 },
     /// Memory ran out.
     NoMemory,
-}
-
-impl From<AllocError> for TokenFault {
-    ghost from_gives = { λ _ e. e ≡ fault.NoMemory };
-
-    fn from(_: AllocError) -> Self {
-        TokenFault::NoMemory
-    }
 }
 
 impl<T: Drop> From<AllocFailed<T>> for TokenFault {

@@ -2,8 +2,7 @@
 ghost use Rattle.std.specs.Prelude.{◌≡◌, IfOk, filter};
 ghost use Rattle.token_users.specs.File as spec;
 
-use crate::copy::text;
-use front_base::{NoMemory, Texts};
+use front_base::{NoMemory, Text, Texts};
 use std::alloc::{AllocError, Global};
 
 fn comma_parts<'f>(alloc: Global, field: &'f str) -> Result<Vec<&'f str>, AllocError>
@@ -19,7 +18,7 @@ fn kept_parts(alloc: Global, parts: &[&str]) -> Result<Texts, NoMemory>
     let mut groups = Vec::new(alloc);
     for part in parts {
         if !part.is_empty() {
-            groups.push(text(alloc, part)?)?;
+            groups.push(Text::copy_of(alloc, part)?)?;
         }
     }
     Ok(Texts::new(groups))

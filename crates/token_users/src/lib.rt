@@ -9,7 +9,6 @@
 
 mod asker;
 mod bearer;
-mod copy;
 mod fault;
 mod groups;
 mod record;
@@ -21,7 +20,7 @@ pub use asker::Who;
 pub use bearer::who;
 pub use fault::TokenFault;
 pub use record::Record;
-pub use rows::{MOST_FILE_BYTES, read_tokens};
+pub use rows::read_tokens;
 pub use tokens::Tokens;
 pub use user::user_of;
 

@@ -1,9 +1,9 @@
 // One record of a token file.
 ghost use Rattle.std.specs.Prelude.{◌≡◌, option_map};
 ghost use Rattle.csv.specs.Records.{fields_of};
+ghost use Rattle.token_users.specs.Fault.{Gives};
 ghost use Rattle.token_users.specs.File as spec;
 
-use crate::copy::text;
 use crate::fault::TokenFault;
 use crate::groups::groups_in;
 use csv::ByteRecord;
@@ -37,7 +37,7 @@ fn text_at(row: &ByteRecord, i: usize) -> Option<&str>
 /// What the row with this number says.
 #[tactic(auto, unfolding(crate::specs::File::record_of))]
 pub fn record_of(alloc: Global, number: u32, row: &ByteRecord) -> Result<Record, TokenFault>
-    ensures { spec.Answers result (spec.record_of number (fields_of row.now)) }
+    ensures { Gives (λ r. r) result (spec.record_of number (fields_of row.now)) }
 {
     let bad = Err(TokenFault::BadRow { row: number });
     let Some(token) = text_at(row, 0) else {
@@ -61,12 +61,12 @@ pub fn record_of(alloc: Global, number: u32, row: &ByteRecord) -> Result<Record,
         return bad;
     }
     let user = User {
-        name: text(alloc, name)?,
-        uid: text(alloc, uid)?,
+        name: Text::copy_of(alloc, name)?,
+        uid: Text::copy_of(alloc, uid)?,
         groups: groups_in(alloc, groups)?,
     };
     Ok(Record {
-        token: text(alloc, token)?,
+        token: Text::copy_of(alloc, token)?,
         user,
     })
 }

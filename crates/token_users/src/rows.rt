@@ -1,16 +1,15 @@
 // A whole token file.
 ghost use Rattle.std.specs.Prelude.{◌≡◌, ◌⊎◌, ◌+◌, ◌<◌, ◌≤◌, ◌^◌, IfOk, IsOk, Err, length, map};
 ghost use Rattle.csv.specs.Records.{fields_of};
+ghost use Rattle.token_users.specs.Fault.{Gives};
 ghost use Rattle.token_users.specs.File as spec;
 
 use crate::fault::TokenFault;
 use crate::record::{Record, record_of};
 use crate::tokens::Tokens;
 use csv::{ByteRecord, ErrorKind, ReaderBuilder};
+use front_base::MOST_FILE_BYTES;
 use std::alloc::Global;
-
-/// The most bytes that a token file may have.
-pub const MOST_FILE_BYTES: usize = 16_777_216;
 
 // The rows of a file, with any number of fields.
 fn rows_of(alloc: Global, bytes: &[u8]) -> Result<Vec<ByteRecord>, TokenFault>
@@ -38,8 +37,7 @@ fn rows_of(alloc: Global, bytes: &[u8]) -> Result<Vec<ByteRecord>, TokenFault>
 // The records of rows, without those that have no token.
 fn records_of(alloc: Global, rows: &[ByteRecord]) -> Result<Vec<Record>, TokenFault>
     requires { length rows.now < 2 ^ 32 }
-    ensures { spec.Answers
-        (spec.listed (λ v. v.items) result) (spec.records_from 0 (map fields_of rows.now)) }
+    ensures { Gives (λ v. v.items) result (spec.records_from 0 (map fields_of rows.now)) }
 {
     let mut records = Vec::new(alloc);
     for (i, row) in rows.iter().enumerate() {
@@ -55,7 +53,7 @@ fn records_of(alloc: Global, rows: &[ByteRecord]) -> Result<Vec<Record>, TokenFa
 /// within the one field, groups.
 pub fn read_tokens(alloc: Global, bytes: &[u8]) -> Result<Tokens, TokenFault>
     requires { length bytes.now ≤ MOST_FILE_BYTES }
-    ensures { spec.Answers result (spec.file_records bytes.now) }
+    ensures { Gives (λ t. t) result (spec.file_records bytes.now) }
 {
     let rows = rows_of(alloc, bytes)?;
     let records = records_of(alloc, rows.as_slice())?;

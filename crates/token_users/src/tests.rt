@@ -1,5 +1,5 @@
-use crate::{MOST_FILE_BYTES, TokenFault, Tokens, Who, read_tokens, user_of, who};
-use front_base::{Bytes, Text, User};
+use crate::{TokenFault, Tokens, Who, read_tokens, user_of, who};
+use front_base::{Bytes, MOST_FILE_BYTES, Text, User};
 use http_head::{Head, Header, Headers};
 use std::alloc::{AllocError, Global};
 use std::test::Fail;
@@ -9,7 +9,7 @@ fn text(alloc: Global, text: &str) -> Result<Text, AllocError> {
 }
 
 fn read(alloc: Global, file: &[u8]) -> Result<Tokens, TokenFault> {
-    if file.len() > MOST_FILE_BYTES {
+    if file.len() as u64 > MOST_FILE_BYTES {
         return Err(TokenFault::NoMemory);
     }
     read_tokens(alloc, file)
@@ -52,7 +52,7 @@ fn line_of(alloc: Global, user: &User) -> Result<String, Fail> {
 fn answer(alloc: Global, tokens: &Tokens, lines: &[(&str, &str)]) -> Result<String, Fail> {
     let head = head_with(alloc, lines)?;
     let who = who(alloc, tokens, &head)?;
-    line_of(alloc, &user_of(alloc, &who)?)
+    line_of(alloc, &who.into_user(alloc)?)
 }
 
 #[test]
@@ -147,6 +147,9 @@ fn the_first_header_decides(rt: HostRuntime) -> Result<(), Fail> {
 fn an_unknown_token_is_not_anonymous(rt: HostRuntime) -> Result<(), Fail> {
     let tokens = tokens_of(rt.alloc(), b"")?;
     let head = head_with(rt.alloc(), [("Authorization", "Bearer t")].as_slice())?;
-    assert!(rt; matches!(who(rt.alloc(), &tokens, &head)?, Who::BadToken));
+    let who = who(rt.alloc(), &tokens, &head)?;
+    assert!(rt; matches!(who, Who::BadToken));
+    let user = user_of(rt.alloc(), &who)?;
+    assert_eq!(rt; line_of(rt.alloc(), &user)?.as_str(), "/");
     Ok(())
 }

@@ -4,7 +4,6 @@ ghost use Rattle.std.specs.List.{list_any};
 ghost use Rattle.token_users.specs.Who as spec;
 
 use crate::asker::Who;
-use crate::copy::{text, texts};
 use front_base::{NoMemory, Text, Texts, User};
 use std::alloc::Global;
 
@@ -32,23 +31,20 @@ fn is_settled(user: &User) -> bool
     user.name.as_str() == ANONYMOUS || has_settled_group(user.groups.as_slice())
 }
 
-fn known_groups(alloc: Global, user: &User) -> Result<Texts, NoMemory>
-    ensures { IfOk result (λ groups. groups ≡ spec.known_groups user.now) }
+// A group more for those who are known by a token alone.
+fn known_user(alloc: Global, user: User) -> Result<User, NoMemory>
+    ensures { IfOk result (λ known. known ≡ spec.known_user user) }
 {
-    let mut groups = texts(alloc, user.groups.as_slice())?;
-    if !is_settled(user) {
-        groups.push(text(alloc, AUTHENTICATED)?)?;
+    if is_settled(&user) {
+        return Ok(user);
     }
-    Ok(Texts::new(groups))
-}
-
-fn known_user(alloc: Global, user: &User) -> Result<User, NoMemory>
-    ensures { IfOk result (λ known. known ≡ spec.known_user user.now) }
-{
+    let User { name, uid, groups } = user;
+    let mut groups = groups.into_vec();
+    groups.push(Text::copy_of(alloc, AUTHENTICATED)?)?;
     Ok(User {
-        name: text(alloc, user.name.as_str())?,
-        uid: text(alloc, user.uid.as_str())?,
-        groups: known_groups(alloc, user)?,
+        name,
+        uid,
+        groups: Texts::new(groups),
     })
 }
 
@@ -56,10 +52,10 @@ fn nobody(alloc: Global) -> Result<User, NoMemory>
     ensures { IfOk result (λ user. user ≡ spec.nobody) }
 {
     let mut groups = Vec::new(alloc);
-    groups.push(text(alloc, UNAUTHENTICATED)?)?;
+    groups.push(Text::copy_of(alloc, UNAUTHENTICATED)?)?;
     Ok(User {
-        name: text(alloc, ANONYMOUS)?,
-        uid: text(alloc, "")?,
+        name: Text::copy_of(alloc, ANONYMOUS)?,
+        uid: Text::copy_of(alloc, "")?,
         groups: Texts::new(groups),
     })
 }
@@ -68,19 +64,32 @@ fn unknown(alloc: Global) -> Result<User, NoMemory>
     ensures { IfOk result (λ user. user ≡ spec.unknown) }
 {
     Ok(User {
-        name: text(alloc, "")?,
-        uid: text(alloc, "")?,
+        name: Text::copy_of(alloc, "")?,
+        uid: Text::copy_of(alloc, "")?,
         groups: Texts::new(Vec::new(alloc)),
     })
 }
 
-/// The user that a request counts as. Everybody that is known by a token is in `system:authenticated`, unless the name or
-/// the groups of the record say otherwise.
+impl Who {
+    /// The user that a request counts as. Everybody that is known by a token is in `system:authenticated`, unless the
+    /// name or the groups of the record say otherwise.
+    pub fn into_user(self, alloc: Global) -> Result<User, NoMemory>
+        ensures { IfOk result (λ user. user ≡ spec.user_of self) }
+    {
+        match self {
+            Who::Known(user) => known_user(alloc, user),
+            Who::Anonymous => nobody(alloc),
+            Who::BadToken => unknown(alloc),
+        }
+    }
+}
+
+/// The same of one that is used again.
 pub fn user_of(alloc: Global, who: &Who) -> Result<User, NoMemory>
     ensures { IfOk result (λ user. user ≡ spec.user_of who.now) }
 {
     match who {
-        Who::Known(user) => known_user(alloc, user),
+        Who::Known(user) => known_user(alloc, user.copy(alloc)?),
         Who::Anonymous => nobody(alloc),
         Who::BadToken => unknown(alloc),
     }

@@ -1,8 +1,9 @@
 use Rattle.std.proofs.Common.{Err, refl}
 use Rattle.std.proofs.lemmas.Result.{err_from_is_err_and}
 use Rattle.front_ports.specs.declared.files.FileFail.TheVariants as fail
-use Rattle.front_config.specs.Load.{tokens_of, policy_of, table_of, load_of}
-use Rattle.front_config.proofs.LoadLemmas.{fails_first, fault_may_be_read, read_kept}
+use Rattle.front_config.specs.Load.{is_memory, tokens_of, policy_of, table_of, load_of}
+use Rattle.front_config.proofs.FaultLemmas.{fails_first}
+use Rattle.front_config.proofs.LoadLemmas.{fault_may_be_read, read_kept}
 use Rattle.front_config.proofs.files.load.Goals as goal
 
 pub returns-in_err-tokens-clause-loaded : goal.returns-in_err-tokens-clause-loaded
@@ -17,7 +18,7 @@ returns-in_err-tokens-clause-loaded g c =
       tokens.1,
       fault_may_be_read _ c.args.names.now.policy,
       fault_may_be_read _ c.args.names.now.services,
-      rw (p.1, p.2) (fails_first fault (tokens_of c.args.names.now.tokens tokens.0) _ tokens.2),
+      rw (p.1, p.2) (fails_first is_memory fault (tokens_of c.args.names.now.tokens tokens.0) _ tokens.2),
     )
 
 pub returns-in_err-policy-clause-loaded : goal.returns-in_err-policy-clause-loaded
@@ -33,7 +34,7 @@ returns-in_err-policy-clause-loaded g c =
       tokens.1,
       read_kept _ _ c.args.names.now.policy policy.0 c.in_ok-tokens.ensures.kept policy.1,
       fault_may_be_read _ c.args.names.now.services,
-      rw (p.1, p.2, tokens.2) (fails_first fault (policy_of c.args.names.now.policy policy.0) _ policy.2),
+      rw (p.1, p.2, tokens.2) (fails_first is_memory fault (policy_of c.args.names.now.policy policy.0) _ policy.2),
     )
 
 pub returns-in_err-table-clause-loaded : goal.returns-in_err-table-clause-loaded
@@ -51,7 +52,7 @@ returns-in_err-table-clause-loaded g c =
       tokens.1,
       read_kept _ _ c.args.names.now.policy policy.0 c.in_ok-tokens.ensures.kept policy.1,
       read_kept _ _ services table.0 c.in_ok-tokens.ensures.kept (read_kept _ _ services table.0 c.in_ok-policy.ensures.kept table.1),
-      rw (p.1, p.2, tokens.2, policy.2) (fails_first fault (table_of services table.0) _ table.2),
+      rw (p.1, p.2, tokens.2, policy.2) (fails_first is_memory fault (table_of services table.0) _ table.2),
     )
 
 pub returns-clause-loaded : goal.returns-clause-loaded

@@ -1,7 +1,8 @@
 use Rattle.std.proofs.lemmas.Result.{err_from_is_err_and}
-use Rattle.front_config.specs.Load.{bytes_in, policy_in}
+use Rattle.front_config.specs.Load.{bytes_in, is_memory, policy_in}
 use Rattle.front_config.specs.declared.fault.Which.TheVariants as file
-use Rattle.front_config.proofs.LoadLemmas.{fails_first, gives_next, cause_of_bytes, policy_is_read}
+use Rattle.front_config.proofs.FaultLemmas.{fails_first}
+use Rattle.front_config.proofs.LoadLemmas.{gives_next, cause_of_bytes, policy_is_read}
 use Rattle.front_config.proofs.files.policy_of.Goals as goal
 
 pub returns-in_err-bytes-clause-loaded : goal.returns-in_err-bytes-clause-loaded
@@ -9,7 +10,7 @@ returns-in_err-bytes-clause-loaded g c =
     let p = err_from_is_err_and c.from_residual.result c.from_residual.ensures.1 in
     let read = c.in_err-bytes.ensures.bytes in
     let bytes = bytes_in file.Policy c.args.names.now.policy read.0 in
-    (read.0, read.1, rw (p.1, p.2) (fails_first c.in_err-bytes.field-0.0 bytes policy_in read.2))
+    (read.0, read.1, rw (p.1, p.2) (fails_first is_memory c.in_err-bytes.field-0.0 bytes policy_in read.2))
 
 pub returns-clause-loaded : goal.returns-clause-loaded
 returns-clause-loaded g c =

@@ -1,6 +1,6 @@
 use Rattle.std.proofs.Common.{◌∙◌, ap, map, string_bytes, sym}
 use Rattle.clap.specs.Words.{found_of, rows_of}
-use Rattle.front_config.specs.Words.{fault_of}
+use Rattle.json_value.specs.Results.{fault_of}
 use Rattle.front_config.proofs.ClapLemmas.{doubts, gives, keeps, refuses, texts}
 use Rattle.front_config.proofs.given.given_of.Goals as goal
 

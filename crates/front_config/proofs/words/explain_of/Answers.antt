@@ -1,5 +1,5 @@
 use Rattle.std.proofs.Common.{◌≡◌, map, string_bytes, Ok}
-use Rattle.front_config.specs.Words.{explain_of, explain_names, given_of, explain_by}
+use Rattle.front_config.specs.Words.{explain_of, explain_names, given_of, explain_by, is_memory}
 use Rattle.front_config.proofs.FaultLemmas.{fails_first}
 use Rattle.front_config.proofs.words.explain_of.Goals as goal
 
@@ -12,4 +12,4 @@ returns-in-Ok c =
 pub returns-in-Err : goal.returns-in-Err
 unfolding explain_of
 returns-in-Err c =
-    fails_first c.in-Err.fault (given_of explain_names (map string_bytes c.args.words.now)) explain_by c.in-Err.ensures
+    fails_first is_memory c.in-Err.fault (given_of explain_names (map string_bytes c.args.words.now)) explain_by c.in-Err.ensures

@@ -36,4 +36,4 @@ loop-i-preserved c =
 
 pub returns : goal.returns
 returns c =
-    sym (sym c.loop-i.invariant ∙ rw (drop_all c.loop-i.i c.args.rows.now c.loop-i-test.false) (records_end c.loop-i.records.items c.loop-i.i ∙ simp append-nil))
+    sym c.loop-i.invariant ∙ rw (drop_all c.loop-i.i c.args.rows.now c.loop-i-test.false) (records_end c.loop-i.records.items c.loop-i.i ∙ simp append-nil)
