@@ -6,7 +6,8 @@ use Rattle.serde_json.specs.Read.{read}
 use Rattle.json_value.specs.declared.fault.ValueError.{ValueError}
 use Rattle.json_value.specs.declared.fault.ValueError.TheVariants.{NotJson, NoMemory}
 
--- the value that the bytes are as JSON (RFC 8259), nested at most 127 deep
+-- the value that the bytes are as JSON (RFC 8259) in UTF-8; none where they are no such text, where arrays and objects
+-- nest more than 127 deep, where a number is past the range of a double, and where an escape is half a surrogate pair
 unfoldable pub value_of : List ℕ → Option Data
 value_of bytes = if is_utf8 bytes then read bytes else None
 

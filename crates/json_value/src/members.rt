@@ -1,17 +1,26 @@
-ghost use Rattle.std.specs.Prelude.{◌≡◌, option_map};
+ghost use Rattle.std.specs.Prelude.{◌≡◌, ◌≤◌, IfSome, option_and_then, option_map};
 ghost use Rattle.serde_json.specs.View.{view};
 ghost use Rattle.json_value.specs.Members as spec;
+ghost use Rattle.json_value.specs.Size.{inside};
 
 use serde_json::Value;
 
-/// The member of that name, where it is there and not null.
-pub fn present<'v>(value: &'v Value, name: &str) -> Option<&'v Value>
-    ensures { option_map (λ v. view v.now) result ≡ spec.present name.now (view value.now) }
+fn not_null<'v>(found: Option<&'v Value>) -> Option<&'v Value>
+    ensures { option_map (λ v. view v.now) result
+        ≡ option_and_then spec.not_null (option_map (λ v. view v.now) found.entry) }
 {
-    match value.get(name) {
+    match found {
         Some(Value::Null) => None,
         found => found,
     }
+}
+
+/// The member of that name, where it is there and not null.
+pub fn present<'v>(value: &'v Value, name: &str) -> Option<&'v Value>
+    ensures value { option_map (λ v. view v.now) result ≡ spec.present name.now (view value.now) }
+    ensures few { IfSome result (λ v. inside (view v.now) ≤ inside (view value.now)) }
+{
+    not_null(value.get(name))
 }
 
 /// The member of that name of the member of another name.

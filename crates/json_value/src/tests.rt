@@ -41,8 +41,13 @@ fn numbers_that_are_not_whole(rt: HostRuntime) -> Result<(), Fail> {
     Ok(())
 }
 
-fn is_refused(alloc: Global, bytes: &[u8]) -> bool {
-    matches!(read_value(alloc, bytes), Err(ValueError::NotJson))
+// Whether bytes are refused as no JSON; None where memory ran out.
+fn is_refused(alloc: Global, bytes: &[u8]) -> Option<bool> {
+    match read_value(alloc, bytes) {
+        Ok(_) => Some(false),
+        Err(ValueError::NotJson) => Some(true),
+        Err(ValueError::NoMemory) => None,
+    }
 }
 
 // So many arrays, one inside another.
@@ -54,16 +59,39 @@ fn nested(alloc: Global, depth: usize) -> Result<Vec<u8>, AllocError> {
     Ok(text)
 }
 
+// Texts, and whether they are refused.
+const TEXTS: &str = r#"{"a":1,} refused
+1 2 refused
+1e308 read
+1e400 refused
+-1e400 refused
+"\ud83d\ude00" read
+"\ud83d" refused
+"\ude00" refused
+"\ude00\ud83d" refused
+"\u00e9" read"#;
+
 #[test]
 fn bytes_that_are_no_text(rt: HostRuntime) -> Result<(), Fail> {
     let alloc = rt.alloc();
-    assert!(rt; is_refused(alloc, b""));
-    assert!(rt; is_refused(alloc, br#"{"a":1,}"#));
-    assert!(rt; is_refused(alloc, b"1 2"));
-    assert!(rt; is_refused(alloc, b"1e400"));
-    assert!(rt; is_refused(alloc, b"\xef\xbb\xbf1"));
-    assert!(rt; is_refused(alloc, b"\"\xff\""));
-    assert!(rt; !is_refused(alloc, nested(alloc, 127)?.as_slice()));
-    assert!(rt; is_refused(alloc, nested(alloc, 128)?.as_slice()));
+    for line in TEXTS.lines() {
+        let (text, kind) = line.rsplit_once(' ').ok_or("two parts")?;
+        assert_eq!(rt;
+            is_refused(alloc, text.as_bytes()),
+            Some(kind == "refused"),
+            "{line}"
+        );
+    }
+    assert_eq!(rt; is_refused(alloc, b""), Some(true));
+    assert_eq!(rt; is_refused(alloc, b"\xef\xbb\xbf1"), Some(true));
+    assert_eq!(rt; is_refused(alloc, b"\"\xff\""), Some(true));
+    assert_eq!(rt;
+        is_refused(alloc, nested(alloc, 127)?.as_slice()),
+        Some(false)
+    );
+    assert_eq!(rt;
+        is_refused(alloc, nested(alloc, 128)?.as_slice()),
+        Some(true)
+    );
     Ok(())
 }
