@@ -95,6 +95,7 @@ fn tokens_of<F: Files>(alloc: Global, names: &FileNames, files: &mut F) -> Resul
 }
 
 fn policy_in(alloc: Global, bytes: Option<Bytes>) -> Result<Policy, LoadFault>
+    requires { IfSome bytes (λ bytes. length bytes ≤ MOST_FILE_BYTES) }
     ensures { spec.Gives result (spec.policy_in bytes) }
 {
     let Some(bytes) = bytes else {

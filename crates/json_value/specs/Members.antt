@@ -42,10 +42,14 @@ is_object (string s) = false
 is_object (array ds) = false
 is_object (object ms) = true
 
+-- what is read of a value that must be a list
+abbrev pub listed : {A E : Type 0} → E → (Items → Result A E) → Data → Result A E
+listed fault read d = found_or fault (as_array d) >>= read
+
 -- what is read of a member that must be a list, and what stands for one that is absent
 abbrev pub list_or : {A E : Type 0} → E → Result A E → (Items → Result A E) → Option Data → Result A E
 list_or fault absent read None = absent
-list_or fault absent read (Some d) = found_or fault (as_array d) >>= read
+list_or fault absent read (Some d) = listed fault read d
 
 -- a member that must be true or false, and what stands for one that is absent
 abbrev pub bool_or : {E : Type 0} → E → Bool → Option Data → Result Bool E

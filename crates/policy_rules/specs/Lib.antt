@@ -1,3 +1,4 @@
+pub mod About
 pub mod Fault
 pub mod Matching
 pub mod Policy

@@ -1,6 +1,6 @@
 -- An audit policy in JSON (Kubernetes, "kube-apiserver Audit Configuration (v1)") and what is read of it, or its first
 -- fault.
-use Rattle.std.specs.Prelude.{ℕ, ◌+◌, ◌==◌, ◌&&◌, ◌||◌, not, Bool, true, false, if◌then◌else◌, List, [], ◌∷◌, nat_eq, Option, Some, None, option_and_then, Result, Ok, Err, codes}
+use Rattle.std.specs.Prelude.{ℕ, ◌+◌, ◌==◌, ◌&&◌, ◌||◌, not, Bool, true, false, if◌then◌else◌, List, [], ◌∷◌, nat_eq, Option, Some, None, is_some, option_and_then, Result, Ok, Err, codes}
 use Rattle.std.specs.List.{list_any, starts_with}
 use Rattle.std.specs.Str.{bytes_eq}
 use Rattle.serde_json.specs.Data.{Data, Items, no_items, item}
@@ -9,10 +9,9 @@ use Rattle.serde_json.specs.Written.{has_float}
 use Rattle.json_value.specs.Members.{present, text_in, is_text, is_object, list_or, bool_or}
 use Rattle.json_value.specs.Read.{value_of}
 use Rattle.json_value.specs.Results.{◌>>=◌, found_or}
-use Rattle.front_base.specs.Level.{level_name}
-use Rattle.front_base.specs.Stage.{stage_name}
+use Rattle.front_base.specs.Level.{level_of as level_named}
+use Rattle.front_base.specs.Stage.{stage_name, stage_of}
 use Rattle.front_base.specs.declared.level.Level.{Level}
-use Rattle.front_base.specs.declared.level.Level.TheVariants as level
 use Rattle.front_base.specs.declared.stage.Stage.TheVariants as stage
 use Rattle.policy_rules.specs.Matching.{is_empty, is_about_resources, front}
 use Rattle.policy_rules.specs.Policy.{nothing}
@@ -45,12 +44,9 @@ texts_in rule name found = list_or (BadField rule name) (Ok []) (texts_of rule n
 
 -- ---- stages
 
+-- a text that names a stage
 abbrev pub is_stage : Data → Bool
-is_stage d =
-    is_text (stage_name stage.RequestReceived) (Some d)
-    || is_text (stage_name stage.ResponseStarted) (Some d)
-    || is_text (stage_name stage.ResponseComplete) (Some d)
-    || is_text (stage_name stage.Panic) (Some d)
+is_stage d = is_some (option_and_then stage_of (as_str d))
 
 abbrev pub are_stages : Items → Bool
 are_stages no_items = true
@@ -82,14 +78,6 @@ omissions_of rule d = do
   Ok omit
 
 -- ---- levels
-
-unfoldable pub level_named : List ℕ → Option Level
-level_named text =
-    if bytes_eq text (level_name level.None) then Some level.None
-    else if bytes_eq text (level_name level.Metadata) then Some level.Metadata
-    else if bytes_eq text (level_name level.Request) then Some level.Request
-    else if bytes_eq text (level_name level.RequestResponse) then Some level.RequestResponse
-    else None
 
 abbrev pub level_in : Option Data → Option Level
 level_in found = option_and_then level_named (text_in found)

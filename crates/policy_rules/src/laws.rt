@@ -1,19 +1,21 @@
-ghost use Rattle.std.specs.Prelude.{◌≡◌, ℕ, List, ◌∷◌, ◌++◌, true, false, length, codes};
+ghost use Rattle.std.specs.Prelude.{◌≡◌, ◌↔◌, ℕ, List, ◌∷◌, ◌++◌, true, false, length, codes};
 ghost use Rattle.std.specs.List.{list_any};
 ghost use Rattle.front_base.specs.declared.info.Info.{Info};
 ghost use Rattle.front_base.specs.declared.user.User.{User};
-ghost use Rattle.policy_rules.specs.Matching.{is_empty, is_resource, is_url, matches};
+ghost use Rattle.policy_rules.specs.About.{HasResource, IsAbout, NamesPath, NamesResource};
+ghost use Rattle.policy_rules.specs.Matching.{element_matches, is_empty, is_resource, is_url, matches};
 ghost use Rattle.policy_rules.specs.Policy.{first, by_rule, by_none};
 ghost use Rattle.policy_rules.specs.declared.omit.Omit.{Omit};
 ghost use Rattle.policy_rules.specs.declared.policy.Policy.{Policy};
+ghost use Rattle.policy_rules.specs.declared.rule.GroupResources.{GroupResources};
 ghost use Rattle.policy_rules.specs.declared.rule.Rule.{Rule};
 
-/// The first rule that matches decides: no rule before it does, and the rules behind it don't count.
+/// The first rule that matches decides: no rule before it does, and those after it don't count.
 pub fn first_match_decides()
-    ensures { (omit : Omit) → (before : List Rule) → (rule : Rule) → (behind : List Rule) → (user : User) → (info : Info)
+    ensures { (omit : Omit) → (before : List Rule) → (rule : Rule) → (after : List Rule) → (user : User) → (info : Info)
         → list_any (λ r. matches r user info) before ≡ false
         → matches rule user info ≡ true
-        → first (record { omit = omit; rules = before ++ rule ∷ behind }) user info
+        → first (record { omit = omit; rules = before ++ rule ∷ after }) user info
         ≡ by_rule (length before) omit rule }
 {}
 
@@ -48,5 +50,27 @@ pub fn patterns_name_resources()
 
 /// A URL that ends in an asterisk names each path that begins with what stands before it.
 pub fn prefixes_name_paths()
-    ensures { (front rest : List ℕ) → is_url (front ++ rest) (front ++ codes "*") ≡ true }
+    ensures { (start rest : List ℕ) → is_url (start ++ rest) (start ++ codes "*") ≡ true }
+{}
+
+/// A rule matches exactly the requests that each of its lists is about.
+pub fn rules_match_by_lists()
+    ensures { (rule : Rule) → (user : User) → (info : Info)
+        → matches rule user info ≡ true ↔ IsAbout rule user info }
+{}
+
+/// An element of a rule's resources matches exactly the requests for one of its resources, of its group and names.
+pub fn elements_match_by_lists()
+    ensures { (info : Info) → (element : GroupResources)
+        → element_matches info element ≡ true ↔ HasResource info element }
+{}
+
+/// A resource that a rule names is exactly the request's, with its subresource where it has one: `pods/*` isn't `pods`.
+pub fn resources_are_named()
+    ensures { (info : Info) → (named : List ℕ) → is_resource info named ≡ true ↔ NamesResource info named }
+{}
+
+/// A URL of a rule is exactly the path, or what the path begins with and an asterisk.
+pub fn paths_are_named()
+    ensures { (path : List ℕ) → (url : List ℕ) → is_url path url ≡ true ↔ NamesPath path url }
 {}

@@ -21,8 +21,9 @@ mod rule;
 pub use decision::{Decision, decide};
 pub use fault::PolicyFault;
 pub use laws::{
-    first_match_decides, no_match_records_nothing, patterns_name_resources,
-    policy_stages_always_count, prefixes_name_paths,
+    elements_match_by_lists, first_match_decides, no_match_records_nothing, paths_are_named,
+    patterns_name_resources, policy_stages_always_count, prefixes_name_paths, resources_are_named,
+    rules_match_by_lists,
 };
 pub use omit::Omit;
 pub use policy::{Policy, Rules};

@@ -62,10 +62,10 @@ pub fn texts_in(
 fn is_stage(value: &Value) -> bool
     ensures { result ≡ spec.is_stage (view value.now) }
 {
-    is_text(Stage::RequestReceived.name(), Some(value))
-        || is_text(Stage::ResponseStarted.name(), Some(value))
-        || is_text(Stage::ResponseComplete.name(), Some(value))
-        || is_text(Stage::Panic.name(), Some(value))
+    match value.as_str() {
+        Some(name) => Stage::of_name(name).is_some(),
+        None => false,
+    }
 }
 
 fn are_stages(items: &Vec<Value>) -> bool
@@ -146,23 +146,10 @@ pub fn omissions_of(alloc: Global, rule: Option<u32>, value: &Value) -> Result<O
     Ok(omit)
 }
 
-#[tactic(auto, unfolding(crate::specs::Reading::level_named))]
-fn level_named(text: &str) -> Option<Level>
-    ensures { result ≡ spec.level_named text.now }
-{
-    match text {
-        "None" => Some(Level::None),
-        "Metadata" => Some(Level::Metadata),
-        "Request" => Some(Level::Request),
-        "RequestResponse" => Some(Level::RequestResponse),
-        _ => None,
-    }
-}
-
 fn level_in(found: Option<&Value>) -> Option<Level>
     ensures { result ≡ spec.level_in (option_map (λ v. view v.now) found.entry) }
 {
-    level_named(text_in(found)?)
+    Level::of_name(text_in(found)?)
 }
 
 #[tactic(auto, unfolding(crate::specs::Reading::level_of))]

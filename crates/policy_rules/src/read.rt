@@ -1,5 +1,7 @@
-ghost use Rattle.std.specs.Prelude.{◌≡◌, ◌<◌, ◌^◌, IfOk, option_map, vec_len};
+ghost use Rattle.std.specs.Prelude.{◌≡◌, ◌<◌, ◌≤◌, ◌^◌, None, IfSome, codes, length, option_map, vec_len};
 ghost use Rattle.serde_json.specs.View.{view, items_view};
+ghost use Rattle.json_value.specs.Members.{listed};
+ghost use Rattle.json_value.specs.Size.{inside};
 ghost use Rattle.policy_rules.specs.Fault.{Gives};
 ghost use Rattle.policy_rules.specs.Reading as spec;
 
@@ -7,6 +9,7 @@ use crate::fault::{PolicyFault, bad_field};
 use crate::members::omissions_of;
 use crate::policy::{Policy, Rules};
 use crate::reading::rule_of;
+use front_base::MOST_FILE_BYTES;
 use json_value::{has_float, is_text, present, read_value};
 use serde_json::Value;
 use std::alloc::Global;
@@ -43,31 +46,41 @@ fn rules_of(alloc: Global, items: &Vec<Value>) -> Result<Rules, PolicyFault>
 }
 
 fn some_rules(alloc: Global, items: &Vec<Value>) -> Result<Rules, PolicyFault>
+    requires { vec_len items.now < 2 ^ 32 }
     ensures { Gives (λ r. r) result (spec.some_rules (items_view items.now.items)) }
 {
     if items.is_empty() {
         return Err(PolicyFault::NoRules);
     }
-    // no policy of this size is worth its memory
-    if items.len() > u32::MAX as usize {
-        return Err(PolicyFault::NoMemory);
-    }
     rules_of(alloc, items)
 }
 
+fn listed_rules(alloc: Global, value: &Value) -> Result<Rules, PolicyFault>
+    requires { inside (view value.now) < 2 ^ 32 }
+    ensures { Gives (λ r. r) result
+        (listed (PolicyFault.BadField None (codes "rules")) spec.some_rules (view value.now)) }
+{
+    match value.as_array() {
+        Some(items) => some_rules(alloc, items),
+        None => Err(bad_field(alloc, None, "rules")),
+    }
+}
+
 fn rules_in(alloc: Global, found: Option<&Value>) -> Result<Rules, PolicyFault>
+    requires { IfSome found (λ v. inside (view v.now) < 2 ^ 32) }
     ensures { Gives (λ r. r) result (spec.rules_in (option_map (λ v. view v.now) found.entry)) }
 {
     match found {
         None => Err(PolicyFault::NoRules),
-        Some(Value::Array(items)) => some_rules(alloc, items),
-        Some(_) => Err(bad_field(alloc, None, "rules")),
+        Some(value) => listed_rules(alloc, value),
     }
 }
 
-/// The policy of a text in JSON, or its first fault: of the policy's own members, then rule by rule.
+/// The policy of a text in JSON, or its first fault: of the policy's own members, then rule by rule. A file's bytes are few
+/// enough that its rules have places of 32 bits.
 #[tactic(auto, unfolding(crate::specs::Reading::read_policy))]
 pub fn read_policy(alloc: Global, bytes: &[u8]) -> Result<Policy, PolicyFault>
+    requires { length bytes.now ≤ MOST_FILE_BYTES }
     ensures { Gives (λ p. p) result (spec.read_policy bytes.now) }
 {
     let value = read_value(alloc, bytes)?;

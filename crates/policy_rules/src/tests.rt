@@ -1,5 +1,5 @@
 use super::*;
-use front_base::{Info, NoMemory, Text, Texts, User};
+use front_base::{Info, MOST_FILE_BYTES, NoMemory, Text, Texts, User};
 use std::alloc::{AllocError, Global};
 use std::test::Fail;
 
@@ -73,8 +73,16 @@ fn text(alloc: Global, more: &str, rules: &str) -> Result<String, AllocError> {
     format!(in alloc; "{{{head}{more},\"rules\":[{rules}]}}")
 }
 
+// The policy of a text that is no longer than a file may be.
+fn read(alloc: Global, text: &str) -> Result<Policy, PolicyFault> {
+    if text.len() as u64 > MOST_FILE_BYTES {
+        return Err(PolicyFault::NoMemory);
+    }
+    read_policy(alloc, text.as_bytes())
+}
+
 fn policy(alloc: Global, text: &str) -> Result<Policy, Fail> {
-    match read_policy(alloc, text.as_bytes()) {
+    match read(alloc, text) {
         Ok(policy) => Ok(policy),
         Err(_) => Err("a policy".into()),
     }
@@ -387,7 +395,7 @@ fn is_refused(alloc: Global, place: Option<u32>, row: &str, text: &str) -> Resul
     let [kind, name, _] = words.as_slice() else {
         return Err("three words".into());
     };
-    match read_policy(alloc, text.as_bytes()) {
+    match read(alloc, text) {
         Ok(_) => Ok(false),
         Err(fault) => Ok(told(&fault) == (*kind, place, word(name))),
     }
