@@ -8,7 +8,7 @@ use Rattle.apiservice_rows.specs.Row.{Row}
 use Rattle.apiservice_rows.specs.RowList.{item_rows}
 use Rattle.apiservice_rows.specs.declared.fault.RowFault.{RowFault}
 
--- what is read of the others, behind the rows in front
+-- the rows that were read, and then those of the others
 abbrev pub with_front : List Row → Result (List Row) RowFault → Result (List Row) RowFault
 with_front front read = read >>= (λ x. Ok (front ++ x))
 

@@ -1,13 +1,14 @@
 -- An APIService object (`apiregistration.k8s.io/v1`) and the row that it gives, or its first fault.
-use Rattle.std.specs.Prelude.{ℕ, ◌+◌, ◌==◌, ◌&&◌, ◌||◌, not, nat_lt, Bool, true, false, if◌then◌else◌, List, [], ◌∷◌, length, Option, Some, None, option_and_then, Result, Ok, Err, codes}
+use Rattle.std.specs.Prelude.{ℕ, ◌+◌, ◌==◌, ◌&&◌, ◌||◌, nat_lt, Bool, true, false, if◌then◌else◌, List, [], ◌∷◌, length, Option, Some, None, option_and_then, Result, Ok, Err, codes}
 use Rattle.std.specs.Char.{is_ascii_digit, is_ascii_lowercase}
 use Rattle.std.specs.Str.{bytes_eq}
 use Rattle.serde_json.specs.Data.{Data, Num, unsigned, negative, float, Items, no_items, item}
 use Rattle.serde_json.specs.Find.{as_str, as_number}
-use Rattle.serde_json.specs.Written.{has_float, compact_text}
+use Rattle.serde_json.specs.Written.{compact_text}
+use Rattle.json_value.specs.Head.{head_fault}
 use Rattle.json_value.specs.Members.{present, inner, text_in, is_text, is_object, list_or}
 use Rattle.json_value.specs.Read.{value_of}
-use Rattle.json_value.specs.Results.{◌>>=◌, found_or}
+use Rattle.json_value.specs.Results.{◌>>=◌, faultless, found_or}
 use Rattle.apiservice_rows.specs.Row.{Row, own_name}
 use Rattle.apiservice_rows.specs.declared.fault.RowFault.{RowFault}
 use Rattle.apiservice_rows.specs.declared.fault.RowFault.TheVariants.{NotJson, BadField, NameMismatch, Range}
@@ -16,19 +17,9 @@ use Rattle.apiservice_rows.specs.declared.service.ServiceRef.{ServiceRef}
 
 -- ---- what it is
 
--- a text; in a list it may be absent
-abbrev pub is_head_text : Bool → List ℕ → Option Data → Bool
-is_head_text in_list text None = in_list
-is_head_text in_list text (Some d) = is_text text (Some d)
-
 -- an APIService of this version of its API, whose numbers are all whole and fit 64 bits
 unfoldable pub head_of : Bool → Data → Result (Unit {0}) RowFault
-head_of in_list d =
-    if not (is_head_text in_list (codes "APIService") (present (codes "kind") d)) then Err (BadField (codes "kind"))
-    else if not (is_head_text in_list (codes "apiregistration.k8s.io/v1") (present (codes "apiVersion") d)) then
-    Err (BadField (codes "apiVersion"))
-    else if has_float d then Err (BadField (codes "number"))
-    else Ok tt
+head_of in_list d = faultless BadField (head_fault in_list (codes "APIService") (codes "apiregistration.k8s.io/v1") d)
 
 -- ---- whose it is
 

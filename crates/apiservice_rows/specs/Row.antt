@@ -1,4 +1,4 @@
--- A row: what the front knows of one APIService.
+-- A row: what routing knows of one APIService.
 use Rattle.std.specs.Prelude.{◌≡◌, ℕ, ◌==◌, ◌||◌, Bool, false, List, [], ◌∷◌, ◌++◌, Option}
 use Rattle.apiservice_rows.specs.declared.service.ServiceRef.{ServiceRef}
 

@@ -4,7 +4,7 @@ use Rattle.std.specs.Str.{bytes_eq}
 use Rattle.serde_json.specs.Data.{Data, Items, no_items, item}
 use Rattle.json_value.specs.Members.{present, is_text, list_or}
 use Rattle.json_value.specs.Read.{value_of}
-use Rattle.json_value.specs.Results.{◌>>=◌, found_or}
+use Rattle.json_value.specs.Results.{◌>>=◌, faultless, found_or}
 use Rattle.apiservice_rows.specs.Object.{row_of}
 use Rattle.apiservice_rows.specs.Row.{Row}
 use Rattle.apiservice_rows.specs.declared.fault.RowFault.{RowFault}
@@ -42,13 +42,9 @@ repeated before (name ∷ names) =
 abbrev pub names_of : List Row → List (List ℕ)
 names_of rows = map (λ (r : Row). r.name) rows
 
-abbrev pub once : Option (List ℕ) → Result (Unit {0}) RowFault
-once None = Ok tt
-once (Some name) = Err (Repeated name)
-
 -- no name comes twice
 unfoldable pub distinct : List (List ℕ) → Result (Unit {0}) RowFault
-distinct names = once (repeated [] names)
+distinct names = faultless Repeated (repeated [] names)
 
 -- at most as many rows as a table holds
 unfoldable pub few : List Row → Result (List Row) RowFault

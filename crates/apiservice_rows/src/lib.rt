@@ -1,4 +1,4 @@
-//! APIService objects (`apiregistration.k8s.io/v1`) as operators write them, and the rows that the front routes by.
+//! APIService objects (`apiregistration.k8s.io/v1`) as operators write them, and the rows that requests are routed by.
 //!
 //! The main contracts are those of `read_row` and `read_rows`: a text gives exactly the row, or the rows, that its object
 //! states, or the first of its faults in a stated order.

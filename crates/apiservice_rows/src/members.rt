@@ -10,19 +10,9 @@ use crate::fault::{RowFault, bad_field};
 use crate::service::FoundService;
 use crate::spelling::{is_group, is_service_name, is_version};
 use front_base::Text;
-use json_value::{has_float, inner, is_text, present, text_in};
+use json_value::{head_fault, inner, is_text, present, text_in};
 use serde_json::Value;
 use std::alloc::Global;
-
-// Whether a member is that text; in a list it may be absent.
-fn is_head_text(in_list: bool, text: &str, found: Option<&Value>) -> bool
-    ensures { result ≡ spec.is_head_text in_list text.now (option_map (λ v. view v.now) found.entry) }
-{
-    match found {
-        None => in_list,
-        Some(value) => is_text(text, Some(value)),
-    }
-}
 
 // What the object is: its kind, the version of its API, and that its numbers are whole and fit 64 bits.
 #[tactic(auto, unfolding(crate::specs::Object::head_of))]
@@ -30,20 +20,10 @@ pub fn check_head(alloc: Global, in_list: bool, value: &Value) -> Result<(), Row
     ensures value { Gives (λ u. u) result (spec.head_of in_list (view value.now)) }
     ensures whole { OnOk result (has_float (view value.now) ≡ false) }
 {
-    if !is_head_text(in_list, "APIService", present(value, "kind")) {
-        return Err(bad_field(alloc, "kind"));
+    match head_fault(in_list, "APIService", "apiregistration.k8s.io/v1", value) {
+        Some(name) => Err(bad_field(alloc, name)),
+        None => Ok(()),
     }
-    if !is_head_text(
-        in_list,
-        "apiregistration.k8s.io/v1",
-        present(value, "apiVersion"),
-    ) {
-        return Err(bad_field(alloc, "apiVersion"));
-    }
-    if has_float(value) {
-        return Err(bad_field(alloc, "number"));
-    }
-    Ok(())
 }
 
 #[tactic(auto, unfolding(crate::specs::Object::name_of))]

@@ -7,7 +7,7 @@ use front_base::{Bytes, NoMemory, Text};
 use std::alloc::Global;
 use std::marker::Model;
 
-/// What the front knows of one APIService. Its version has no dot, and its name is the version, a dot and the group, so
+/// What routing knows of one APIService. Its version has no dot, and its name is the version, a dot and the group, so
 /// two rows with different names differ in version or group.
 #[derive(Debug, Drop)]
 pub struct Row {

@@ -1,3 +1,4 @@
+pub mod Head
 pub mod Members
 pub mod Read
 pub mod Results

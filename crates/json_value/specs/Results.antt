@@ -10,6 +10,11 @@ abbrev pub found_or : {A E : Type 0} → E → Option A → Result A E
 found_or fault None = Err fault
 found_or fault (Some a) = Ok a
 
+-- nothing is at fault, or something that makes this fault
+abbrev pub faultless : {A E : Type 0} → (A → E) → Option A → Result (Unit {0}) E
+faultless fault None = Ok tt
+faultless fault (Some a) = Err (fault a)
+
 abbrev pub fault_of : {A E : Type 0} → Result A E → Option E
 fault_of (Ok a) = None
 fault_of (Err e) = Some e

@@ -11,11 +11,13 @@
 
 mod fault;
 mod floats;
+mod head;
 mod members;
 mod read;
 
 pub use fault::ValueError;
 pub use floats::has_float;
+pub use head::head_fault;
 pub use members::{inner, is_text, present, text_in};
 pub use read::read_value;
 

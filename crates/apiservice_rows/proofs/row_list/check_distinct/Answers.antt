@@ -18,7 +18,7 @@ use Rattle.apiservice_rows.proofs.row_list.check_distinct.Goals as goal
 abbrev by_text : Bor (List ℕ) → Bor (List ℕ) → Ordering
 by_text x y = slice_cmp nat_cmp x.now y.now
 
--- the rows from the i-th on are that one and those behind it
+-- the rows from the i-th on are that one and those after it
 here : (rows : List Row) (i : ℕ) (x : Row) → i < length rows → x ≡ get_or rows i x → drop i rows ≡ x ∷ drop (i + 1) rows
 here rows i x lt is = drop_more rows i x lt ∙ ap (λ y. y ∷ drop (i + 1) rows) (sym is)
 
