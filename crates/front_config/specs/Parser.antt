@@ -13,7 +13,7 @@ use Rattle.front_config.specs.Spelling.{Named, behind_dashes, is_some_text}
 abbrev pub option_rule : List ℕ → Rule
 option_rule name = record (new_rule name) { long = Some name; action = Some Set }
 
--- a command with no option: its words begin behind its own, and no option of its own asks for help
+-- a command with no option: its words begin after its own, and no option of its own asks for help
 abbrev pub bare : App
 bare = record (new_app (codes "apiaggd")) {
   top = record (new_app (codes "apiaggd")).top { no_binary_name = true; disable_help_flag = true; disable_version_flag = true };

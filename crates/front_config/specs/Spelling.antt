@@ -19,7 +19,7 @@ abbrev pub begins_with_dash : List ℕ → Bool
 begins_with_dash [] = false
 begins_with_dash (c ∷ rest) = c == 45
 
--- the text behind two dashes
+-- the text after two dashes
 unfoldable pub behind_dashes : List ℕ → Option (List ℕ)
 behind_dashes word = if starts_with nat_eq word (codes "--") then Some (drop 2 word) else None
 

@@ -31,7 +31,7 @@ const LINES: [(&str, &str); 58] = [
     ("explain|--token-auth-file|moment", "explain moment - 0"),
     ("explain|--token-auth-file|explain", "explain explain - 0"),
     ("explain|--audit-policy-file=é", "explain - é 0"),
-    // Numbers of 1, 20 and 21 digits, zeros in front, and the ends of the range and of 64 bits.
+    // Numbers of 1, 20 and 21 digits, leading zeros, and the ends of the range and of 64 bits.
     ("explain|--moment=0", "explain - - 0"),
     ("explain|--moment=00000000000000000012", "explain - - 12"),
     ("explain|--moment=000000000000000000012", "usage"),

@@ -36,7 +36,7 @@ text_at fields i = option_and_then if_text (field_at fields i)
 abbrev pub groups_at : List (List ℕ) → Option (List ℕ)
 groups_at fields = if nat_lt (length fields) 4 then Some [] else text_at fields 3
 
--- what the fields of the row with this number say: token, user, uid and groups; fields behind the fourth say nothing
+-- what the fields of the row with this number say: token, user, uid and groups; fields after the fourth say nothing
 unfoldable pub record_of : ℕ → List (List ℕ) → Result Record TokenFault
 record_of number fields = do
   token ← found_or (BadRow number) (text_at fields 0)

@@ -17,7 +17,7 @@ is_bearer value = str_eq_ignore_ascii_case (take 7 value) (codes "Bearer ")
 abbrev pub before_space : List ℕ → List ℕ
 before_space text = before_first (λ b. b == 32) text
 
--- what stands behind them, up to the next space
+-- what stands after them, up to the next space
 abbrev pub token_in : List ℕ → List ℕ
 token_in value = if is_bearer value then before_space (drop 7 value) else []
 
