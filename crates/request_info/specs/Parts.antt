@@ -8,7 +8,7 @@ unfoldable pub from_first : List (List ℕ) → List (List ℕ)
 from_first [] = []
 from_first (part ∷ parts) = if length part == 0 then from_first parts else part ∷ parts
 
--- a part in front of others; an empty one alone is none
+-- a part before others; an empty one alone is none
 abbrev pub in_front : List ℕ → List (List ℕ) → List (List ℕ)
 in_front part [] = if length part == 0 then [] else part ∷ []
 in_front part (next ∷ parts) = part ∷ next ∷ parts

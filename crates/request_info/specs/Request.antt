@@ -20,7 +20,7 @@ method_verb method =
     else if bytes_eq method (codes "HEAD") then codes "get"
     else []
 
--- the verb of a path: a special one in front of the resource, or else the method's
+-- the verb of a path: a special one before the resource, or else the method's
 abbrev pub verb_of : List ℕ → List (List ℕ) → List ℕ
 verb_of method parts = if is_special_verb (part 0 parts) then part 0 parts else method_verb method
 
@@ -59,7 +59,7 @@ other_info method path = record {
   name = [];
 }
 
--- what a request for a decoded path asks for. A special verb with nothing behind it names no kind
+-- what a request for a decoded path asks for. A special verb with nothing after it names no kind
 abbrev pub path_info : List ℕ → List ℕ → List ℕ → Option Api → Result Info InfoFault
 path_info method query path None = Ok (other_info method path)
 path_info method query path (Some api) =

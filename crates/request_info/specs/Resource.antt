@@ -8,7 +8,7 @@ use Rattle.request_info.specs.declared.resource.Named as code_named
 abbrev pub part : ℕ → List (List ℕ) → List ℕ
 part i parts = get_or parts i []
 
--- a group and a version of the API, and the parts behind them
+-- a group and a version of the API, and the parts after them
 pub record Api : Type 0 where
   pub group : List ℕ
   pub version : List ℕ
@@ -24,7 +24,7 @@ abbrev pub group_api : List (List ℕ) → Option Api
 group_api (group ∷ version ∷ first ∷ parts) = Some (record { group = group; version = version; parts = first ∷ parts })
 group_api _ = None
 
--- the API that a path is in, and what it has behind it; every other path is no resource's
+-- the API that a path is in, and what it has after it; every other path is no resource's
 abbrev pub api_of : List (List ℕ) → Option Api
 api_of [] = None
 api_of (root ∷ parts) =
@@ -32,7 +32,7 @@ api_of (root ∷ parts) =
     else if bytes_eq root (codes "apis") then group_api parts
     else None
 
--- `watch` and `proxy` may stand in front of a resource, and are verbs there
+-- `watch` and `proxy` may stand before a resource, and are verbs there
 abbrev pub is_special_verb : List ℕ → Bool
 is_special_verb text = bytes_eq text (codes "watch") || bytes_eq text (codes "proxy")
 
@@ -61,7 +61,7 @@ object_in namespace parts = names namespace (part 0 parts) (part 1 parts) (part 
 abbrev pub is_of_namespaces : List ℕ → Bool
 is_of_namespaces text = bytes_eq text (codes "status") || bytes_eq text (codes "finalize")
 
--- what parts that begin with `namespaces/NAMESPACE` name, by what stands behind: the namespace itself, or a subresource
+-- what parts that begin with `namespaces/NAMESPACE` name, by what stands after: the namespace itself, or a subresource
 -- of it, or a resource in it
 abbrev pub in_namespace : List ℕ → List (List ℕ) → List (List ℕ) → Named
 in_namespace namespace whole [] = object_in namespace whole

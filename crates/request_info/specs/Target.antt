@@ -12,11 +12,11 @@ is_question_mark b = b == 63
 abbrev pub spelled_path : List ℕ → List ℕ
 spelled_path target = before_first is_question_mark target
 
--- the query: what stands behind it
+-- the query: what stands after it
 abbrev pub query_of : List ℕ → List ℕ
 query_of target = after_first is_question_mark target
 
--- the digits that a byte owes behind it, where none are owed: two behind a percent sign
+-- the digits that a byte owes after it, where none are owed: two after a percent sign
 abbrev pub owed_after : ℕ → ℕ
 owed_after b = if b == 37 then 2 else 0
 

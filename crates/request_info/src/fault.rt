@@ -9,7 +9,7 @@ use std::alloc::AllocError;
 pub enum InfoFault {
     /// The target doesn't begin with a slash, or its path doesn't spell a text.
     BadTarget,
-    /// Nothing stands behind the `watch` or `proxy` of the path.
+    /// Nothing stands after the `watch` or `proxy` of the path.
     NoKind,
     /// Memory ran out.
     NoMemory,

@@ -90,8 +90,8 @@ pub fn slashes_part_paths()
 
 /// A slash at either end of a path changes none of its parts.
 pub fn end_slashes_do_not_count()
-    ensures front { (path : List ℕ) → parts_of (47 ∷ path) ≡ parts_of path }
-    ensures back { (path : List ℕ) → parts_of (path ++ 47 ∷ []) ≡ parts_of path }
+    ensures first { (path : List ℕ) → parts_of (47 ∷ path) ≡ parts_of path }
+    ensures last { (path : List ℕ) → parts_of (path ++ 47 ∷ []) ≡ parts_of path }
 {}
 
 /// A path spells its bytes one after the other: a byte stands for itself, and a percent sign with two hexadecimal digits

@@ -3,7 +3,7 @@ ghost use Rattle.std.specs.Prelude.{◌≡◌, option_map};
 ghost use Rattle.request_info.specs.Parts.{texts_of};
 ghost use Rattle.request_info.specs.Resource as spec;
 
-/// A group and a version of the API, and the parts of a path behind them.
+/// A group and a version of the API, and the parts of a path after them.
 #[derive(Clone, Copy, Debug)]
 pub struct Api<'p> {
     pub group: &'p str,
@@ -53,7 +53,7 @@ fn group_api<'p>(parts: &'p [&'p str]) -> Option<Api<'p>>
     }
 }
 
-/// The API that a path is in, and what it has behind it.
+/// The API that a path is in, and what it has after it.
 pub fn api_of<'p>(parts: &'p [&'p str]) -> Option<Api<'p>>
     ensures { option_map spec.api_view result ≡ spec.api_of (texts_of parts.now) }
 {
@@ -69,14 +69,14 @@ pub fn api_of<'p>(parts: &'p [&'p str]) -> Option<Api<'p>>
     None
 }
 
-/// Whether a part in front of a resource is a verb.
+/// Whether a part before a resource is a verb.
 pub fn is_special_verb(text: &str) -> bool
     ensures { result ≡ spec.is_special_verb text.now }
 {
     text == "watch" || text == "proxy"
 }
 
-/// The parts without such a verb in front of them.
+/// The parts without such a verb before them.
 pub fn behind_verb<'a, 'p>(parts: &'a [&'p str]) -> &'a [&'p str]
     ensures { texts_of result.now ≡ spec.behind_verb (texts_of parts.now) }
 {

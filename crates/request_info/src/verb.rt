@@ -25,7 +25,7 @@ fn method_verb(method: &str) -> &'static str
     }
 }
 
-/// The verb of a path: a special one in front of the resource, or else the method's.
+/// The verb of a path: a special one before the resource, or else the method's.
 pub fn verb_of<'p>(method: &str, parts: &[&'p str]) -> &'p str
     ensures { result.now ≡ spec.verb_of method.now (texts_of parts.now) }
 {

@@ -7,6 +7,6 @@ use Rattle.request_info.proofs.laws.end_slashes_do_not_count.Goals as goal
 pub returns : goal.returns
 unfolding parts_of from_first
 returns c = record {
-  front = λ path. refl;
-  back = λ path. ap (λ cut. to_last (from_first cut)) (cut_more path) ∙ both_ends (slice_split (λ b. b == 47) path);
+  first = λ path. refl;
+  last = λ path. ap (λ cut. to_last (from_first cut)) (cut_more path) ∙ both_ends (slice_split (λ b. b == 47) path);
 }
