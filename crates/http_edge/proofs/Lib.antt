@@ -1,4 +1,2 @@
-pub mod SoFar
-pub mod RunLemmas
 pub mod More
 pub mod One

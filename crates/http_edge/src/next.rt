@@ -1,19 +1,19 @@
 // The next request of a connection.
-ghost use Rattle.std.specs.Prelude.{ℕ, List, ◌≡◌, ◌++◌, ◌<◌, ◌≤◌, [], IfOk, IfErr, length, vec_len};
+ghost use Rattle.std.specs.Prelude.{ℕ, List, ◌≡◌, ◌++◌, ◌<◌, ◌≤◌, [], IfOk, IfErr, OnOk, length, vec_len};
 ghost use Rattle.front_ports.specs.Cause.{Rose};
-ghost use Rattle.http_edge.specs.declared.request.Request.{Request};
-ghost use Rattle.http_edge.specs.declared.request.End.{End};
+ghost use Rattle.http_edge.specs.Calls as calls;
 ghost use Rattle.http_edge.specs.Requests as spec;
 
-use crate::bodies::{BodyStop, read_body};
-use crate::heads::{HeadStop, ReadStop, next_head};
-use crate::{End, MOST_HELD_BYTES, MOST_READ_BYTES, Request, Stop};
-use body_frames::{BodyFault, Frame};
+use crate::{End, MOST_BODY_BYTES, Request, Stop};
+use body_frames::{BodyFault, Frame, bodies_fit, first_bodies};
 use front_base::{Bytes, NoMemory};
 use front_ports::Source;
-use http_head::{Framing, Head, asks_to_close, blocks_are_bounded, blocks_stay, framing, one_head};
+use http_head::{
+    Framing, Head, asks_to_close, blocks_are_bounded, blocks_stay, framing, request_of,
+};
 use std::alloc::Global;
 use std::marker::Model;
+use wire_intake::{BlockStop, BodyStop, Intake, MOST_HELD_BYTES, ReadStop, next_block, next_body};
 
 fn frame_of(head: &Head) -> Option<Frame>
     ensures { result ≡ spec.frame_of head.now }
@@ -39,26 +39,25 @@ fn is_blank(bytes: &[u8]) -> bool
     bytes.iter().all(|b| *b == b'\r' || *b == b'\n')
 }
 
-fn stop_of_head(held: &[u8], stop: HeadStop) -> Stop
-    ensures { result ≡ spec.stop_of_head held.now stop }
+fn stop_of_block(held: &[u8], stop: BlockStop) -> Stop
+    ensures { result ≡ calls.stop_of_block held.now stop }
 {
     match stop {
-        HeadStop::BadHead => Stop::Refused(End::BadHead),
-        HeadStop::TooLarge => Stop::Refused(End::HeadTooLarge),
-        HeadStop::Input(ReadStop::AtEnd) => {
+        BlockStop::TooLarge => Stop::Refused(End::HeadTooLarge),
+        BlockStop::Input(ReadStop::AtEnd) => {
             if is_blank(held) {
                 Stop::Refused(End::Ended)
             } else {
                 Stop::Refused(End::CutShort)
             }
         }
-        HeadStop::Input(ReadStop::ReadFault) => Stop::ReadFault,
-        HeadStop::Input(ReadStop::NoMemory) => Stop::NoMemory,
+        BlockStop::Input(ReadStop::ReadFault) => Stop::ReadFault,
+        BlockStop::Input(ReadStop::NoMemory) => Stop::NoMemory,
     }
 }
 
 fn stop_of_body(stop: BodyStop) -> Stop
-    ensures { result ≡ spec.stop_of_body stop }
+    ensures { result ≡ calls.stop_of_body stop }
 {
     match stop {
         BodyStop::Fault(BodyFault::BadChunk { .. }) => Stop::Refused(End::BadFraming),
@@ -69,28 +68,55 @@ fn stop_of_body(stop: BodyStop) -> Stop
     }
 }
 
-fn next_whole<C: Source>(alloc: Global, conn: &mut C, held: &mut Vec<u8>) -> Result<Request, Stop>
-    requires { vec_len held.old ≤ MOST_HELD_BYTES }
-    ensures ok { IfOk result (λ request.
-        spec.GotRequest (C.left conn.old) (C.left conn.new) held.old.items held.new.items
-        request) }
+// The next head, or why there is none. What was held or read and is not the head's is held.
+fn next_head<C: Source>(alloc: Global, conn: &mut C, intake: &mut Intake) -> Result<Head, Stop>
+    ensures ok { IfOk result (λ head.
+        calls.GotHead (C.left conn.old) (C.left conn.new) intake.old intake.new head) }
     ensures err { IfErr result (λ stop.
-        spec.NoRequest (C.left conn.old) (C.left conn.new) held.old.items
+        calls.NoRequest (C.left conn.old) (C.left conn.new) intake.old
         (Rose (C.read_faults conn.old) (C.read_faults conn.new)) stop) }
     ensures later { C.read_faults conn.old ≤ C.read_faults conn.new }
+    ensures calm { OnOk result (C.read_faults conn.new ≡ C.read_faults conn.old) }
+    ensures told { IfErr result (calls.KeepsCount (C.read_faults conn.old) (C.read_faults conn.new)) }
     ensures aside { C.outward conn.new ≡ C.outward conn.old }
-    ensures bounded { vec_len held.new ≤ MOST_HELD_BYTES }
+{
+    let length = match next_block(conn, intake) {
+        Ok(length) => length,
+        Err(stop) => return Err(stop_of_block(intake.as_slice(), stop)),
+    };
+    match request_of(alloc, &intake.as_slice()[..length]) {
+        Ok(Some(head)) => {
+            intake.skip(length);
+            Ok(head)
+        }
+        Ok(None) => Err(Stop::Refused(End::BadHead)),
+        Err(_) => Err(Stop::NoMemory),
+    }
+}
+
+fn next_whole<C: Source>(alloc: Global, conn: &mut C, intake: &mut Intake) -> Result<Request, Stop>
+    ensures ok { IfOk result (λ request.
+        calls.GotRequest (C.left conn.old) (C.left conn.new) intake.old intake.new request) }
+    ensures fits { IfOk result (λ request. length request.body ≤ MOST_BODY_BYTES) }
+    ensures err { IfErr result (λ stop.
+        calls.NoRequest (C.left conn.old) (C.left conn.new) intake.old
+        (Rose (C.read_faults conn.old) (C.read_faults conn.new)) stop) }
+    ensures later { C.read_faults conn.old ≤ C.read_faults conn.new }
+    ensures calm { OnOk result (C.read_faults conn.new ≡ C.read_faults conn.old) }
+    ensures told { IfErr result (calls.KeepsCount (C.read_faults conn.old) (C.read_faults conn.new)) }
+    ensures aside { C.outward conn.new ≡ C.outward conn.old }
 {
     blocks_are_bounded();
     blocks_stay();
-    let head = match next_head(alloc, conn, held) {
+    bodies_fit();
+    let head = match next_head(alloc, conn, intake) {
         Ok(head) => head,
-        Err(stop) => return Err(stop_of_head(held.as_slice(), stop)),
+        Err(stop) => return Err(stop),
     };
     let Some(frame) = frame_of(&head) else {
         return Err(Stop::Refused(End::BadFraming));
     };
-    match read_body(alloc, conn, held, frame) {
+    match next_body(alloc, conn, intake, frame, MOST_BODY_BYTES) {
         Ok(body) => Ok(Request {
             head,
             body: Bytes::new(body),
@@ -99,21 +125,18 @@ fn next_whole<C: Source>(alloc: Global, conn: &mut C, held: &mut Vec<u8>) -> Res
     }
 }
 
-/// The bytes that were read and not yet used, which contracts see as a list.
+/// The requests of a connection. Contracts see the bytes that were read and not yet used, as a list.
 #[derive(Debug, Drop)]
 pub struct Edge {
-    held: Vec<u8>,
+    intake: Intake,
 }
 
 impl Model for Edge {
-    ghost use Rattle.std.specs.Prelude.{ℕ, List, ◌≤◌, vec_len};
-    ghost use Rattle.http_edge.specs.declared.TheConstants.{MOST_HELD_BYTES};
+    ghost use Rattle.std.specs.Prelude.{ℕ, List};
 
     ghost Value = { List ℕ };
 
-    ghost view = { λ e. e.held.items };
-
-    ghost invariant = { λ e. vec_len e.held ≤ MOST_HELD_BYTES };
+    ghost view = { λ e. e.intake };
 }
 
 impl Edge {
@@ -122,7 +145,7 @@ impl Edge {
         ensures { IfOk result (λ edge. edge ≡ []) }
     {
         Ok(Edge {
-            held: Vec::with_capacity(alloc, MOST_READ_BYTES)?,
+            intake: Intake::new(alloc)?,
         })
     }
 
@@ -131,38 +154,23 @@ impl Edge {
         ensures count { result ≡ length self.now }
         ensures most { result ≤ MOST_HELD_BYTES }
     {
-        self.held.len()
+        self.intake.as_slice().len()
     }
 
-    /// The next request of the connection. After an `Err` the edge isn't used again.
+    /// The next request of the connection, whose body has at most `MOST_BODY_BYTES`. Of the stops only `ReadFault` comes
+    /// with another count of failed reads. After an `Err` the edge isn't used again.
     pub fn next_request<C: Source>(&mut self, alloc: Global, conn: &mut C) -> Result<Request, Stop>
         ensures ok { IfOk result (λ request.
-            spec.GotRequest (C.left conn.old) (C.left conn.new) self.old self.new request) }
+            calls.GotRequest (C.left conn.old) (C.left conn.new) self.old self.new request) }
+        ensures fits { IfOk result (λ request. length request.body ≤ MOST_BODY_BYTES) }
         ensures err { IfErr result (λ stop.
-            spec.NoRequest (C.left conn.old) (C.left conn.new) self.old
+            calls.NoRequest (C.left conn.old) (C.left conn.new) self.old
             (Rose (C.read_faults conn.old) (C.read_faults conn.new)) stop) }
         ensures later { C.read_faults conn.old ≤ C.read_faults conn.new }
+        ensures calm { OnOk result (C.read_faults conn.new ≡ C.read_faults conn.old) }
+        ensures told { IfErr result (calls.KeepsCount (C.read_faults conn.old) (C.read_faults conn.new)) }
         ensures aside { C.outward conn.new ≡ C.outward conn.old }
     {
-        next_whole(alloc, conn, &mut self.held)
+        next_whole(alloc, conn, &mut self.intake)
     }
-}
-
-/// What stands first in the bytes that were taken stands there in all longer inputs: a request, and a refusal.
-pub fn requests_stay()
-    ensures starts { (bytes more after : List ℕ) (request : Request)
-        → spec.StartsWith bytes request after → spec.StartsWith (bytes ++ more) request (after ++ more) }
-    ensures refused { (bytes more : List ℕ) (end : End) → spec.IsRefused bytes end
-        → spec.IsRefused (bytes ++ more) end }
-{
-    blocks_are_bounded();
-    blocks_stay();
-}
-
-/// The requests of an input are one list, with one end.
-pub fn one_list_of_requests()
-    ensures { (bytes : List ℕ) (rs qs : List Request) (e f : End)
-        → spec.IsRequests bytes rs e → spec.IsRequests bytes qs f → (rs ≡ qs) × (e ≡ f) }
-{
-    one_head();
 }

@@ -5,7 +5,7 @@ ghost use Rattle.front_ports.specs.Written.{AppendsFront};
 
 use front_ports::{ByteSink, PortFault, write_all};
 
-/// Writes a reply, all of it. On a fault, a front of it was written.
+/// Writes a reply, all of it. On a fault, a prefix of it was written.
 pub fn put_reply<C: ByteSink>(conn: &mut C, bytes: &[u8]) -> Result<(), PortFault>
     ensures ok { OnOk result (Appends (C.written conn.old) (C.written conn.new) bytes.now) }
     ensures err { OnErr result (AppendsFront (C.written conn.old) (C.written conn.new) bytes.now) }

@@ -12,7 +12,7 @@ pub struct Request {
 /// Why no more requests come.
 #[derive(Clone, Copy, Debug, PartialEq, Eq)]
 pub enum End {
-    /// The input ended behind the last request, but for CR and LF.
+    /// The input ended after the last request, but for CR and LF.
     Ended,
     /// The last request was the last of its connection.
     Asked,
