@@ -50,7 +50,7 @@ pub fn stages_hide()
         → event Stage.RequestReceived level (as_begun facts) ≡ event Stage.RequestReceived level facts }
     ensures started { (level : Level) (facts : Facts) (reply : Kept) (complete : ℕ)
         → event Stage.ResponseStarted level
-            (filled facts.status facts.request reply facts.started complete facts)
+        (filled facts.status facts.request reply facts.started complete facts)
         ≡ event Stage.ResponseStarted level facts }
 {}
 

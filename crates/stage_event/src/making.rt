@@ -153,13 +153,7 @@ fn object_from(shows: bool, kept: Kept) -> Option<Bytes>
     ensures { result ≡ spec.object (views.shown_if shows kept) }
 {
     match kept {
-        Kept::Compact(text) => {
-            if shows {
-                Some(text)
-            } else {
-                None
-            }
-        }
+        Kept::Compact(text) => { if shows { Some(text) } else { None } }
         _ => None,
     }
 }

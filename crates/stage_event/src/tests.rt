@@ -1,5 +1,6 @@
 use crate::{
-    Event, Facts, Kept, MOST_KEPT_BYTES, event_at, has_stage, kept, reply_due, request_due,
+    Event, Facts, Kept, MOST_KEPT_BYTES, event_at, event_from, has_stage, kept, reply_due,
+    request_due,
 };
 use front_base::{AuditId, Bytes, Info, Level, Moment, NoMemory, Stage, Text, Texts, User};
 use std::alloc::Global;
@@ -145,6 +146,30 @@ fn bodies_are_shown_from_their_level_and_stage_on(rt: HostRuntime) -> Result<(),
         assert_eq!(rt; object_of(&event.request_object), request.as_bytes());
         assert_eq!(rt; object_of(&event.response_object), response.as_bytes());
     }
+    Ok(())
+}
+
+fn moment_at(alloc: Global, stage: Stage, verb: &str) -> Result<u64, Fail> {
+    Ok(event(alloc, stage, Level::Metadata, verb)?.at.micros())
+}
+
+#[test]
+fn events_have_the_moment_of_their_stage(rt: HostRuntime) -> Result<(), Fail> {
+    let alloc = rt.alloc();
+    assert_eq!(rt; moment_at(alloc, Stage::RequestReceived, "get")?, 1);
+    assert_eq!(rt; moment_at(alloc, Stage::ResponseStarted, "watch")?, 2);
+    assert_eq!(rt; moment_at(alloc, Stage::ResponseComplete, "get")?, 3);
+    Ok(())
+}
+
+#[test]
+fn the_last_event_is_made_of_the_facts(rt: HostRuntime) -> Result<(), Fail> {
+    let facts = facts(rt.alloc(), "get")?;
+    let event = event_from(Stage::ResponseComplete, Level::RequestResponse, facts);
+    assert_eq!(rt; object_of(&event.request_object), b"{}".as_slice());
+    assert_eq!(rt; object_of(&event.response_object), b"[]".as_slice());
+    assert_eq!(rt; event.at.micros(), 3);
+    assert_eq!(rt; event.verb.as_str(), "get");
     Ok(())
 }
 
