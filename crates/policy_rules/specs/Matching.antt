@@ -73,7 +73,7 @@ matches_resource rule info =
 abbrev pub front : List ℕ → List ℕ
 front text = take (length text - 1) text
 
--- the path itself, or `*` behind the start of it
+-- the path itself, or what it begins with and `*`
 unfoldable pub is_url : List ℕ → List ℕ → Bool
 is_url path url = bytes_eq url path || ends_with nat_eq url (codes "*") && starts_with nat_eq path (front url)
 

@@ -5,10 +5,10 @@ use Rattle.std.specs.List.{list_any, starts_with}
 use Rattle.std.specs.Str.{bytes_eq}
 use Rattle.serde_json.specs.Data.{Data, Items, no_items, item}
 use Rattle.serde_json.specs.Find.{as_str}
-use Rattle.serde_json.specs.Written.{has_float}
+use Rattle.json_value.specs.Head.{head_fault}
 use Rattle.json_value.specs.Members.{present, text_in, is_text, is_object, list_or, bool_or}
 use Rattle.json_value.specs.Read.{value_of}
-use Rattle.json_value.specs.Results.{◌>>=◌, found_or}
+use Rattle.json_value.specs.Results.{◌>>=◌, faultless, found_or}
 use Rattle.front_base.specs.Level.{level_of as level_named}
 use Rattle.front_base.specs.Stage.{stage_name, stage_of}
 use Rattle.front_base.specs.declared.level.Level.{Level}
@@ -165,12 +165,7 @@ rule_of place d =
 
 -- a policy of this version of its API, whose numbers are all whole and fit 64 bits
 unfoldable pub head_of : Data → Result (Unit {0}) PolicyFault
-head_of d =
-    if not (is_text (codes "Policy") (present (codes "kind") d)) then Err (BadField None (codes "kind"))
-    else if not (is_text (codes "audit.k8s.io/v1") (present (codes "apiVersion") d)) then
-    Err (BadField None (codes "apiVersion"))
-    else if has_float d then Err (BadField None (codes "number"))
-    else Ok tt
+head_of d = faultless (BadField None) (head_fault false (codes "Policy") (codes "audit.k8s.io/v1") d)
 
 unfoldable pub rules_of : Items → Result (List Rule) PolicyFault
 rules_of ds = each_from rule_of 0 ds

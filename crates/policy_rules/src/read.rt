@@ -10,7 +10,7 @@ use crate::members::omissions_of;
 use crate::policy::{Policy, Rules};
 use crate::reading::rule_of;
 use front_base::MOST_FILE_BYTES;
-use json_value::{has_float, is_text, present, read_value};
+use json_value::{head_fault, present, read_value};
 use serde_json::Value;
 use std::alloc::Global;
 
@@ -19,16 +19,10 @@ use std::alloc::Global;
 fn check_head(alloc: Global, value: &Value) -> Result<(), PolicyFault>
     ensures { Gives (λ u. u) result (spec.head_of (view value.now)) }
 {
-    if !is_text("Policy", present(value, "kind")) {
-        return Err(bad_field(alloc, None, "kind"));
+    match head_fault(false, "Policy", "audit.k8s.io/v1", value) {
+        Some(name) => Err(bad_field(alloc, None, name)),
+        None => Ok(()),
     }
-    if !is_text("audit.k8s.io/v1", present(value, "apiVersion")) {
-        return Err(bad_field(alloc, None, "apiVersion"));
-    }
-    if has_float(value) {
-        return Err(bad_field(alloc, None, "number"));
-    }
-    Ok(())
 }
 
 #[tactic(auto, unfolding(crate::specs::Reading::rules_of))]

@@ -17,22 +17,7 @@ fn user(alloc: Global, name: &str, group: &str) -> Result<User, NoMemory> {
     })
 }
 
-// What is asked by a path.
-fn path(alloc: Global, path: &str) -> Result<Info, NoMemory> {
-    Ok(Info {
-        resource_request: false,
-        path: Text::copy_of(alloc, path)?,
-        verb: Text::copy_of(alloc, "get")?,
-        group: Text::new(String::new(alloc)),
-        version: Text::new(String::new(alloc)),
-        namespace: Text::new(String::new(alloc)),
-        resource: Text::new(String::new(alloc)),
-        subresource: Text::new(String::new(alloc)),
-        name: Text::new(String::new(alloc)),
-    })
-}
-
-// A resource's name, and its subresource's behind a slash.
+// A resource's name, and its subresource's after a slash.
 fn halves(text: &str) -> (&str, &str) {
     match text.split_once('/') {
         Some(parts) => parts,
@@ -40,18 +25,18 @@ fn halves(text: &str) -> (&str, &str) {
     }
 }
 
-// What is asked of a resource, by the words of a table: verb, API group, namespace, resource and name.
-fn resource(alloc: Global, words: [&str; 5]) -> Result<Info, NoMemory> {
+// What is asked: a path, or a resource by the words of a table: verb, API group, namespace, resource and name.
+fn info(alloc: Global, path: &str, words: [&str; 5]) -> Result<Info, NoMemory> {
     let [verb, group, namespace, what, name] = words;
     let (resource, subresource) = halves(what);
     Ok(Info {
-        resource_request: true,
-        path: Text::new(String::new(alloc)),
+        resource_request: path.is_empty(),
+        path: Text::copy_of(alloc, path)?,
         verb: Text::copy_of(alloc, verb)?,
         group: Text::copy_of(alloc, word(group))?,
         version: Text::new(String::new(alloc)),
         namespace: Text::copy_of(alloc, word(namespace))?,
-        resource: Text::copy_of(alloc, resource)?,
+        resource: Text::copy_of(alloc, word(resource))?,
         subresource: Text::copy_of(alloc, subresource)?,
         name: Text::copy_of(alloc, word(name))?,
     })
@@ -59,15 +44,15 @@ fn resource(alloc: Global, words: [&str; 5]) -> Result<Info, NoMemory> {
 
 fn asked(alloc: Global, words: &[&str]) -> Result<Info, Fail> {
     match words {
-        [asked] => Ok(path(alloc, asked)?),
+        [path] => Ok(info(alloc, path, ["get", "-", "-", "-", "-"])?),
         [verb, group, namespace, what, name] => {
-            Ok(resource(alloc, [*verb, *group, *namespace, *what, *name])?)
+            Ok(info(alloc, "", [*verb, *group, *namespace, *what, *name])?)
         }
         _ => Err("one word or five".into()),
     }
 }
 
-// A policy of these rules.
+// A policy with these rules and further members.
 fn text(alloc: Global, more: &str, rules: &str) -> Result<String, AllocError> {
     let head = r#""apiVersion":"audit.k8s.io/v1","kind":"Policy""#;
     format!(in alloc; "{{{head}{more},\"rules\":[{rules}]}}")
@@ -81,29 +66,12 @@ fn read(alloc: Global, text: &str) -> Result<Policy, PolicyFault> {
     read_policy(alloc, text.as_bytes())
 }
 
-fn policy(alloc: Global, text: &str) -> Result<Policy, Fail> {
+// The fault of a text, empty where it has none.
+fn fault(alloc: Global, text: &str) -> Result<String, AllocError> {
     match read(alloc, text) {
-        Ok(policy) => Ok(policy),
-        Err(_) => Err("a policy".into()),
+        Ok(_) => Ok(String::new(alloc)),
+        Err(fault) => format!(in alloc; "{fault:?}"),
     }
-}
-
-// What a refusal is, where, and of what.
-fn told(fault: &PolicyFault) -> (&str, Option<u32>, &str) {
-    match fault {
-        PolicyFault::NotJson => ("NotJson", None, ""),
-        PolicyFault::NoRules => ("NoRules", None, ""),
-        PolicyFault::BadField { rule, name } => ("BadField", *rule, name.as_str()),
-        PolicyFault::BothKinds { rule } => ("BothKinds", Some(*rule), ""),
-        PolicyFault::BadUrl { rule } => ("BadUrl", Some(*rule), ""),
-        PolicyFault::NamesWithoutResources { rule } => ("NamesWithoutResources", Some(*rule), ""),
-        PolicyFault::NoMemory => ("NoMemory", None, ""),
-    }
-}
-
-// Whether the rule at that place decided, and the level is of that name.
-fn is_by(decision: Decision, place: &str, level: &str) -> bool {
-    decision.level.name() == level && decision.rule == place.parse().ok()
 }
 
 // Whether a policy decides as a row says: by the rule at that place, at that level, where a user with a group of theirs
@@ -114,8 +82,21 @@ fn decides(alloc: Global, policy: &Policy, row: &str) -> Result<bool, Fail> {
         return Err("four words and more".into());
     };
     let user = user(alloc, word(who), word(of))?;
-    let info = asked(alloc, rest)?;
-    Ok(is_by(decide(policy, &user, &info), place, level))
+    let decision = decide(policy, &user, &asked(alloc, rest)?);
+    Ok(decision.level.name() == *level && decision.rule == place.parse().ok())
+}
+
+// The first row that says something else than the policy of that text, empty where there is none.
+fn wrong_row<'r>(alloc: Global, text: &str, rows: &'r str) -> Result<&'r str, Fail> {
+    let Ok(policy) = read(alloc, text) else {
+        return Err("a policy".into());
+    };
+    for row in rows.lines() {
+        if !decides(alloc, &policy, row)? {
+            return Ok(row);
+        }
+    }
+    Ok("")
 }
 
 #[test]
@@ -127,103 +108,71 @@ fn every_request_at_metadata(rt: HostRuntime) -> Result<(), Fail> {
     Ok(())
 }
 
-// The stages that a policy leaves out of what ann asks.
-fn omitted(alloc: Global, policy: &Policy, words: [&str; 5]) -> Result<Omit, NoMemory> {
-    let user = user(alloc, "ann", "dev")?;
-    Ok(decide(policy, &user, &resource(alloc, words)?).omit)
-}
+// Stages left out by the policy and by its rule for `get`.
+const STAGES: &str = concat!(
+    r#"{"apiVersion":"audit.k8s.io/v1","kind":"Policy","omitManagedFields":true,"omitStages":["RequestReceived","Panic"],"#,
+    r#""rules":[{"level":"Metadata","verbs":["get"],"omitStages":["ResponseComplete"]}]}"#,
+);
 
 #[test]
 fn a_rule_adds_to_the_stages_of_its_policy(rt: HostRuntime) -> Result<(), Fail> {
-    let more = r#","omitManagedFields":true,"omitStages":["RequestReceived","Panic"]"#;
-    let rule = r#"{"level":"Metadata","verbs":["get"],"omitStages":["ResponseComplete"]}"#;
-    let text = text(rt.alloc(), more, rule)?;
-    let policy = policy(rt.alloc(), text.as_str())?;
-    let both = Omit {
-        received: true,
-        started: false,
-        complete: true,
-    };
-    assert_eq!(rt;
-        omitted(rt.alloc(), &policy, ["get", "-", "-", "pods", "-"])?,
-        both
-    );
-    let own = Omit {
-        received: true,
-        started: false,
-        complete: false,
-    };
-    assert_eq!(rt;
-        omitted(rt.alloc(), &policy, ["list", "-", "-", "pods", "-"])?,
-        own
-    );
-    assert_eq!(rt;
-        decides(rt.alloc(), &policy, "- None ann dev list - - pods -")?,
-        true
-    );
-    Ok(())
-}
-
-#[test]
-fn absent_members_ask_for_nothing(rt: HostRuntime) -> Result<(), Fail> {
-    let rule = concat!(
-        r#"{"level":"Request","users":null,"userGroups":[],"verbs":null,"namespaces":[],"resources":null,"#,
-        r#""nonResourceURLs":null,"omitStages":null,"omitManagedFields":null,"comment":{"x":[-1]}}"#,
-    );
-    let text = text(rt.alloc(), r#","omitStages":[]"#, rule)?;
-    let policy = policy(rt.alloc(), text.as_str())?;
-    assert_eq!(rt; decides(rt.alloc(), &policy, "0 Request - - /")?, true);
-    Ok(())
-}
-
-// Whether a resource, with its subresource, is one of those that a rule names.
-const NAMED: &str = r#"named pods/log "pods/*"
-other pods "pods/*"
-other podtemplates/log "pods/*"
-named deployments/scale "*/scale"
-other scale "*/scale"
-other deployments/status "*/scale"
-named pods/log "*"
-named deployments/scale "*"
-named pods "*"
-named pods "pods"
-other pods/log "pods"
-named pods/log "pods/log"
-other pods "pods/log"
-other pods/log "pods/lo*"
-other pods/log "*/*"
-named pods "secrets","pods"
-named pods/log -"#;
-
-// A policy whose one rule names such resources.
-fn naming(alloc: Global, named: &str) -> Result<Policy, Fail> {
-    let head = r#"{"level":"None","resources":[{"resources":["#;
-    let rule = format!(in alloc; "{head}{named}]}}]}}")?;
-    let text = text(alloc, "", rule.as_str())?;
-    policy(alloc, text.as_str())
-}
-
-// Whether a row of that table is true.
-fn is_named(alloc: Global, row: &str) -> Result<bool, Fail> {
-    let words: Vec<&str> = row.split(' ').collect(alloc)?;
-    let [answer, what, named] = words.as_slice() else {
-        return Err("three words".into());
-    };
-    let policy = naming(alloc, word(named))?;
-    let user = user(alloc, "ann", "dev")?;
-    let info = resource(alloc, ["get", "-", "-", *what, "-"])?;
-    Ok(decide(&policy, &user, &info).rule.is_some() == (*answer == "named"))
-}
-
-#[test]
-fn rules_name_resources(rt: HostRuntime) -> Result<(), Fail> {
-    for row in NAMED.lines() {
-        assert_eq!(rt; is_named(rt.alloc(), row)?, true, "at {row}");
+    let alloc = rt.alloc();
+    let policy = read(alloc, STAGES).map_err(|_| "a policy")?;
+    let ann = user(alloc, "ann", "dev")?;
+    for (verb, complete) in [("get", true), ("list", false)] {
+        let omit = decide(
+            &policy,
+            &ann,
+            &info(alloc, "", [verb, "-", "-", "pods", "-"])?,
+        )
+        .omit;
+        let due = Omit {
+            received: true,
+            started: false,
+            complete,
+        };
+        assert_eq!(rt; omit, due, "{verb}");
     }
     Ok(())
 }
 
-// The policy that the Kubernetes page on auditing shows.
+// Members that are null or empty.
+const ABSENT: &str = concat!(
+    r#"{"apiVersion":"audit.k8s.io/v1","kind":"Policy","omitStages":[],"rules":[{"level":"Request","users":null,"#,
+    r#""userGroups":[],"verbs":null,"namespaces":[],"resources":null,"nonResourceURLs":null,"omitStages":null,"#,
+    r#""omitManagedFields":null,"comment":{"x":[-1]}}]}"#,
+);
+
+// A rule for each way in which resources are named, for a user of its own.
+const NAMES: &str = r#"{"apiVersion":"audit.k8s.io/v1","kind":"Policy","rules":[
+{"level":"Request","users":["a"],"resources":[{"resources":["pods/*"]}]},
+{"level":"Request","users":["b"],"resources":[{"resources":["*/scale"]}]},
+{"level":"Request","users":["c"],"resources":[{"resources":["*"]}]},
+{"level":"Request","users":["d"],"resources":[{"resources":["pods"]}]},
+{"level":"Request","users":["e"],"resources":[{"resources":["pods/log"]}]},
+{"level":"Request","users":["f"],"resources":[{"resources":["pods/lo*","*/*"]}]},
+{"level":"Request","users":["g"],"resources":[{"resources":["secrets","pods"]}]},
+{"level":"Request","users":["h"],"resources":[{}]}
+]}"#;
+
+const BY_NAMES: &str = "0 Request a dev get - - pods/log -
+- None a dev get - - pods -
+- None a dev get - - podtemplates/log -
+1 Request b dev get - - deployments/scale -
+- None b dev get - - scale -
+- None b dev get - - deployments/status -
+2 Request c dev get - - pods/log -
+2 Request c dev get - - pods -
+3 Request d dev get - - pods -
+- None d dev get - - pods/log -
+4 Request e dev get - - pods/log -
+- None e dev get - - pods -
+- None f dev get - - pods/log -
+6 Request g dev get - - pods -
+7 Request h dev get - - pods/log -
+- None a dev /pods/log";
+
+// The policy of the page on auditing (https://kubernetes.io/docs/tasks/debug/debug-cluster/audit/).
 const PAGE: &str =
     r#"{"apiVersion":"audit.k8s.io/v1","kind":"Policy","omitStages":["RequestReceived"],"rules":[
 {"level":"RequestResponse","resources":[{"group":"","resources":["pods"]}]},
@@ -237,7 +186,7 @@ const PAGE: &str =
 {"level":"Metadata","omitStages":["RequestReceived"]}
 ]}"#;
 
-// What that page says of requests.
+// What is to become of requests there.
 const BY_PAGE: &str = r#"0 RequestResponse ann system:authenticated create - default pods -
 0 RequestResponse ann system:authenticated list - - pods -
 1 Metadata ann system:authenticated get - default pods/log web-0
@@ -272,15 +221,6 @@ const BY_PAGE: &str = r#"0 RequestResponse ann system:authenticated create - def
 8 Metadata ann system:authenticated /healthz
 8 Metadata ann system:authenticated /
 8 Metadata system:anonymous system:unauthenticated /api"#;
-
-#[test]
-fn the_policy_of_the_page_on_auditing(rt: HostRuntime) -> Result<(), Fail> {
-    let policy = policy(rt.alloc(), PAGE)?;
-    for row in BY_PAGE.lines() {
-        assert_eq!(rt; decides(rt.alloc(), &policy, row)?, true, "at {row}");
-    }
-    Ok(())
-}
 
 // Rules in the manner of a managed cluster's.
 const CLUSTER: &str = r#"{"apiVersion":"audit.k8s.io/v1","kind":"Policy","rules":[
@@ -381,101 +321,73 @@ const BY_CLUSTER: &str = r#"0 None system:kube-proxy system:authenticated watch 
 39 Metadata ann system:authenticated /apisx"#;
 
 #[test]
-fn a_policy_of_a_managed_cluster(rt: HostRuntime) -> Result<(), Fail> {
-    let policy = policy(rt.alloc(), CLUSTER)?;
-    for row in BY_CLUSTER.lines() {
-        assert_eq!(rt; decides(rt.alloc(), &policy, row)?, true, "at {row}");
-    }
+fn the_first_rule_that_matches_decides(rt: HostRuntime) -> Result<(), Fail> {
+    let alloc = rt.alloc();
+    assert_eq!(rt; wrong_row(alloc, ABSENT, "0 Request - - /")?, "");
+    assert_eq!(rt; wrong_row(alloc, NAMES, BY_NAMES)?, "");
+    assert_eq!(rt; wrong_row(alloc, PAGE, BY_PAGE)?, "");
+    assert_eq!(rt; wrong_row(alloc, CLUSTER, BY_CLUSTER)?, "");
     Ok(())
 }
 
-// Whether a text is refused as the row's first two words say.
-fn is_refused(alloc: Global, place: Option<u32>, row: &str, text: &str) -> Result<bool, Fail> {
-    let words: Vec<&str> = row.split(' ').collect(alloc)?;
-    let [kind, name, _] = words.as_slice() else {
-        return Err("three words".into());
-    };
-    match read(alloc, text) {
-        Ok(_) => Ok(false),
-        Err(fault) => Ok(told(&fault) == (*kind, place, word(name))),
-    }
-}
+// Policies, and why they are refused.
+const POLICIES: &str = r#"{|NotJson
+[]|BadField { rule: None, name: Text("kind") }
+{"kind":"Policy"}|BadField { rule: None, name: Text("apiVersion") }
+{"kind":"policy","apiVersion":"audit.k8s.io/v1"}|BadField { rule: None, name: Text("kind") }
+{"kind":"Policy","apiVersion":"audit.k8s.io/v1beta1"}|BadField { rule: None, name: Text("apiVersion") }
+{"kind":"Policy","apiVersion":"audit.k8s.io/v1","x":[{"y":1.0}]}|BadField { rule: None, name: Text("number") }
+{"kind":"Policy","apiVersion":"audit.k8s.io/v1","x":1e2}|BadField { rule: None, name: Text("number") }
+{"kind":"Policy","apiVersion":"audit.k8s.io/v1","x":-0}|BadField { rule: None, name: Text("number") }
+{"kind":"Policy","apiVersion":"audit.k8s.io/v1","x":18446744073709551616}|BadField { rule: None, name: Text("number") }
+{"kind":"Policy","apiVersion":"audit.k8s.io/v1","omitStages":["Started"]}|BadField { rule: None, name: Text("omitStages") }
+{"kind":"Policy","apiVersion":"audit.k8s.io/v1","omitManagedFields":1}|BadField { rule: None, name: Text("omitManagedFields") }
+{"kind":"Policy","apiVersion":"audit.k8s.io/v1"}|NoRules
+{"kind":"Policy","apiVersion":"audit.k8s.io/v1","rules":null}|NoRules
+{"kind":"Policy","apiVersion":"audit.k8s.io/v1","rules":[]}|NoRules
+{"kind":"Policy","apiVersion":"audit.k8s.io/v1","rules":{}}|BadField { rule: None, name: Text("rules") }
+{"kind":"Policy","apiVersion":"audit.k8s.io/v1","rules":[{"level":"None","x":1e400}]}|NotJson"#;
 
-fn last_word(row: &str) -> &str {
-    match row.rsplit_once(' ') {
-        Some((_, last)) => last,
-        None => row,
-    }
-}
-
-// Why a policy is refused, and for which member.
-const POLICIES: &str = r#"NotJson - {
-BadField kind []
-BadField apiVersion {"kind":"Policy"}
-BadField kind {"kind":"policy","apiVersion":"audit.k8s.io/v1"}
-BadField apiVersion {"kind":"Policy","apiVersion":"audit.k8s.io/v1beta1"}
-BadField number {"kind":"Policy","apiVersion":"audit.k8s.io/v1","x":[{"y":1.0}]}
-BadField number {"kind":"Policy","apiVersion":"audit.k8s.io/v1","x":1e2}
-BadField number {"kind":"Policy","apiVersion":"audit.k8s.io/v1","x":-0}
-BadField number {"kind":"Policy","apiVersion":"audit.k8s.io/v1","x":18446744073709551616}
-BadField omitStages {"kind":"Policy","apiVersion":"audit.k8s.io/v1","omitStages":["Started"]}
-BadField omitManagedFields {"kind":"Policy","apiVersion":"audit.k8s.io/v1","omitManagedFields":1}
-NoRules - {"kind":"Policy","apiVersion":"audit.k8s.io/v1"}
-NoRules - {"kind":"Policy","apiVersion":"audit.k8s.io/v1","rules":null}
-NoRules - {"kind":"Policy","apiVersion":"audit.k8s.io/v1","rules":[]}
-BadField rules {"kind":"Policy","apiVersion":"audit.k8s.io/v1","rules":{}}
-NotJson - {"kind":"Policy","apiVersion":"audit.k8s.io/v1","rules":[{"level":"None","x":1e400}]}"#;
-
-#[test]
-fn names_the_member_of_a_policy(rt: HostRuntime) -> Result<(), Fail> {
-    for row in POLICIES.lines() {
-        let refused = is_refused(rt.alloc(), None, row, last_word(row))?;
-        assert_eq!(rt; refused, true, "at {row}");
-    }
-    Ok(())
-}
-
-// Why a rule is refused, and for which member.
-const RULES: &str = r#"BadField rules null
-BadField level {}
-BadField level {"level":"metadata"}
-BadField level {"level":null,"users":7}
-BadField users {"level":"None","users":"ann"}
-BadField users {"level":"None","users":[null]}
-BadField userGroups {"level":"None","userGroups":[1]}
-BadField verbs {"level":"None","verbs":{}}
-BadField resources {"level":"None","resources":["pods"]}
-BadField resources {"level":"None","resources":[{"group":1}]}
-BadField resources {"level":"None","resources":[{"resources":"pods"}]}
-BadField resources {"level":"None","resources":[{"resources":["pods"],"resourceNames":[1]}]}
-BadField namespaces {"level":"None","namespaces":true}
-BadField nonResourceURLs {"level":"None","nonResourceURLs":[[]]}
-BadField omitStages {"level":"None","omitStages":[1]}
-BadField omitManagedFields {"level":"None","omitManagedFields":"true"}
-BothKinds - {"level":"None","resources":[{}],"nonResourceURLs":["/"]}
-BothKinds - {"level":"None","namespaces":["a"],"nonResourceURLs":["x"]}
-BadUrl - {"level":"None","nonResourceURLs":["/","healthz"]}
-BadUrl - {"level":"None","nonResourceURLs":["/a*b"]}
-BadUrl - {"level":"None","nonResourceURLs":["/a**"]}
-BadUrl - {"level":"None","nonResourceURLs":["**"]}
-BadUrl - {"level":"None","nonResourceURLs":[""]}
-NamesWithoutResources - {"level":"None","resources":[{"resourceNames":["a"]}]}
-NamesWithoutResources - {"level":"None","resources":[{},{"resourceNames":["a"],"resources":[]}]}
-BadField omitStages {"level":"None","resources":[{"resourceNames":["a"]}],"omitStages":[""]}"#;
-
-// A text whose second rule is that one, behind a good rule.
-fn second(alloc: Global, rule: &str) -> Result<String, AllocError> {
-    let good = r#"{"level":"None"}"#;
-    let rules = format!(in alloc; "{good},{rule},7")?;
-    text(alloc, "", rules.as_str())
-}
+// Rules, and why the policy is refused whose second rule is that one.
+const RULES: &str = r#"null|BadField { rule: Some(1), name: Text("rules") }
+{}|BadField { rule: Some(1), name: Text("level") }
+{"level":"metadata"}|BadField { rule: Some(1), name: Text("level") }
+{"level":null,"users":7}|BadField { rule: Some(1), name: Text("level") }
+{"level":"None","users":"ann"}|BadField { rule: Some(1), name: Text("users") }
+{"level":"None","users":[null]}|BadField { rule: Some(1), name: Text("users") }
+{"level":"None","userGroups":[1]}|BadField { rule: Some(1), name: Text("userGroups") }
+{"level":"None","verbs":{}}|BadField { rule: Some(1), name: Text("verbs") }
+{"level":"None","resources":["pods"]}|BadField { rule: Some(1), name: Text("resources") }
+{"level":"None","resources":[{"group":1}]}|BadField { rule: Some(1), name: Text("resources") }
+{"level":"None","resources":[{"resources":"pods"}]}|BadField { rule: Some(1), name: Text("resources") }
+{"level":"None","resources":[{"resources":["pods"],"resourceNames":[1]}]}|BadField { rule: Some(1), name: Text("resources") }
+{"level":"None","namespaces":true}|BadField { rule: Some(1), name: Text("namespaces") }
+{"level":"None","nonResourceURLs":[[]]}|BadField { rule: Some(1), name: Text("nonResourceURLs") }
+{"level":"None","omitStages":[1]}|BadField { rule: Some(1), name: Text("omitStages") }
+{"level":"None","omitManagedFields":"true"}|BadField { rule: Some(1), name: Text("omitManagedFields") }
+{"level":"None","resources":[{}],"nonResourceURLs":["/"]}|BothKinds { rule: 1 }
+{"level":"None","namespaces":["a"],"nonResourceURLs":["x"]}|BothKinds { rule: 1 }
+{"level":"None","nonResourceURLs":["/","healthz"]}|BadUrl { rule: 1 }
+{"level":"None","nonResourceURLs":["/a*b"]}|BadUrl { rule: 1 }
+{"level":"None","nonResourceURLs":["/a**"]}|BadUrl { rule: 1 }
+{"level":"None","nonResourceURLs":["**"]}|BadUrl { rule: 1 }
+{"level":"None","nonResourceURLs":[""]}|BadUrl { rule: 1 }
+{"level":"None","resources":[{"resourceNames":["a"]}]}|NamesWithoutResources { rule: 1 }
+{"level":"None","resources":[{},{"resourceNames":["a"],"resources":[]}]}|NamesWithoutResources { rule: 1 }
+{"level":"None","resources":[{"resourceNames":["a"]}],"omitStages":[""]}|BadField { rule: Some(1), name: Text("omitStages") }"#;
 
 #[test]
-fn names_the_rule_and_its_member(rt: HostRuntime) -> Result<(), Fail> {
-    for row in RULES.lines() {
-        let text = second(rt.alloc(), last_word(row))?;
-        let refused = is_refused(rt.alloc(), Some(1), row, text.as_str())?;
-        assert_eq!(rt; refused, true, "at {row}");
+fn names_what_is_at_fault(rt: HostRuntime) -> Result<(), Fail> {
+    let alloc = rt.alloc();
+    for line in POLICIES.lines() {
+        let (policy, due) = line.rsplit_once('|').ok_or("two parts")?;
+        assert_eq!(rt; fault(alloc, policy)?.as_str(), due, "{line}");
+    }
+    for line in RULES.lines() {
+        let (rule, due) = line.rsplit_once('|').ok_or("two parts")?;
+        let rules = format!(in alloc; "{{\"level\":\"None\"}},{rule},7")?;
+        let policy = text(alloc, "", rules.as_str())?;
+        assert_eq!(rt; fault(alloc, policy.as_str())?.as_str(), due, "{line}");
     }
     Ok(())
 }

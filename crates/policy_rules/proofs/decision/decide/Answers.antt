@@ -5,7 +5,7 @@ use Rattle.policy_rules.specs.declared.rule.Rule.{Rule}
 use Rattle.policy_rules.proofs.FirstLemmas.{first_here, first_more, first_none}
 use Rattle.policy_rules.proofs.decision.decide.Goals as goal
 
--- the rules from the i-th on are that one and those behind it
+-- the rules from the i-th on are that one and those after it
 here : (rules : List Rule) (i : ℕ) (x : Rule) → i < length rules → x ≡ get_or rules i x → drop i rules ≡ x ∷ drop (i + 1) rules
 here rules i x lt is = drop_more rules i x lt ∙ ap (λ y. y ∷ drop (i + 1) rules) (sym is)
 
