@@ -14,7 +14,7 @@ use Rattle.std.proofs.lemmas.Map.Text.{is_eq-slice_cmp}
 use Rattle.std.proofs.lemmas.Slice.Eq.{bytes_eq-Decides}
 use Rattle.apiservice_rows.specs.Row.{Row, IsRowName}
 use Rattle.apiservice_table.specs.Order.{AllAfter, AllNamed, IsInOrder, place_of, further}
-use Rattle.apiservice_table.specs.Table.{row_named, with_row, without_row}
+use Rattle.apiservice_table.specs.Table.{row_named, with_row, without_row, HasDistinctNames}
 
 further_ok : (x : Result ℕ ℕ) (i : ℕ) → further x ≡ Ok i → (j : ℕ) × (x ≡ Ok j) × (i ≡ suc j)
 further_ok (Ok k) i e = (k, refl, cc e)
@@ -101,6 +101,11 @@ before_all name (r ∷ rows) h =
     let greater : slice_cmp nat_cmp r.name name ≡ Greater = nat_list_cmp_total.antisymm r.name name ∙ rw h.0 refl in
     let differs : bytes_eq r.name name ≡ false = tells r.name name Greater greater in
     rw differs (before_all name rows h.1)
+
+-- so no two names of rows in order are one
+pub distinct_in_order : (rows : List Row) → IsInOrder rows → HasDistinctNames rows
+distinct_in_order [] h = tt
+distinct_in_order (r ∷ rows) h = (before_all r.name rows h.0, distinct_in_order rows h.1)
 
 after_less : (a b : List ℕ) (rows : List Row) → slice_cmp nat_cmp a b ≡ Less → AllAfter b rows → AllAfter a rows
 after_less a b [] e h = tt

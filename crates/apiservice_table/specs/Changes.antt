@@ -65,3 +65,7 @@ placed at (change ∷ changes) = (at, change) ∷ placed (at + 1) changes
 pub record Story : Type 0 where
   pub opening : List Row
   pub seen : List Change
+
+-- the rows that they stand at
+abbrev pub rows_of : Story → List Row
+rows_of story = after story.opening story.seen

@@ -1,4 +1,5 @@
 pub mod Changes
 pub mod Index
 pub mod Order
+pub mod Services
 pub mod Table

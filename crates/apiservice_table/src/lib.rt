@@ -11,11 +11,12 @@ mod index;
 mod laws;
 mod place;
 mod routes;
+mod services;
 mod table;
 mod table_routes;
 
 pub use change::{Change, ChangeFault};
-pub use laws::read_rows_fit;
+pub use laws::{one_user_knows_the_rows, read_rows_fit};
 pub use routes::Routes;
 pub use table::RouteTable;
 pub use table_routes::TableRoutes;

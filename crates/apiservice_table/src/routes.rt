@@ -1,14 +1,17 @@
-ghost use Rattle.std.specs.Prelude.{◌≡◌, ℕ, ◌-◌, ◌^◌, List, min, length, IfOk, IfErr, OnOk, OnErr};
+ghost use Rattle.std.specs.Prelude.{◌≡◌, ℕ, ◌-◌, ◌^◌, List, min, length, is_some, IfOk, IfErr, OnOk, OnErr};
 ghost use Rattle.apiservice_rows.specs.Row.{Row};
 ghost use Rattle.apiservice_table.specs.Changes.{after, refusal, IsDue, IsLater, Took};
+ghost use Rattle.apiservice_table.specs.Services as services;
 ghost use Rattle.apiservice_table.specs.Table as spec;
+ghost use Rattle.discovery_merge.specs.Documents.{group_list_text, group_text};
 
 use crate::change::{Change, ChangeFault};
 use apiservice_rows::{Row, Rows};
-use front_base::NoMemory;
+use front_base::{Bytes, NoMemory};
 use std::alloc::Global;
 
-/// A table as one user of it sees it, which others may change too.
+/// A table as one user of it sees it, which others may change too. Each call sees one table; between two calls others may
+/// change it.
 pub trait Routes {
     ghost use Rattle.apiservice_table.specs.declared.change.Change.{Change};
 
@@ -31,6 +34,40 @@ pub trait Routes {
     /// A copy of the rows in byte order of names, after the changes that are seen then.
     fn list(&mut self, alloc: Global) -> Result<Rows, NoMemory>
         ensures rows { IfOk result (λ rows. rows ≡ after (opening self.new) (seen self.new)) }
+        ensures later { IsLater (seen self.old) (seen self.new) }
+        ensures keeps { (opening self.new ≡ opening self.old) × (own self.new ≡ own self.old) };
+
+    /// Whether a row of that group and version is there, after the changes that are seen then. It takes no memory.
+    fn has(&mut self, group: &str, version: &str) -> bool
+        ensures has { result
+            ≡ is_some (spec.row group.now version.now (after (opening self.new) (seen self.new))) }
+        ensures later { IsLater (seen self.old) (seen self.new) }
+        ensures keeps { (opening self.new ≡ opening self.old) × (own self.new ≡ own self.old) };
+
+    /// A copy of the object of the APIService of that name, after the changes that are seen then.
+    fn object(&mut self, alloc: Global, name: &str) -> Result<Option<Bytes>, NoMemory>
+        ensures found { IfOk result (λ found.
+            found ≡ services.object_named name.now (after (opening self.new) (seen self.new))) }
+        ensures later { IsLater (seen self.old) (seen self.new) }
+        ensures keeps { (opening self.new ≡ opening self.old) × (own self.new ≡ own self.old) };
+
+    /// The `APIServiceList` of all rows, after the changes that are seen then.
+    fn service_list(&mut self, alloc: Global) -> Result<Bytes, NoMemory>
+        ensures text { IfOk result (λ text.
+            text ≡ services.service_list_text (after (opening self.new) (seen self.new))) }
+        ensures later { IsLater (seen self.old) (seen self.new) }
+        ensures keeps { (opening self.new ≡ opening self.old) × (own self.new ≡ own self.old) };
+
+    /// A copy of the `APIGroupList` of `/apis`, after the changes that are seen then.
+    fn group_list(&mut self, alloc: Global) -> Result<Bytes, NoMemory>
+        ensures text { IfOk result (λ text. text ≡ group_list_text (after (opening self.new) (seen self.new))) }
+        ensures later { IsLater (seen self.old) (seen self.new) }
+        ensures keeps { (opening self.new ≡ opening self.old) × (own self.new ≡ own self.old) };
+
+    /// A copy of the `APIGroup` of that name, where a row has the group, after the changes that are seen then.
+    fn group(&mut self, alloc: Global, name: &str) -> Result<Option<Bytes>, NoMemory>
+        ensures found { IfOk result (λ found.
+            found ≡ group_text name.now (after (opening self.new) (seen self.new))) }
         ensures later { IsLater (seen self.old) (seen self.new) }
         ensures keeps { (opening self.new ≡ opening self.old) × (own self.new ≡ own self.old) };
 

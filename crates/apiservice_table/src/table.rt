@@ -138,6 +138,17 @@ fn change_rows(rows: &mut Vec<Row>, change: Change) -> Result<(), ChangeFault>
     }
 }
 
+// The row of that name, by binary search.
+fn row_named<'a>(rows: &'a [Row], name: &str) -> Option<&'a Row>
+    requires { IsInOrder rows.now }
+    ensures { option_map (λ row. row.now) result ≡ spec.row_named name.now rows.now }
+{
+    match place_of(rows, name) {
+        Ok(at) => Some(&rows[at]),
+        Err(_) => None,
+    }
+}
+
 // The row of that group and version, by binary search among names.
 fn find_by_name<'a>(rows: &'a [Row], group: &str, version: &str) -> Option<&'a Row>
     requires order { IsInOrder rows.now }
@@ -191,9 +202,19 @@ impl RouteTable {
         }
     }
 
-    /// The rows in byte order of names.
+    /// The row of that name.
+    pub fn named(&self, name: &str) -> Option<&Row>
+        ensures { option_map (λ row. row.now) result ≡ spec.row_named name.now self.now.rows }
+    {
+        row_named(self.rows.as_slice(), name)
+    }
+
+    /// The rows in byte order of names, each name once, and no more than a table may hold.
     pub fn rows(&self) -> &[Row]
-        ensures { result.now ≡ self.now.rows }
+        ensures rows { result.now ≡ self.now.rows }
+        ensures few { length self.now.rows ≤ MOST_ROWS }
+        ensures distinct { spec.HasDistinctNames self.now.rows }
+        ensures order { IsInOrder self.now.rows }
     {
         self.rows.as_slice()
     }

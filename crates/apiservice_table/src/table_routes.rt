@@ -4,9 +4,11 @@ ghost use Rattle.apiservice_table.specs.Table as spec;
 
 use crate::change::{Change, ChangeFault};
 use crate::routes::Routes;
+use crate::services::service_list;
 use crate::table::RouteTable;
 use apiservice_rows::{Row, Rows};
-use front_base::NoMemory;
+use discovery_merge::{GroupFault, group, group_list};
+use front_base::{Bytes, NoMemory};
 use std::alloc::Global;
 use std::marker::Model;
 
@@ -98,6 +100,33 @@ impl Routes for TableRoutes {
 
     fn list(&mut self, alloc: Global) -> Result<Rows, NoMemory> {
         Ok(Rows::new(copy_rows(alloc, self.table.rows())?))
+    }
+
+    fn has(&mut self, group: &str, version: &str) -> bool {
+        self.table.find(group, version).is_some()
+    }
+
+    fn object(&mut self, alloc: Global, name: &str) -> Result<Option<Bytes>, NoMemory> {
+        match self.table.named(name) {
+            Some(row) => Ok(Some(row.object.copy(alloc)?)),
+            None => Ok(None),
+        }
+    }
+
+    fn service_list(&mut self, alloc: Global) -> Result<Bytes, NoMemory> {
+        service_list(alloc, self.table.rows())
+    }
+
+    fn group_list(&mut self, alloc: Global) -> Result<Bytes, NoMemory> {
+        group_list(alloc, self.table.rows())
+    }
+
+    fn group(&mut self, alloc: Global, name: &str) -> Result<Option<Bytes>, NoMemory> {
+        match group(alloc, self.table.rows(), name) {
+            Ok(text) => Ok(Some(text)),
+            Err(GroupFault::NoGroup) => Ok(None),
+            Err(GroupFault::NoMemory) => Err(NoMemory),
+        }
     }
 
     fn change(&mut self, alloc: Global, change: Change) -> Result<(), ChangeFault> {
