@@ -1,6 +1,5 @@
 pub mod EndsLemmas
 pub mod BehindLemmas
 pub mod RouteLemmas
-pub mod RowLemmas
 pub mod SeekLemmas
 pub mod TableLemmas

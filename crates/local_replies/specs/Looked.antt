@@ -1,9 +1,8 @@
 -- What a look at a local path is answered, by the rows in byte order of names (Kubernetes, "Kubernetes API health
 -- endpoints", "API discovery" and "API conventions": lists).
-use Rattle.std.specs.Prelude.{ℕ, Bool, true, false, List, ◌++◌, Option, Some, None, codes, option_map}
-use Rattle.std.specs.List.{join_by}
+use Rattle.std.specs.Prelude.{ℕ, List, Option, Some, None, codes}
 use Rattle.apiservice_rows.specs.Row.{Row}
-use Rattle.apiservice_table.specs.Table.{row_named}
+use Rattle.apiservice_table.specs.Services.{object_named, service_list_text}
 use Rattle.discovery_merge.specs.Documents.{group_list_text, group_text}
 use Rattle.local_replies.specs.Status.{json_reply, refusal}
 use Rattle.local_replies.specs.declared.local.Local.{Local}
@@ -25,30 +24,7 @@ unfoldable pub resource_list_text : List ℕ
 resource_list_text =
     codes "{\"kind\":\"APIResourceList\",\"apiVersion\":\"v1\",\"groupVersion\":\"apiregistration.k8s.io/v1\",\"resources\":[{\"name\":\"apiservices\",\"singularName\":\"apiservice\",\"namespaced\":false,\"kind\":\"APIService\",\"verbs\":[\"create\",\"delete\",\"get\",\"list\",\"update\"]}]}"
 
--- the objects of all rows, with commas between them
-abbrev pub objects : List Row → List ℕ
-objects rows = join_by (λ (row : Row). row.object) (codes ",") rows
-
--- the list of all objects
-unfoldable pub service_list_text : List Row → List ℕ
-service_list_text rows =
-    codes "{\"kind\":\"APIServiceList\",\"apiVersion\":\"apiregistration.k8s.io/v1\",\"metadata\":{},\"items\":["
-    ++ objects rows ++ codes "]}"
-
--- the object of the row of that name
-abbrev pub object_named : List ℕ → List Row → Option (List ℕ)
-object_named name rows = option_map (λ (row : Row). row.object) (row_named name rows)
-
--- the reply says something of the rows
-abbrev pub reads_rows : Local → Bool
-reads_rows Health = false
-reads_rows GroupList = true
-reads_rows (OneGroup name) = true
-reads_rows ResourceList = false
-reads_rows AllServices = true
-reads_rows (OneService name) = true
-reads_rows Unserved = false
-
+-- what a path is answered by the rows
 abbrev pub looked : Local → List Row → LocalReply
 looked Health rows = ok
 looked GroupList rows = json_reply 200 (group_list_text rows)

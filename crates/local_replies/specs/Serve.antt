@@ -2,7 +2,7 @@
 -- conventions": status codes).
 use Rattle.std.specs.Prelude.{◌≡◌, ℕ, List, Option, Some, None}
 use Rattle.apiservice_rows.specs.Row.{Row}
-use Rattle.apiservice_table.specs.Changes.{after, IsLater, Took}
+use Rattle.apiservice_table.specs.Changes.{after, changed, Took}
 use Rattle.apiservice_table.specs.Changes as table
 use Rattle.apiservice_table.specs.declared.change.Change.{Change}
 use Rattle.apiservice_table.specs.declared.change.Change.TheVariants.{Create, Replace, Delete}
@@ -27,6 +27,28 @@ refused Exists = refusal 409
 refused Missing = refusal 404
 refused Full = refusal 422
 refused NoMemory = refusal 500
+
+-- the reply to a change: it is made, unless a refusal is due
+abbrev pub change_reply : Change → Option ChangeFault → LocalReply
+change_reply change None = done change
+change_reply change (Some fault) = refused fault
+
+-- the rows after a change that is asked for, unless a refusal is due
+abbrev pub rows_with : List Row → Change → Option ChangeFault → List Row
+rows_with rows change None = changed rows change
+rows_with rows change (Some fault) = rows
+
+-- what an errand is answered by the rows as they stand
+abbrev pub local_reply : List Row → Local → LocalErrand → LocalReply
+local_reply rows local (Deny code) = refusal code
+local_reply rows local Look = looked local rows
+local_reply rows local (Write change) = change_reply change (table.refusal rows change)
+
+-- the rows after it
+abbrev pub rows_after : List Row → LocalErrand → List Row
+rows_after rows (Deny code) = rows
+rows_after rows Look = rows
+rows_after rows (Write change) = rows_with rows change (table.refusal rows change)
 
 -- what became of a change: the routes took it, or they refused it by the rows that were seen, and took none
 abbrev pub IsDecided : Change → List Row → List Change → List (ℕ × Change) → List Change → List (ℕ × Change)

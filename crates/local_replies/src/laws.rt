@@ -1,12 +1,18 @@
-ghost use Rattle.std.specs.Prelude.{◌≡◌, ◌+◌, ℕ, List, ◌∷◌, ◌++◌, [], false, length, All};
+ghost use Rattle.std.specs.Prelude.{◌≡◌, ◌+◌, ℕ, List, ◌∷◌, ◌++◌, [], false, length, All, Option};
+ghost use Rattle.apiservice_table.specs.Changes.{placed, rows_of, IsLater, Story};
 ghost use Rattle.apiservice_table.specs.declared.change.Change.{Change};
 ghost use Rattle.front_base.specs.declared.info.Info.{Info};
 ghost use Rattle.front_base.specs.declared.user.User.{User};
 ghost use Rattle.local_replies.specs.Errand.{is_master, local_errand};
 ghost use Rattle.local_replies.specs.Paths.{local_of};
+ghost use Rattle.local_replies.specs.Serve.{local_reply, rows_after, IsServed};
 ghost use Rattle.local_replies.specs.Status.{cause_of, refusal_text, told_codes};
+ghost use Rattle.local_replies.specs.declared.errand.LocalErrand.{LocalErrand};
 ghost use Rattle.local_replies.specs.declared.errand.LocalErrand.TheVariants as errand;
 ghost use Rattle.local_replies.specs.declared.local.Local.{Local};
+ghost use Rattle.local_replies.specs.declared.reply.LocalReply.{LocalReply};
+
+use apiservice_table::one_user_knows_the_rows;
 
 /// A slash at either end of a path makes no other local path of it.
 pub fn slashes_at_ends_do_not_count()
@@ -25,3 +31,14 @@ pub fn only_masters_write()
     ensures { (local : Local) (info : Info) (method body : List ℕ) (user : User) (change : Change)
         → is_master user ≡ false → local_errand local info method body user ≡ errand.Write change → ⊥ }
 {}
+
+/// What is served over a table that one user alone changes, as `TableRoutes`, is the reply by the rows as they stood, and
+/// they take the change that it tells.
+pub fn one_user_is_served()
+    ensures { (local : Local) (errand : LocalErrand) (old new : Story) (reply : LocalReply) (change : Option Change)
+        → IsLater old.seen new.seen → new.opening ≡ old.opening
+        → IsServed local errand old.opening old.seen (placed 0 old.seen) new.seen (placed 0 new.seen) reply change
+        → (reply ≡ local_reply (rows_of old) local errand) × (rows_of new ≡ rows_after (rows_of old) errand) }
+{
+    one_user_knows_the_rows();
+}

@@ -20,11 +20,13 @@ mod serve;
 mod status;
 
 pub use errand::{LocalErrand, local_errand};
-pub use laws::{lengths_of_refusals, only_masters_write, slashes_at_ends_do_not_count};
+pub use laws::{
+    lengths_of_refusals, one_user_is_served, only_masters_write, slashes_at_ends_do_not_count,
+};
 pub use local::Local;
 pub use paths::LocalPaths;
 pub use reply::{Content, LocalReply};
-pub use serve::serve_local;
+pub use serve::{serve_errand, serve_local};
 pub use status::{refusal, status_reply, success};
 
 #[cfg(test)]

@@ -59,6 +59,28 @@ fn write<R: Routes>(
     }
 }
 
+/// Serves what a request on a local path wants: the reply, and the change that was made, if one was. Where memory ran out,
+/// no change was made.
+pub fn serve_errand<R: Routes>(
+    alloc: Global,
+    local: &Local,
+    errand: LocalErrand,
+    routes: &mut R,
+) -> Result<(LocalReply, Option<Change>), NoMemory>
+    ensures served { IfOk result (λ served. spec.IsServed local.now errand
+        (R.opening routes.old) (R.seen routes.old) (R.own routes.old) (R.seen routes.new) (R.own routes.new)
+        served.0 served.1) }
+    ensures kept { OnErr result (R.own routes.new ≡ R.own routes.old) }
+    ensures later { IsLater (R.seen routes.old) (R.seen routes.new) }
+    ensures fixed { R.opening routes.new ≡ R.opening routes.old }
+{
+    match errand {
+        LocalErrand::Deny(code) => Ok((refusal(alloc, code)?, None)),
+        LocalErrand::Look => Ok((look(alloc, local, routes)?, None)),
+        LocalErrand::Write(change) => write(alloc, change, routes),
+    }
+}
+
 /// Serves a request on a local path, whose information is that of its method and target: the reply, and the change that
 /// was made, if one was. A HEAD request is given the reply that GET would get, since its Content-Length is needed; its
 /// body isn't to be sent. Where memory ran out, no change was made.
@@ -79,9 +101,6 @@ pub fn serve_local<R: Routes>(
     ensures later { IsLater (R.seen routes.old) (R.seen routes.new) }
     ensures fixed { R.opening routes.new ≡ R.opening routes.old }
 {
-    match local_errand(alloc, local, info, method, body, user)? {
-        LocalErrand::Deny(code) => Ok((refusal(alloc, code)?, None)),
-        LocalErrand::Look => Ok((look(alloc, local, routes)?, None)),
-        LocalErrand::Write(change) => write(alloc, change, routes),
-    }
+    let errand = local_errand(alloc, local, info, method, body, user)?;
+    serve_errand(alloc, local, errand, routes)
 }
