@@ -1,7 +1,7 @@
 -- What the router answers is what the table says.
 use Rattle.std.proofs.Common.{◌≡◌, ℕ, Bool, true, false, cond, ◌&&◌, eq-eqb, List, [], ◌∷◌, ◌++◌, Option, Some, None, codes, nat_eq, refl, ap, sym, subst, ◌∙◌, ⊎_elim}
 use Rattle.std.proofs.lemmas.Bool.{cond-true, cond-false, cases_Bool}
-use Rattle.std.specs.Prelude.{option_map, unwrap_or, bytes_eq, is_some}
+use Rattle.std.specs.Prelude.{option_map, unwrap_or, bytes_eq}
 use Rattle.matchit.specs.Rows.{RowsOf}
 use Rattle.matchit.specs.Router.{RouteOf, rename, map_key}
 use Rattle.matchit.specs.Seek as seek
@@ -340,7 +340,3 @@ is_local_router router e = record {
       ∙ ap (λ rs. seek.seek 0 rs text) e ∙ local_is text small)
       ∙ table_is text;
 }
-
-pub found_is_some : (text : List ℕ) (found : Option Kind) → is_some (found_at text found) ≡ is_some found
-found_is_some text None = refl
-found_is_some text (Some k) = refl

@@ -1,8 +1,9 @@
 // The local paths, found by a router.
-ghost use Rattle.std.specs.Prelude.{◌≡◌, IfOk, is_some};
+ghost use Rattle.std.specs.Prelude.{◌≡◌, IfOk, OnOk};
 ghost use Rattle.local_replies.specs.Kind.{found_at};
 ghost use Rattle.local_replies.specs.Paths.{first_of, local_of, table};
-ghost use Rattle.local_replies.specs.Router.{IsLocalRouter};
+ghost use Rattle.local_replies.specs.Router.{rows_with, IsFree, IsLocalRouter};
+ghost use Rattle.matchit.specs.Route.{parse_route};
 
 use crate::ends::trimmed;
 use crate::kind::Kind;
@@ -11,25 +12,47 @@ use front_base::NoMemory;
 use matchit::{InsertError, Router};
 use std::alloc::Global;
 
-fn router(alloc: Global) -> Result<Router<Kind>, InsertError>
+// Adds a route that conflicts with none.
+fn add(router: &mut Router<Kind>, route: &str, kind: Kind) -> Result<(), NoMemory>
+    requires { IsFree (parse_route route.now) router.old }
+    ensures { OnOk result (router.new ≡ rows_with (parse_route route.now) kind router.old) }
+{
+    match router.insert(route, kind) {
+        Ok(()) => Ok(()),
+        Err(InsertError::OutOfMemory) => Err(NoMemory),
+        Err(_) => unreachable!(),
+    }
+}
+
+fn router(alloc: Global) -> Result<Router<Kind>, NoMemory>
     ensures { IfOk result IsLocalRouter }
 {
     let mut router = Router::new(alloc);
-    router.insert("healthz", Kind::Health)?;
-    router.insert("livez", Kind::Health)?;
-    router.insert("readyz", Kind::Health)?;
-    router.insert("apis", Kind::GroupList)?;
-    router.insert("apis/{group}", Kind::OneGroup)?;
-    router.insert("apis/apiregistration.k8s.io/v1", Kind::ResourceList)?;
-    router.insert(
+    add(&mut router, "healthz", Kind::Health)?;
+    add(&mut router, "livez", Kind::Health)?;
+    add(&mut router, "readyz", Kind::Health)?;
+    add(&mut router, "apis", Kind::GroupList)?;
+    add(&mut router, "apis/{group}", Kind::OneGroup)?;
+    add(
+        &mut router,
+        "apis/apiregistration.k8s.io/v1",
+        Kind::ResourceList,
+    )?;
+    add(
+        &mut router,
         "apis/apiregistration.k8s.io/v1/apiservices",
         Kind::AllServices,
     )?;
-    router.insert(
+    add(
+        &mut router,
         "apis/apiregistration.k8s.io/v1/apiservices/{name}",
         Kind::OneService,
     )?;
-    router.insert("apis/apiregistration.k8s.io/v1/{*rest}", Kind::Unserved)?;
+    add(
+        &mut router,
+        "apis/apiregistration.k8s.io/v1/{*rest}",
+        Kind::Unserved,
+    )?;
     Ok(router)
 }
 
@@ -42,11 +65,8 @@ pub struct LocalPaths {
 
 impl LocalPaths {
     pub fn new(alloc: Global) -> Result<LocalPaths, NoMemory> {
-        match router(alloc) {
-            Ok(router) => Ok(LocalPaths { router }),
-            // No two of the routes conflict, so only memory can lack.
-            Err(_) => Err(NoMemory),
-        }
+        let router = router(alloc)?;
+        Ok(LocalPaths { router })
     }
 
     // The kind of a path without slashes at its ends.
@@ -57,14 +77,6 @@ impl LocalPaths {
             Ok(found) => Some(*found.value),
             Err(_) => None,
         }
-    }
-
-    /// Whether a decoded path is local. It takes no memory.
-    #[tactic(auto, using(crate::proofs::TableLemmas::found_is_some), unfolding(crate::specs::Paths::local_of))]
-    pub fn is_local(&self, path: &str) -> bool
-        ensures { result ≡ is_some (local_of path.now) }
-    {
-        self.kind_of(trimmed(path)).is_some()
     }
 
     /// The local path that a decoded path is, if it is one.

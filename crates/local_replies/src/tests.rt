@@ -79,7 +79,6 @@ fn paths_are_local_by_the_table(rt: HostRuntime) -> Result<(), Fail> {
     for row in PATHS.lines() {
         let (path, line) = row.split_once(' ').ok_or("two words")?;
         assert_eq!(rt; found(alloc, &paths, path)?.as_str(), line, "{row}");
-        assert_eq!(rt; paths.is_local(path), line != "none", "{row}");
     }
     Ok(())
 }
