@@ -20,15 +20,13 @@ unless_empty-push : (rows : List Row) (r : Row) → unless_empty (rows ++ r ∷ 
 unless_empty-push [] r = refl
 unless_empty-push (x ∷ rows) r = refl
 
-pub of_group_more : (name : List ℕ) (rows : List Row) (i : ℕ) (r : Row) → i < length rows → r ≡ get_or rows i r
-    → unless_empty (filter (is_of name) (take (i + 1) rows))
-    ≡ cond (is_of name r) (Some (unwrap_or (unless_empty (filter (is_of name) (take i rows))) [] ++ r ∷ []))
-    (unless_empty (filter (is_of name) (take i rows)))
-of_group_more name rows i r less is =
+one_row_more : (name : List ℕ) (rows : List Row) (r : Row) → unless_empty (filter (is_of name) (rows ++ r ∷ []))
+    ≡ cond (is_of name r) (Some (unwrap_or (unless_empty (filter (is_of name) rows)) [] ++ r ∷ []))
+    (unless_empty (filter (is_of name) rows))
+one_row_more name rows r =
     let p = is_of name in
-    let before = filter p (take i rows) in
-    ap (λ l. unless_empty (filter p l)) (take_more rows i r less ∙ ap (λ y. take i rows ++ y ∷ []) (sym is))
-    ∙ ap unless_empty (filter-append p (take i rows) (r ∷ []))
+    let before = filter p rows in
+    ap unless_empty (filter-append p rows (r ∷ []))
     ∙ elim (cases_Bool (p r)) [
       | inl own ↦
           ap (λ b. unless_empty (before ++ cond b (r ∷ []) [])) own ∙ unless_empty-push before r
@@ -46,7 +44,7 @@ pub once-nil : once [] ≡ []
 unfolding once
 once-nil = refl
 
-once-cons : (x : List ℕ) (xs : List (List ℕ)) → once (x ∷ xs) ≡ x ∷ filter (λ y. not (bytes_eq x y)) (once xs)
+pub once-cons : (x : List ℕ) (xs : List (List ℕ)) → once (x ∷ xs) ≡ x ∷ filter (λ y. not (bytes_eq x y)) (once xs)
 unfolding once
 once-cons x xs = refl
 
@@ -192,6 +190,19 @@ borrowed_at items i x less is =
     let within : i < length (map now items) = omega arith in
     let at : x.now ≡ get_or (map now items) i x.now = ap now is ∙ sym (get_or-map now items i x x.now less) in
     (within, at, take_more (map now items) i x.now within ∙ ap (λ r. take i (map now items) ++ r ∷ []) (sym at))
+
+-- the same of borrowed rows
+pub of_group_lent : (name : List ℕ) (rows : List (Bor Row)) (i : ℕ) (x : Bor Row) → i < length rows → x ≡ get_or rows i x
+    → unless_empty (filter (is_of name) (map (λ r. r.now) (take (i + 1) rows)))
+    ≡ cond (is_of name x.now)
+    (Some (unwrap_or (unless_empty (filter (is_of name) (map (λ r. r.now) (take i rows)))) [] ++ x.now ∷ []))
+    (unless_empty (filter (is_of name) (map (λ r. r.now) (take i rows))))
+of_group_lent name rows i x less is =
+    let now = λ (r : Bor Row). r.now in
+    let before = filter (is_of name) (map now (take i rows)) in
+    ap (λ l. unless_empty (filter (is_of name) (map now l))) (take_more rows i x less ∙ ap (λ y. take i rows ++ y ∷ []) (sym is))
+    ∙ ap (λ l. unless_empty (filter (is_of name) l)) (map-append now (take i rows) (x ∷ []))
+    ∙ one_row_more name (map now (take i rows)) x.now
 
 any_kept : (p : Row → Bool) (rows : List Row) → list_any (λ _. true) (filter p rows) ≡ list_any p rows
 any_kept p [] = refl

@@ -30,11 +30,15 @@ group_members g =
 unfoldable pub group_item : Group → List ℕ
 group_item g = codes "{" ++ (group_members g ++ codes "}")
 
+-- a list of groups
+unfoldable pub list_document : List Group → List ℕ
+list_document groups =
+    codes "{\"kind\":\"APIGroupList\",\"apiVersion\":\"v1\",\"groups\":["
+    ++ (join_with_byte 44 (map group_item groups) ++ codes "]}")
+
 -- all groups, in order
 unfoldable pub group_list_text : List Row → List ℕ
-group_list_text rows =
-    codes "{\"kind\":\"APIGroupList\",\"apiVersion\":\"v1\",\"groups\":["
-    ++ (join_with_byte 44 (map group_item (sorted_groups rows)) ++ codes "]}")
+group_list_text rows = list_document (sorted_groups rows)
 
 -- one group by itself
 unfoldable pub group_document : Group → List ℕ

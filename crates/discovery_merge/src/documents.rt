@@ -4,8 +4,7 @@ ghost use Rattle.discovery_merge.specs.Documents as spec;
 ghost use Rattle.discovery_merge.specs.Lent.{lent_versions, lent_view};
 ghost use Rattle.discovery_merge.specs.declared.documents.GroupFault.TheVariants as fault;
 
-use crate::lent::{LentGroup, lent_groups};
-use crate::order::rows_of;
+use crate::lent::{LentGroup, groups_in, rows_in};
 use apiservice_rows::Row;
 use front_base::{Bytes, NoMemory};
 use json_span::push_quoted;
@@ -128,19 +127,19 @@ fn push_items(alloc: Global, out: &mut Vec<u8>, groups: &[LentGroup]) -> Result<
     Ok(())
 }
 
-/// The `APIGroupList` of `/apis`: the groups of `sorted_groups`, each with the version to prefer.
-pub fn group_list(alloc: Global, rows: &[Row]) -> Result<Bytes, NoMemory>
-    ensures { IfOk result (λ text. text ≡ spec.group_list_text rows.now) }
+// The list of groups.
+pub fn list_document(alloc: Global, groups: &[LentGroup]) -> Result<Bytes, NoMemory>
+    ensures { IfOk result (λ text. text ≡ spec.list_document (map lent_view groups.now)) }
 {
-    let groups = lent_groups(alloc, rows)?;
     let mut out = Vec::new(alloc);
     out.extend_from_slice(b"{\"kind\":\"APIGroupList\",\"apiVersion\":\"v1\",\"groups\":[")?;
-    push_items(alloc, &mut out, groups.as_slice())?;
+    push_items(alloc, &mut out, groups)?;
     out.extend_from_slice(b"]}")?;
     Ok(Bytes::new(out))
 }
 
-fn document(alloc: Global, group: &LentGroup) -> Result<Bytes, NoMemory>
+// A group by itself.
+pub fn document(alloc: Global, group: &LentGroup) -> Result<Bytes, NoMemory>
     ensures { IfOk result (λ text. text ≡ spec.group_document (lent_view group.now)) }
 {
     let mut out = Vec::new(alloc);
@@ -150,13 +149,22 @@ fn document(alloc: Global, group: &LentGroup) -> Result<Bytes, NoMemory>
     Ok(Bytes::new(out))
 }
 
+/// The `APIGroupList` of `/apis`: the groups of `sorted_groups`, each with the version to prefer.
+pub fn group_list(alloc: Global, rows: &[Row]) -> Result<Bytes, NoMemory>
+    ensures { IfOk result (λ text. text ≡ spec.group_list_text rows.now) }
+{
+    let groups = groups_in(alloc, rows)?;
+    let text = list_document(alloc, groups.as_slice())?;
+    Ok(text)
+}
+
 /// The `APIGroup` of `/apis/{group}`. `NoGroup` is the answer where no row has the group, whatever its name: the core
 /// group has the empty one.
 pub fn group(alloc: Global, rows: &[Row], name: &str) -> Result<Bytes, GroupFault>
     ensures text { IfOk result (λ text. spec.group_text name.now rows.now ≡ Some text) }
     ensures refused { IfErr result (λ fault. spec.IsDue fault (spec.group_text name.now rows.now)) }
 {
-    let rows = rows_of(alloc, rows, name)?;
+    let rows = rows_in(alloc, rows, name)?;
     if rows.is_empty() {
         return Err(GroupFault::NoGroup);
     }

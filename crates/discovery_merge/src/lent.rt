@@ -2,14 +2,21 @@
 ghost use Rattle.std.specs.Prelude.{◌≡◌, ℕ, List, [], ◌∷◌, ◌++◌, map, filter, bytes_eq, if◌then◌else◌};
 ghost use Rattle.std.specs.Prelude.{Some, None, option_map, unwrap_or, IfOk, OnOk};
 ghost use Rattle.discovery_merge.specs.Groups as spec;
-ghost use Rattle.discovery_merge.specs.Lent.{lent_versions, lent_view, rows_for, told, unless_empty};
+ghost use Rattle.discovery_merge.specs.Lent.{lent_rows, lent_versions, lent_view, rows_for, told, unless_empty};
 
 use crate::groups::{Group, Groups};
-use crate::order::{in_group_order, sort_by_preference};
+use crate::order::{in_group_order, rows_of, sort_by_preference};
 use apiservice_rows::Row;
 use front_base::{NoMemory, Text, Texts};
-use std::alloc::Global;
+use std::alloc::{AllocError, Global};
 use std::collections::BTreeMap;
+
+// The rows, borrowed one by one.
+fn lent(alloc: Global, rows: &[Row]) -> Result<Vec<&Row>, AllocError>
+    ensures { IfOk result (λ lent. lent_rows lent.items ≡ rows.now) }
+{
+    rows.iter().collect(alloc)
+}
 
 // A group by its rows, of which there is one at least. The one to prefer comes first.
 #[derive(Drop)]
@@ -38,9 +45,12 @@ fn add_row<'a>(
 }
 
 // The rows of each group, in the order in which they come.
-fn rows_by_group(alloc: Global, rows: &[Row]) -> Result<BTreeMap<&str, Vec<&Row>>, NoMemory>
+fn rows_by_group<'a>(
+    alloc: Global,
+    rows: &[&'a Row],
+) -> Result<BTreeMap<&'a str, Vec<&'a Row>>, NoMemory>
     ensures { IfOk result (λ by_group. (name : List ℕ)
-        → rows_for name by_group ≡ unless_empty (filter (spec.is_of name) rows.now)) }
+        → rows_for name by_group ≡ unless_empty (filter (spec.is_of name) (lent_rows rows.now))) }
 {
     let mut by_group: BTreeMap<&str, Vec<&Row>> = BTreeMap::new(alloc);
     for row in rows {
@@ -69,8 +79,8 @@ fn take_group<'a>(
 }
 
 // The groups in order.
-pub fn lent_groups(alloc: Global, rows: &[Row]) -> Result<Vec<LentGroup<'_>>, NoMemory>
-    ensures { IfOk result (λ groups. map lent_view groups.items ≡ spec.sorted_groups rows.now) }
+pub fn lent_groups<'a>(alloc: Global, rows: &[&'a Row]) -> Result<Vec<LentGroup<'a>>, NoMemory>
+    ensures { IfOk result (λ groups. map lent_view groups.items ≡ spec.sorted_groups (lent_rows rows.now)) }
 {
     let mut by_group = rows_by_group(alloc, rows)?;
     let ordered = in_group_order(alloc, rows)?;
@@ -82,6 +92,22 @@ pub fn lent_groups(alloc: Global, rows: &[Row]) -> Result<Vec<LentGroup<'_>>, No
         }
     }
     Ok(groups)
+}
+
+// The groups of rows that aren't borrowed yet.
+pub fn groups_in(alloc: Global, rows: &[Row]) -> Result<Vec<LentGroup<'_>>, NoMemory>
+    ensures { IfOk result (λ groups. map lent_view groups.items ≡ spec.sorted_groups rows.now) }
+{
+    let lent = lent(alloc, rows)?;
+    lent_groups(alloc, lent.as_slice())
+}
+
+// The rows of a group among rows that aren't borrowed yet.
+pub fn rows_in<'a>(alloc: Global, rows: &'a [Row], name: &str) -> Result<Vec<&'a Row>, NoMemory>
+    ensures { IfOk result (λ found. lent_rows found.items ≡ spec.rows_of name.now rows.now) }
+{
+    let lent = lent(alloc, rows)?;
+    rows_of(alloc, lent.as_slice(), name)
 }
 
 fn copy_versions(alloc: Global, rows: &[&Row]) -> Result<Texts, NoMemory>
@@ -110,7 +136,7 @@ pub fn sorted_groups(alloc: Global, rows: &[Row]) -> Result<Groups, NoMemory>
     ensures { IfOk result (λ groups. groups ≡ spec.sorted_groups rows.now) }
 {
     let mut groups = Vec::new(alloc);
-    for group in lent_groups(alloc, rows)?.as_slice() {
+    for group in groups_in(alloc, rows)?.as_slice() {
         groups.push(copy_group(alloc, group)?)?;
     }
     Ok(Groups::new(groups))

@@ -9,12 +9,14 @@
 
 mod documents;
 mod groups;
+mod kept;
 mod laws;
 mod lent;
 mod order;
 
 pub use documents::{GroupFault, group, group_list};
 pub use groups::{Group, Groups};
+pub use kept::Documents;
 pub use laws::{one_stable_sort, orders_are_total};
 pub use lent::sorted_groups;
 

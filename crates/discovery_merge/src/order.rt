@@ -44,26 +44,28 @@ pub fn sort_by_preference(rows: &mut Vec<&Row>) -> Result<(), NoMemory>
 }
 
 // The rows but those of the core group.
-fn named(alloc: Global, rows: &[Row]) -> Result<Vec<&Row>, AllocError>
-    ensures { IfOk result (λ named. lent_rows named.items ≡ filter spec.is_named rows.now) }
+fn named<'a>(alloc: Global, rows: &[&'a Row]) -> Result<Vec<&'a Row>, AllocError>
+    ensures { IfOk result (λ named. named.items ≡ filter (λ r. spec.is_named r.now) rows.now) }
 {
     rows.iter()
+        .copied()
         .filter(|row| !row.group.as_str().is_empty())
         .collect(alloc)
 }
 
-fn of_group<'a>(alloc: Global, rows: &'a [Row], name: &str) -> Result<Vec<&'a Row>, AllocError>
-    ensures { IfOk result (λ found. lent_rows found.items ≡ filter (spec.is_of name.now) rows.now) }
+fn of_group<'a>(alloc: Global, rows: &[&'a Row], name: &str) -> Result<Vec<&'a Row>, AllocError>
+    ensures { IfOk result (λ found. found.items ≡ filter (λ r. spec.is_of name.now r.now) rows.now) }
 {
     rows.iter()
+        .copied()
         .filter(|row| row.group.as_str() == name)
         .collect(alloc)
 }
 
 // The rows but those of the core group, in the order of groups.
-pub fn in_group_order(alloc: Global, rows: &[Row]) -> Result<Vec<&Row>, NoMemory>
+pub fn in_group_order<'a>(alloc: Global, rows: &[&'a Row]) -> Result<Vec<&'a Row>, NoMemory>
     ensures { IfOk result (λ ordered. lent_rows ordered.items
-        ≡ sorted group_order (filter spec.is_named rows.now)) }
+        ≡ sorted group_order (filter spec.is_named (lent_rows rows.now))) }
 {
     let mut ordered = named(alloc, rows)?;
     sort_by_group(&mut ordered)?;
@@ -71,8 +73,8 @@ pub fn in_group_order(alloc: Global, rows: &[Row]) -> Result<Vec<&Row>, NoMemory
 }
 
 // The rows of a group, the one to prefer first.
-pub fn rows_of<'a>(alloc: Global, rows: &'a [Row], name: &str) -> Result<Vec<&'a Row>, NoMemory>
-    ensures { IfOk result (λ found. lent_rows found.items ≡ spec.rows_of name.now rows.now) }
+pub fn rows_of<'a>(alloc: Global, rows: &[&'a Row], name: &str) -> Result<Vec<&'a Row>, NoMemory>
+    ensures { IfOk result (λ found. lent_rows found.items ≡ spec.rows_of name.now (lent_rows rows.now)) }
 {
     let mut found = of_group(alloc, rows, name)?;
     sort_by_preference(&mut found)?;

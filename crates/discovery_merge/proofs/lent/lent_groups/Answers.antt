@@ -3,7 +3,7 @@ use Rattle.std.proofs.lemmas.List.{take_all, map-append, length-map}
 use Rattle.apiservice_rows.specs.Row.{Row}
 use Rattle.discovery_merge.specs.Groups.{group_of, is_named, is_of, once}
 use Rattle.discovery_merge.specs.Order.{group_order, sorted}
-use Rattle.discovery_merge.specs.Lent.{lent_view, rows_for, told, unless_empty}
+use Rattle.discovery_merge.specs.Lent.{lent_rows, lent_view, rows_for, told, unless_empty}
 use Rattle.discovery_merge.specs.declared.groups.Group.{Group}
 use Rattle.discovery_merge.proofs.GroupLemmas.{among, borrowed_at, has_rows, left_more, once-nil, told_none, told_some}
 use Rattle.discovery_merge.proofs.lent.lent_groups.Goals as goal
@@ -14,7 +14,7 @@ all_told rows before = map (group_of rows) (once (map (λ (r : Row). r.group) be
 
 pub loop-row-preserved : goal.loop-row-preserved
 loop-row-preserved c =
-    let rows = c.args.rows.now in
+    let rows : List Row = map (λ (r : Bor Row). r.now) c.args.rows.now in
     let items = c.as_slice-row-items.result.now in
     let all : List Row = map (λ (r : Bor Row). r.now) items in
     let i = c.loop-row.row-index in
@@ -55,7 +55,7 @@ loop-row-preserved c =
 
 pub loop-row-init : goal.loop-row-init
 loop-row-init c = record {
-  done = ap (map lent_view) c.new-groups.ensures.items ∙ ap (map (group_of c.args.rows.now)) (sym once-nil);
+  done = ap (map lent_view) c.new-groups.ensures.items ∙ ap (map (group_of (lent_rows c.args.rows.now))) (sym once-nil);
   left = c.in_ok-by_group.ensures;
 }
 
@@ -64,7 +64,7 @@ returns c =
     let items = c.as_slice-row-items.result.now in
     let all : List Row = map (λ (r : Bor Row). r.now) items in
     let long = length-map items (λ (r : Bor Row). r.now) in
-    let ordered : all ≡ sorted group_order (filter is_named c.args.rows.now) =
+    let ordered : all ≡ sorted group_order (filter is_named (lent_rows c.args.rows.now)) =
     ap (map (λ (r : Bor Row). r.now)) c.as_slice-row-items.ensures.value ∙ c.in_ok-ordered.ensures in
     c.loop-row.invariant.done
-    ∙ ap (all_told c.args.rows.now) (take_all c.loop-row.row-index all (omega arith) ∙ ordered)
+    ∙ ap (all_told (lent_rows c.args.rows.now)) (take_all c.loop-row.row-index all (omega arith) ∙ ordered)

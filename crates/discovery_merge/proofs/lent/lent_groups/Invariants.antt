@@ -8,8 +8,8 @@ use Rattle.discovery_merge.proofs.lent.lent_groups.Given as goal
 abbrev pub invariant-loop-row : goal.invariant-loop-row
 invariant-loop-row l = record {
   done : map lent_view l.groups.items
-      ≡ map (group_of l.fn.rows) (once (map (λ (r : Row). r.group) (take l.row-index (lent_rows l.row-items))));
+      ≡ map (group_of (lent_rows l.fn.rows)) (once (map (λ (r : Row). r.group) (take l.row-index (lent_rows l.row-items))));
   left : (name : List ℕ) → rows_for name l.by_group
       ≡ cond (among name (map (λ (r : Row). r.group) (take l.row-index (lent_rows l.row-items)))) None
-      (unless_empty (filter (is_of name) l.fn.rows));
+      (unless_empty (filter (is_of name) (lent_rows l.fn.rows)));
 }
