@@ -2,7 +2,9 @@ pub mod ChangeLemmas
 pub mod FindLemmas
 pub mod IndexLemmas
 pub mod LawLemmas
+pub mod LentLemmas
 pub mod ManyLemmas
 pub mod OrderLemmas
 pub mod PlaceLemmas
+pub mod RenewLemmas
 pub mod StoryLemmas

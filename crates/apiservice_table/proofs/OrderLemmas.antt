@@ -126,6 +126,29 @@ row_named-err name (r ∷ rows) i h e = by_cases (λ j e. row_named-err name row
         let differs : bytes_eq r.name name ≡ false = tells r.name name Greater k in
         rw differs (before_all name rows (after_less name r.name rows (flipped r.name name k) h.0))
 
+without_all : (name : List ℕ) (rows : List Row) → AllAfter name rows → without_row name rows ≡ rows
+without_all name [] h = refl
+without_all name (r ∷ rows) h =
+    let greater : slice_cmp nat_cmp r.name name ≡ Greater = nat_list_cmp_total.antisymm r.name name ∙ rw h.0 refl in
+    let differs : bytes_eq r.name name ≡ false = tells r.name name Greater greater in
+    rw differs (ap (λ y. r ∷ y) (without_all name rows h.1))
+
+-- a name that isn't there is taken out of none
+pub without_row-err : (name : List ℕ) (rows : List Row) (i : ℕ) → IsInOrder rows → place_of name rows ≡ Err i
+    → without_row name rows ≡ rows
+without_row-err name [] i h e = refl
+without_row-err name (r ∷ rows) i h e = by_cases (λ j e. without_row-err name rows j h.1 e) (slice_cmp nat_cmp r.name name) refl
+  where
+    by_cases : ((j : ℕ) → place_of name rows ≡ Err j → without_row name rows ≡ rows) → (o : Ordering) → slice_cmp nat_cmp r.name name ≡ o → without_row name (r ∷ rows) ≡ r ∷ rows
+    by_cases ih Less k =
+        let x = further_err (place_of name rows) i (rw k at e) in
+        let differs : bytes_eq r.name name ≡ false = tells r.name name Less k in
+        rw differs (ap (λ y. r ∷ y) (ih x.0 x.1))
+    by_cases ih Equal k = absurd (cc (rw k at e))
+    by_cases ih Greater k =
+        let differs : bytes_eq r.name name ≡ false = tells r.name name Greater k in
+        rw differs (ap (λ y. r ∷ y) (without_all name rows (after_less name r.name rows (flipped r.name name k) h.0)))
+
 -- ---- what changes keep
 
 after_with : (name : List ℕ) (new : Row) (rows : List Row) → slice_cmp nat_cmp name new.name ≡ Less → AllAfter name rows

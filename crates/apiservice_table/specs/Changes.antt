@@ -1,5 +1,5 @@
 -- Changes of a table.
-use Rattle.std.specs.Prelude.{◌≡◌, ℕ, ◌+◌, nat_lt, is_some, if◌then◌else◌, List, [], ◌∷◌, ◌++◌, length, Option, Some, None}
+use Rattle.std.specs.Prelude.{◌≡◌, ℕ, ◌+◌, nat_lt, Bool, true, false, is_some, if◌then◌else◌, List, [], ◌∷◌, ◌++◌, length, Option, Some, None}
 use Rattle.apiservice_rows.specs.Row.{Row, IsRowName}
 use Rattle.apiservice_rows.specs.declared.row_list.TheConstants.{MOST_ROWS}
 use Rattle.apiservice_table.specs.Table.{Table, row_named, with_row, without_row, next}
@@ -22,6 +22,12 @@ abbrev pub changed : List Row → Change → List Row
 changed rows (Create r) = with_row r rows
 changed rows (Replace r) = with_row r rows
 changed rows (Delete name) = without_row name rows
+
+-- rows stand at other places after a change
+abbrev pub moves_rows : Change → Bool
+moves_rows (Create r) = true
+moves_rows (Replace r) = false
+moves_rows (Delete name) = true
 
 -- the rows after changes, one after another
 abbrev pub after : List Row → List Change → List Row

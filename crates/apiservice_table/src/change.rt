@@ -1,4 +1,5 @@
 ghost use Rattle.std.specs.Prelude.{◌≡◌, IfOk};
+ghost use Rattle.apiservice_table.specs.Changes.{moves_rows};
 ghost use Rattle.apiservice_table.specs.declared.change.ChangeFault.TheVariants as fault;
 
 use apiservice_rows::Row;
@@ -17,6 +18,16 @@ pub enum Change {
 }
 
 impl Change {
+    // Whether rows stand at other places after it: a replaced row keeps its place.
+    pub fn moves_rows(&self) -> bool
+        ensures { result ≡ moves_rows self.now }
+    {
+        match self {
+            Change::Create(_) | Change::Delete(_) => true,
+            Change::Replace(_) => false,
+        }
+    }
+
     /// An equal change.
     pub fn copy(&self, alloc: Global) -> Result<Change, NoMemory>
         ensures { IfOk result (λ copy. copy ≡ self.now) }

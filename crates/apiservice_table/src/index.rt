@@ -1,5 +1,5 @@
 // Where the row of a group and a version is, by a hash of the two.
-ghost use Rattle.std.specs.Prelude.{◌≡◌, ◌+◌, ◌<◌, ◌≤◌, ◌&&◌, IfOk, IfSome, length, option_map};
+ghost use Rattle.std.specs.Prelude.{◌≡◌, ◌+◌, ◌<◌, ◌≤◌, ◌&&◌, false, IfOk, IfSome, length, option_map};
 ghost use Rattle.std.specs.Str.{bytes_eq};
 ghost use Rattle.apiservice_table.specs.Index as spec;
 ghost use Rattle.apiservice_table.specs.Table as table;
@@ -101,6 +101,17 @@ impl Index {
         while at > 0 {
             at -= 1;
             self.link(rows, at);
+        }
+    }
+
+    // Links the rows after a change. Where it moved none, each still has its group and its version, and its links.
+    pub fn renew(&mut self, rows: &[Row], moved: bool)
+        requires few { length rows.now ≤ MOST_ROWS }
+        requires linked { moved ≡ false → spec.LinksAll rows.now self.old }
+        ensures { spec.LinksAll rows.now self.new }
+    {
+        if moved {
+            self.relink(rows);
         }
     }
 

@@ -11,6 +11,7 @@ mod index;
 mod laws;
 mod place;
 mod routes;
+mod rows;
 mod services;
 mod table;
 mod table_routes;

@@ -1,13 +1,18 @@
-ghost use Rattle.std.specs.Prelude.{◌≡◌, ◌≤◌, ℕ, List, [], length, None, IfOk, IfErr, OnOk, OnErr, is_some, option_map};
+ghost use Rattle.std.specs.Prelude.{◌≡◌, ◌≤◌, ℕ, List, [], length, None, IfOk, IfErr, OnOk, OnErr, option_map};
 ghost use Rattle.apiservice_rows.specs.declared.row_list.TheConstants.{MOST_ROWS};
-ghost use Rattle.apiservice_table.specs.Changes.{changed, changed_table, refusal, IsDue, IsNamed};
-ghost use Rattle.apiservice_table.specs.Order.{AllNamed, IsInOrder};
+ghost use Rattle.apiservice_table.specs.Changes.{changed, changed_table, refusal, IsDue};
+ghost use Rattle.apiservice_table.specs.Order.{IsInOrder};
 ghost use Rattle.apiservice_table.specs.Table as spec;
+ghost use Rattle.discovery_merge.specs.Documents.{group_list_text, group_text};
+ghost use Rattle.discovery_merge.specs.Kept.{AreOf};
 
 use crate::change::{Change, ChangeFault};
-use crate::index::{Index, is_of};
-use crate::place::{own_place_of, place_of};
-use apiservice_rows::{MOST_ROWS, Row, Rows};
+use crate::index::Index;
+use crate::rows::{
+    change_rows, find_by_name, lent, lent_after, put, refusal_of, row_named, tells_names,
+};
+use apiservice_rows::{Row, Rows};
+use discovery_merge::Documents;
 use front_base::NoMemory;
 use std::alloc::Global;
 use std::marker::Model;
@@ -20,6 +25,8 @@ pub struct RouteTable {
     rows: Vec<Row>,
     // Of these rows, by group and version.
     index: Index,
+    // Of these rows.
+    documents: Documents,
     count: u64,
 }
 
@@ -29,6 +36,7 @@ impl Model for RouteTable {
     ghost use Rattle.apiservice_table.specs.Index.{LinksAll};
     ghost use Rattle.apiservice_table.specs.Order.{IsInOrder, AllNamed};
     ghost use Rattle.apiservice_table.specs.Table as seen;
+    ghost use Rattle.discovery_merge.specs.Kept.{AreOf};
 
     ghost Value = { seen.Table };
 
@@ -36,136 +44,26 @@ impl Model for RouteTable {
 
     ghost invariant = { λ t.
         IsInOrder t.rows.items × AllNamed t.rows.items × (length t.rows.items ≤ MOST_ROWS)
-        × LinksAll t.rows.items t.index };
+        × LinksAll t.rows.items t.index × AreOf t.rows.items t.documents };
 }
 
-// Puts a row into its place by its name, over a row of that name.
-fn put(rows: &mut Vec<Row>, row: Row) -> Result<(), NoMemory>
-    requires { IsInOrder rows.old.items }
-    ensures done { OnOk result (rows.new.items ≡ spec.with_row row rows.old.items) }
-    ensures refused { OnErr result (rows.new.items ≡ rows.old.items) }
+// The documents of rows.
+fn documents_of(alloc: Global, rows: &[Row]) -> Result<Documents, NoMemory>
+    ensures { IfOk result (λ documents. AreOf rows.now documents) }
 {
-    match place_of(rows.as_slice(), row.name.as_str()) {
-        Ok(at) => {
-            rows[at] = row;
-            Ok(())
-        }
-        Err(at) => {
-            rows.insert(at, row)?;
-            Ok(())
-        }
-    }
+    let lent = lent(alloc, rows)?;
+    let documents = Documents::new(alloc, lent.as_slice())?;
+    Ok(documents)
 }
 
-// Whether a row of that name is there.
-fn holds(rows: &[Row], name: &str) -> bool
+// The documents of the rows as a change would make them.
+fn documents_after(alloc: Global, rows: &[Row], change: &Change) -> Result<Documents, NoMemory>
     requires { IsInOrder rows.now }
-    ensures { result ≡ is_some (spec.row_named name.now rows.now) }
+    ensures { IfOk result (λ documents. AreOf (changed rows.now change.now) documents) }
 {
-    place_of(rows, name).is_ok()
-}
-
-fn create(rows: &mut Vec<Row>, row: Row) -> Result<(), ChangeFault>
-    requires { IsInOrder rows.old.items }
-    ensures done { OnOk result (rows.new.items ≡ spec.with_row row rows.old.items) }
-    ensures due { OnOk result (refusal rows.old.items (Change.Create row) ≡ None) }
-    ensures refused { IfErr result (λ e. IsDue e (refusal rows.old.items (Change.Create row))) }
-    ensures kept { OnErr result (rows.new.items ≡ rows.old.items) }
-{
-    if holds(rows.as_slice(), row.name.as_str()) {
-        return Err(ChangeFault::Exists);
-    }
-    if rows.len() >= MOST_ROWS {
-        return Err(ChangeFault::Full);
-    }
-    put(rows, row)?;
-    Ok(())
-}
-
-fn replace(rows: &mut Vec<Row>, row: Row) -> Result<(), ChangeFault>
-    requires { IsInOrder rows.old.items }
-    ensures done { OnOk result (rows.new.items ≡ spec.with_row row rows.old.items) }
-    ensures due { OnOk result (refusal rows.old.items (Change.Replace row) ≡ None) }
-    ensures refused { IfErr result (λ e. IsDue e (refusal rows.old.items (Change.Replace row))) }
-    ensures kept { OnErr result (rows.new.items ≡ rows.old.items) }
-{
-    if !holds(rows.as_slice(), row.name.as_str()) {
-        return Err(ChangeFault::Missing);
-    }
-    put(rows, row)?;
-    Ok(())
-}
-
-fn delete(rows: &mut Vec<Row>, name: &str) -> Result<(), ChangeFault>
-    requires { IsInOrder rows.old.items }
-    ensures done { OnOk result (rows.new.items ≡ spec.without_row name.now rows.old.items) }
-    ensures due { OnOk result (refusal rows.old.items (Change.Delete name.now) ≡ None) }
-    ensures refused { IfErr result (λ e. IsDue e (refusal rows.old.items (Change.Delete name.now))) }
-    ensures kept { OnErr result (rows.new.items ≡ rows.old.items) }
-{
-    match place_of(rows.as_slice(), name) {
-        Ok(at) => {
-            rows.remove(at);
-            Ok(())
-        }
-        Err(_) => Err(ChangeFault::Missing),
-    }
-}
-
-// The row of a change that puts one in tells its name.
-fn tells_names(change: &Change)
-    ensures { IsNamed change.now }
-{
-    match change {
-        Change::Create(row) => row.tells_its_name(),
-        Change::Replace(row) => row.tells_its_name(),
-        Change::Delete(_) => (),
-    }
-}
-
-// Makes a change that rows take.
-fn change_rows(rows: &mut Vec<Row>, change: Change) -> Result<(), ChangeFault>
-    requires { IsInOrder rows.old.items }
-    ensures done { OnOk result (rows.new.items ≡ changed rows.old.items change) }
-    ensures due { OnOk result (refusal rows.old.items change ≡ None) }
-    ensures refused { IfErr result (λ e. IsDue e (refusal rows.old.items change)) }
-    ensures kept { OnErr result (rows.new.items ≡ rows.old.items) }
-{
-    match change {
-        Change::Create(row) => create(rows, row),
-        Change::Replace(row) => replace(rows, row),
-        Change::Delete(name) => delete(rows, name.as_str()),
-    }
-}
-
-// The row of that name, by binary search.
-fn row_named<'a>(rows: &'a [Row], name: &str) -> Option<&'a Row>
-    requires { IsInOrder rows.now }
-    ensures { option_map (λ row. row.now) result ≡ spec.row_named name.now rows.now }
-{
-    match place_of(rows, name) {
-        Ok(at) => Some(&rows[at]),
-        Err(_) => None,
-    }
-}
-
-// The row of that group and version, by binary search among names.
-fn find_by_name<'a>(rows: &'a [Row], group: &str, version: &str) -> Option<&'a Row>
-    requires order { IsInOrder rows.now }
-    requires named { AllNamed rows.now }
-    ensures { option_map (λ row. row.now) result ≡ spec.row group.now version.now rows.now }
-{
-    match own_place_of(rows, group, version) {
-        Ok(at) => {
-            let row = &rows[at];
-            if is_of(row, group, version) {
-                Some(row)
-            } else {
-                None
-            }
-        }
-        Err(_) => None,
-    }
+    let lent = lent_after(alloc, rows, change)?;
+    let documents = Documents::new(alloc, lent.as_slice())?;
+    Ok(documents)
 }
 
 impl RouteTable {
@@ -184,9 +82,11 @@ impl RouteTable {
             put(&mut ordered, row)?;
         }
         let index = Index::new(alloc, ordered.as_slice())?;
+        let documents = documents_of(alloc, ordered.as_slice())?;
         Ok(RouteTable {
             rows: ordered,
             index,
+            documents,
             count: 0,
         })
     }
@@ -219,6 +119,20 @@ impl RouteTable {
         self.rows.as_slice()
     }
 
+    /// The `APIGroupList` of `/apis`, as it was made when the last change was.
+    pub fn group_list(&self) -> &[u8]
+        ensures { result.now ≡ group_list_text self.now.rows }
+    {
+        self.documents.list()
+    }
+
+    /// The `APIGroup` of `/apis/{group}`, where a row has the group. It takes no memory.
+    pub fn group(&self, name: &str) -> Option<&[u8]>
+        ensures { option_map (λ text. text.now) result ≡ group_text name.now self.now.rows }
+    {
+        self.documents.group(name)
+    }
+
     /// How many changes were taken since the table was made. The count stands at its type's end.
     pub fn count(&self) -> u64
         ensures { result ≡ self.now.changes }
@@ -227,16 +141,23 @@ impl RouteTable {
     }
 
     /// Makes a change, or refuses it and stays as it was. `Exists` is the answer to a row whose name is there already, and
-    /// comes before `Full`; `Missing` is the answer to a name that isn't there.
-    pub fn apply(&mut self, _alloc: Global, change: Change) -> Result<(), ChangeFault>
+    /// comes before `Full`; `Missing` is the answer to a name that isn't there. A change makes all documents anew.
+    pub fn apply(&mut self, alloc: Global, change: Change) -> Result<(), ChangeFault>
         ensures done { OnOk result (self.new ≡ changed_table self.old change) }
         ensures due { OnOk result (refusal self.old.rows change ≡ None) }
         ensures refused { IfErr result (λ e. IsDue e (refusal self.old.rows change)) }
         ensures kept { OnErr result (self.new ≡ self.old) }
     {
         tells_names(&change);
+        if let Some(fault) = refusal_of(self.rows.as_slice(), &change) {
+            return Err(fault);
+        }
+        // The documents come first, so that nothing has changed where memory lacks for them.
+        let documents = documents_after(alloc, self.rows.as_slice(), &change)?;
+        let moved = change.moves_rows();
         change_rows(&mut self.rows, change)?;
-        self.index.relink(self.rows.as_slice());
+        self.index.renew(self.rows.as_slice(), moved);
+        self.documents = documents;
         self.count = self.count.saturating_add(1);
         Ok(())
     }

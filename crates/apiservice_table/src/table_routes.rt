@@ -7,7 +7,6 @@ use crate::routes::Routes;
 use crate::services::service_list;
 use crate::table::RouteTable;
 use apiservice_rows::{Row, Rows};
-use discovery_merge::{GroupFault, group, group_list};
 use front_base::{Bytes, NoMemory};
 use std::alloc::Global;
 use std::marker::Model;
@@ -118,14 +117,13 @@ impl Routes for TableRoutes {
     }
 
     fn group_list(&mut self, alloc: Global) -> Result<Bytes, NoMemory> {
-        group_list(alloc, self.table.rows())
+        Ok(Bytes::new(self.table.group_list().to_vec(alloc)?))
     }
 
     fn group(&mut self, alloc: Global, name: &str) -> Result<Option<Bytes>, NoMemory> {
-        match group(alloc, self.table.rows(), name) {
-            Ok(text) => Ok(Some(text)),
-            Err(GroupFault::NoGroup) => Ok(None),
-            Err(GroupFault::NoMemory) => Err(NoMemory),
+        match self.table.group(name) {
+            Some(text) => Ok(Some(Bytes::new(text.to_vec(alloc)?))),
+            None => Ok(None),
         }
     }
 

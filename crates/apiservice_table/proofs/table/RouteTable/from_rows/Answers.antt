@@ -70,6 +70,7 @@ invariant_of-result c =
       c.loop-row.invariant.named,
       at_most c.args.rows c.loop-row.ordered.items all c.requires.few,
       rw c.as_slice.ensures.value at c.in_ok-index.ensures,
+      rw c.as_slice-2.ensures.value at c.in_ok-documents.ensures,
     )
 
 pub returns-clause-rows : goal.returns-clause-rows

@@ -1,6 +1,6 @@
 use Rattle.std.proofs.Common.{true, false, sym, ◌∙◌}
 use Rattle.apiservice_table.proofs.FindLemmas.{row_at, row_none}
-use Rattle.apiservice_table.proofs.table.find_by_name.Goals as goal
+use Rattle.apiservice_table.proofs.rows.find_by_name.Goals as goal
 
 pub returns-then-is_of : goal.returns-then-is_of
 returns-then-is_of c =

@@ -1,6 +1,6 @@
 use Rattle.std.proofs.Common.{sym, ◌∙◌}
 use Rattle.apiservice_table.proofs.OrderLemmas.{get_some, row_named-ok, row_named-err}
-use Rattle.apiservice_table.proofs.table.row_named.Goals as goal
+use Rattle.apiservice_table.proofs.rows.row_named.Goals as goal
 
 pub returns-in-Ok : goal.returns-in-Ok
 returns-in-Ok c =

@@ -1,7 +1,7 @@
 use Rattle.std.proofs.Common.{◌≡◌, sym, ap, ◌∙◌}
 use Rattle.apiservice_rows.specs.Row.{Row}
 use Rattle.apiservice_table.proofs.OrderLemmas.{with_row-ok, with_row-err}
-use Rattle.apiservice_table.proofs.table.put.Goals as goal
+use Rattle.apiservice_table.proofs.rows.put.Goals as goal
 
 pub returns-in-Ok-clause-done : goal.returns-in-Ok-clause-done
 returns-in-Ok-clause-done c =
