@@ -1,5 +1,5 @@
 -- Documents that are kept under the names of their groups.
-use Rattle.std.proofs.Common.{arith, Bor, ◌≡◌, ℕ, ◌+◌, ◌<◌, Bool, true, false, cond, not, ◌||◌, ◌==◌, List, [], ◌∷◌, ◌++◌, map, filter, length, take, get_or, Option, Some, None, refl, sym, ap, ◌∙◌, inl, inr}
+use Rattle.std.proofs.Common.{arith, ◌≡◌, ℕ, ◌+◌, ◌<◌, Bool, true, false, cond, not, ◌||◌, ◌==◌, List, [], ◌∷◌, ◌++◌, map, filter, length, take, get_or, Option, Some, None, refl, sym, ap, ◌∙◌, inl, inr}
 use Rattle.std.proofs.lemmas.Bool.{false≢true, cond-true, cond-false, cases_Bool}
 use Rattle.std.proofs.lemmas.Bool.Decides.{nat_tests}
 use Rattle.std.proofs.lemmas.List.{take_more, map-append}
@@ -14,9 +14,9 @@ use Rattle.std.specs.Prelude.{String}
 use Rattle.std.specs.String.{string_bytes}
 use Rattle.apiservice_rows.specs.Row.{Row}
 use Rattle.discovery_merge.specs.Documents.{group_document, group_text}
-use Rattle.discovery_merge.specs.Groups.{group_of, is_named, is_of, names_in_order, once, rows_of, sorted_groups}
+use Rattle.discovery_merge.specs.Groups.{group_of, is_named, is_of, names_in_order, once, sorted_groups}
 use Rattle.discovery_merge.specs.Kept.{core_groups, last_document, text_of}
-use Rattle.discovery_merge.specs.Lent.{lent_rows, lent_view}
+use Rattle.discovery_merge.specs.Lent.{lent_view}
 use Rattle.discovery_merge.specs.Order.{group_order, sorted}
 use Rattle.discovery_merge.specs.declared.groups.Group.{Group}
 use Rattle.discovery_merge.specs.declared.lent.LentGroup.{LentGroup}

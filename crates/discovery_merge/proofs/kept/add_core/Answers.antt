@@ -4,8 +4,6 @@ use Rattle.std.proofs.lemmas.List.{append-nil, map-append}
 use Rattle.apiservice_rows.specs.Row.{Row}
 use Rattle.discovery_merge.specs.Groups.{group_of}
 use Rattle.discovery_merge.specs.Lent.{lent_rows, lent_view}
-use Rattle.discovery_merge.specs.declared.groups.Group.{Group}
-use Rattle.discovery_merge.specs.declared.lent.LentGroup.{LentGroup}
 use Rattle.discovery_merge.proofs.GroupLemmas.{none_found, some_found}
 use Rattle.discovery_merge.proofs.kept.add_core.Goals as goal
 

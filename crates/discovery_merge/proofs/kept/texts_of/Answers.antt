@@ -1,4 +1,4 @@
-use Rattle.std.proofs.Common.{Some, cond, map, ap, sym, ◌∙◌}
+use Rattle.std.proofs.Common.{Some, cond, ap, sym, ◌∙◌}
 use Rattle.std.specs.Str.{bytes_eq}
 use Rattle.discovery_merge.specs.Documents.{group_document}
 use Rattle.discovery_merge.specs.Lent.{lent_view}

@@ -1,6 +1,5 @@
 use Rattle.std.proofs.Common.{◌∷◌, ◌++◌, [], Some, cond, unwrap_or, sym, ap, ◌∙◌}
 use Rattle.discovery_merge.specs.Groups.{is_of}
-use Rattle.discovery_merge.specs.Lent.{lent_rows}
 use Rattle.discovery_merge.proofs.GroupLemmas.{of_group_lent}
 use Rattle.discovery_merge.proofs.lent.rows_by_group.Goals as goal
 

@@ -1,4 +1,4 @@
-use Rattle.std.proofs.Common.{map, ap, ◌∙◌}
+use Rattle.std.proofs.Common.{ap, ◌∙◌}
 use Rattle.discovery_merge.specs.Groups.{is_named}
 use Rattle.discovery_merge.specs.Lent.{lent_rows}
 use Rattle.discovery_merge.specs.Order.{group_order, sorted}

@@ -1,5 +1,4 @@
 use Rattle.std.proofs.Common.{Some, sym, ap, ◌∙◌}
-use Rattle.std.proofs.lemmas.Map.Text.{text_cmp}
 use Rattle.discovery_merge.specs.Kept.{Kept, text_of}
 use Rattle.discovery_merge.proofs.KeptLemmas.{text_by_tree}
 use Rattle.discovery_merge.proofs.kept.Documents.group.Goals as goal

@@ -1,4 +1,4 @@
-use Rattle.std.proofs.Common.{None, map, ◌++◌, sym, ap, ◌∙◌}
+use Rattle.std.proofs.Common.{None, map, ◌++◌, ap, ◌∙◌}
 use Rattle.discovery_merge.specs.Documents.{group_list_text, list_document}
 use Rattle.discovery_merge.specs.Kept.{core_groups, last_document}
 use Rattle.discovery_merge.specs.Lent.{lent_rows, lent_view}
