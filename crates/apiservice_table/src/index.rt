@@ -78,7 +78,7 @@ impl Index {
         self.first.fill(None);
     }
 
-    // Links the row at that place before the ones behind it.
+    // Links the row at that place before the ones after it.
     fn link(&mut self, rows: &[Row], at: usize)
         requires within { at < length rows.now }
         requires few { length rows.now ≤ MOST_ROWS }

@@ -152,7 +152,7 @@ impl RouteTable {
         if let Some(fault) = refusal_of(self.rows.as_slice(), &change) {
             return Err(fault);
         }
-        // The documents come first, so that nothing has changed where memory lacks for them.
+        // The documents come first, so that nothing has changed where memory runs out.
         let documents = documents_after(alloc, self.rows.as_slice(), &change)?;
         let moved = change.moves_rows();
         change_rows(&mut self.rows, change)?;

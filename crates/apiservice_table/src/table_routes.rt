@@ -41,7 +41,7 @@ fn copy_rows(alloc: Global, rows: &[Row]) -> Result<Vec<Row>, NoMemory>
     Ok(copies)
 }
 
-// Makes a change of a table, and keeps a copy of it behind the others.
+// Makes a change of a table, and keeps a copy of it after the others.
 fn keep_change(
     alloc: Global,
     table: &mut RouteTable,
