@@ -1,9 +1,11 @@
 -- A block has one head.
 use Rattle.std.proofs.Common.{◌≡◌, ℕ, List, [], ◌∷◌, map, refl, sym, ap, ◌∙◌}
-use Rattle.httparse.specs.Grammar.{RequestHead}
+use Rattle.httparse.specs.Grammar.{RequestHead, ResponseHead, status_code}
 use Rattle.httparse.specs.Spans.{name_and_value}
 use Rattle.http_head.specs.Request.{header_view, HasParts}
+use Rattle.http_head.specs.Reply.{HasReplyParts}
 use Rattle.http_head.specs.declared.header.Header.{Header}
+use Rattle.http_head.specs.declared.reply.ReplyHead.{ReplyHead}
 use Rattle.http_head.specs.declared.request.Head.{Head}
 
 one_header : (a b : Header) → header_view a ≡ header_view b → a ≡ b
@@ -31,4 +33,16 @@ one_head_of a b x y e p q =
     (p.method ∙ ap (λ (r : RequestHead). r.method) e ∙ sym q.method)
     (p.target ∙ ap (λ (r : RequestHead). r.target) e ∙ sym q.target)
     (p.minor ∙ ap (λ (r : RequestHead). r.minor) e ∙ sym q.minor)
+    (one_list a.headers b.headers (p.headers ∙ fields ∙ sym q.headers))
+
+same_reply : (s t v w : ℕ) (h k : List Header) → s ≡ t → v ≡ w → h ≡ k
+    → ◌≡◌ {A = ReplyHead} (record { status = s; minor = v; headers = h }) (record { status = t; minor = w; headers = k })
+same_reply s t v w h k e f g = cc
+
+pub one_reply_of : (a b : ReplyHead) (x y : ResponseHead) → x ≡ y → HasReplyParts a x → HasReplyParts b y → a ≡ b
+one_reply_of a b x y e p q =
+    let fields : map name_and_value x.fields ≡ map name_and_value y.fields = ap (λ (r : ResponseHead). map name_and_value r.fields) e in
+    same_reply a.status b.status a.minor b.minor a.headers b.headers
+    (p.status ∙ ap (λ (r : ResponseHead). status_code r) e ∙ sym q.status)
+    (p.minor ∙ ap (λ (r : ResponseHead). r.minor) e ∙ sym q.minor)
     (one_list a.headers b.headers (p.headers ∙ fields ∙ sym q.headers))

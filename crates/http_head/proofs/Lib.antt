@@ -2,5 +2,7 @@ mod BlockLemmas
 mod EmptyLineLemmas
 mod HeadLemmas
 mod LineLemmas
+mod ReplyLemmas
 mod RequestLemmas
+mod StatusLemmas
 mod StreamLemmas

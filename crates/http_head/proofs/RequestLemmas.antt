@@ -20,23 +20,23 @@ token_is_ascii : (b : ℕ) → IsTrue (is_token_byte b) → b < 128
 unfolding is_token_byte
 token_is_ascii b h = grind (arith, nat_tests)
 
-token_is_text : (b : ℕ) → IsTrue (is_token_byte b) → is_text b ≡ true
+pub token_is_text : (b : ℕ) → IsTrue (is_token_byte b) → is_text b ≡ true
 unfolding is_token_byte
 token_is_text b h = grind (arith, nat_tests)
 
 -- what follows the method
-abbrev after_method : RequestHead → List ℕ
+abbrev pub after_method : RequestHead → List ℕ
 after_method h = (space ∷ h.target) ++ ((space ∷ print_version h.minor) ++ (print_end h.line_end ++ print_section h.fields h.last))
 
 regroup : (a b c d e f : List ℕ) → ((((a ++ b) ++ c) ++ d) ++ e) ++ f ≡ a ++ (b ++ (c ++ (d ++ (e ++ f))))
 regroup a b c d e f = simp append_assoc
 
-request-parts : (h : RequestHead) → print_request h ≡ print_blank h.blank ++ (h.method ++ after_method h)
+pub request-parts : (h : RequestHead) → print_request h ≡ print_blank h.blank ++ (h.method ++ after_method h)
 unfolding print_request
 request-parts h =
     regroup (print_blank h.blank) h.method (space ∷ h.target) (space ∷ print_version h.minor) (print_end h.line_end) (print_section h.fields h.last)
 
-run_is : (ends : List LineEnd) (method rest : List ℕ) → IsToken method → run_len (print_blank ends ++ (method ++ rest)) ≡ length (print_blank ends)
+pub run_is : (ends : List LineEnd) (method rest : List ℕ) → IsToken method → run_len (print_blank ends ++ (method ++ rest)) ≡ length (print_blank ends)
 run_is ends [] rest token = absurd (omega (arith, token.0))
 run_is ends (b ∷ method) rest token = run_len-blank ends b (method ++ rest) (token_is_text b (All-head (λ x. IsTrue (is_token_byte x)) b method token.1))
 
@@ -59,7 +59,7 @@ token_is_utf8 : (bs : List ℕ) → IsToken bs → IsUtf8 bs
 token_is_utf8 bs token =
     IsUtf8-from_ascii bs (IsAscii-from_all bs (All-weaker (λ x. IsTrue (is_token_byte x)) (λ b. b < 128) token_is_ascii bs token.1))
 
-names_are_text : (block : List ℕ) (spans : List HeaderSpan) (fields : List Field) → map (header_bytes block) spans ≡ map name_and_value fields → All IsField fields → All (HasTextName block) spans
+pub names_are_text : (block : List ℕ) (spans : List HeaderSpan) (fields : List Field) → map (header_bytes block) spans ≡ map name_and_value fields → All IsField fields → All (HasTextName block) spans
 names_are_text block [] fields e valid = All-nil (HasTextName block)
 names_are_text block (s ∷ spans) [] e valid = absurd (cc)
 names_are_text block (s ∷ spans) (f ∷ fields) e valid =

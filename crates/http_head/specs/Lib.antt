@@ -4,5 +4,6 @@ pub mod Connection
 pub mod EmptyLine
 pub mod Framing
 pub mod Name
+pub mod Reply
 pub mod Request
 pub mod Texts

@@ -9,7 +9,10 @@ use crate::answer::BlockAnswer;
 /// The most bytes that a head's block may have.
 pub const MOST_HEAD_BYTES: usize = 65536;
 
-/// The most lines that a head's block may have: the start line, 100 header lines and the empty line.
+/// The most header lines that a head may have.
+pub const MOST_HEADERS: usize = 100;
+
+/// The most lines that a head's block may have: the start line, the header lines and the empty line.
 pub const MOST_LINES: usize = 102;
 
 // The length of the leading run of CR and LF.

@@ -12,18 +12,24 @@ mod block;
 mod body;
 mod connection;
 mod header;
+mod reply;
 mod request;
+mod spans;
 mod transfer;
 
-pub use answer::{BlockAnswer, HeadAnswer};
+pub use answer::{BlockAnswer, HeadAnswer, StatusAnswer};
 pub use block::{
-    MOST_HEAD_BYTES, MOST_LINES, Search, blocks_are_bounded, blocks_stay, find_block,
+    MOST_HEAD_BYTES, MOST_HEADERS, MOST_LINES, Search, blocks_are_bounded, blocks_stay, find_block,
     heads_end_after_an_empty_line, searches_go_on,
 };
 pub use body::Framing;
 pub use connection::{asks_to_close, has_option};
 pub use header::{Header, Headers};
-pub use request::{Head, MOST_HEADERS, one_head, read_request, read_request_on, request_of};
+pub use reply::{
+    ReplyHead, one_reply, read_reply, read_reply_on, read_status, reply_of,
+    statuses_are_those_of_replies,
+};
+pub use request::{Head, one_head, read_request, read_request_on, request_of};
 pub use transfer::framing;
 
 #[cfg(test)]

@@ -1,22 +1,20 @@
 // The head of a request.
-ghost use Rattle.std.specs.Prelude.{◌≡◌, ◌≤◌, ℕ, List, length, take, map, All, IfOk, IfSome, MatchOption, IsUtf8, string_bytes};
+ghost use Rattle.std.specs.Prelude.{◌≡◌, ◌≤◌, ℕ, List, length, IfOk, IfSome, MatchOption};
 ghost use Rattle.httparse.specs.Grammar.{RequestHead};
-ghost use Rattle.httparse.specs.Spans.{IsWithin, IsHeaderWithin, IsRequestAt, IsRequestWithin, span_bytes, header_bytes};
+ghost use Rattle.httparse.specs.Spans.{IsRequestAt, IsRequestWithin};
 ghost use Rattle.http_head.specs.Answer.{EndsWithin};
 ghost use Rattle.http_head.specs.Block.{IsSearched, line_count};
 ghost use Rattle.http_head.specs.Request as spec;
-ghost use Rattle.http_head.specs.Texts.{HasTextName, HasTexts};
+ghost use Rattle.http_head.specs.Texts.{HasTexts};
 
 use crate::answer::{BlockAnswer, HeadAnswer};
-use crate::block::{MOST_LINES, Search, find_block};
-use crate::header::{Header, Headers};
+use crate::block::{MOST_HEADERS, MOST_LINES, Search, find_block};
+use crate::header::Headers;
+use crate::spans::{headers_of, text_at};
 use front_base::{Bytes, NoMemory, Text};
 use httparse::Status;
-use httparse::spans::{EMPTY_HEADER_SPAN, HeaderSpan, RequestSpans, Span, parse_request};
-use std::alloc::{AllocError, Global};
-
-/// The most header lines that a head may have.
-pub const MOST_HEADERS: usize = 100;
+use httparse::spans::{EMPTY_HEADER_SPAN, HeaderSpan, RequestSpans, parse_request};
+use std::alloc::Global;
 
 /// The head of a request.
 #[derive(Debug, Drop)]
@@ -27,43 +25,6 @@ pub struct Head {
     /// The minor version, 0 or 1.
     pub minor: u8,
     pub headers: Headers,
-}
-
-fn text_at(alloc: Global, block: &[u8], span: Span) -> Result<String, AllocError>
-    requires within { IsWithin (length block.now) span }
-    requires text { IsUtf8 (span_bytes block.now span) }
-    ensures { IfOk result (λ s. string_bytes s ≡ span_bytes block.now span) }
-{
-    match str::from_utf8(span.of(block)) {
-        Ok(text) => String::from_str(alloc, text),
-        Err(_) => unreachable!(),
-    }
-}
-
-fn header_at(alloc: Global, block: &[u8], header: HeaderSpan) -> Result<Header, AllocError>
-    requires within { IsHeaderWithin (length block.now) header }
-    requires text { HasTextName block.now header }
-    ensures { IfOk result (λ h. spec.header_view h ≡ header_bytes block.now header) }
-{
-    let name = text_at(alloc, block, header.name)?;
-    let value = header.value.of(block).to_vec(alloc)?;
-    Ok(Header {
-        name: Text::new(name),
-        value: Bytes::new(value),
-    })
-}
-
-fn headers_of(alloc: Global, block: &[u8], spans: &[HeaderSpan]) -> Result<Vec<Header>, AllocError>
-    requires within { All (IsHeaderWithin (length block.now)) spans.now }
-    requires text { All (HasTextName block.now) spans.now }
-    ensures { IfOk result (λ v.
-        map spec.header_view v.items ≡ map (header_bytes block.now) spans.now) }
-{
-    let mut headers = Vec::new(alloc);
-    for span in spans {
-        headers.push(header_at(alloc, block, *span)?)?;
-    }
-    Ok(headers)
 }
 
 // Where the parts of the head stand in its block, or none where the block is no head.
