@@ -1,8 +1,10 @@
 mod BlockLemmas
 mod EmptyLineLemmas
+mod EndLemmas
 mod HeadLemmas
 mod LineLemmas
 mod ReplyLemmas
 mod RequestLemmas
 mod StatusLemmas
 mod StreamLemmas
+mod WrittenLemmas

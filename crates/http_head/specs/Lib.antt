@@ -3,7 +3,9 @@ pub mod Block
 pub mod Connection
 pub mod EmptyLine
 pub mod Framing
+pub mod Legal
 pub mod Name
 pub mod Reply
 pub mod Request
 pub mod Texts
+pub mod Written
