@@ -1,0 +1,100 @@
+"""The requests and the files that the scripts over the program `apiaggd` give it."""
+import json
+import os
+import subprocess
+import sys
+
+TOP = os.path.dirname(os.path.dirname(os.path.abspath(__file__)))
+
+# What kubectl 1.31 sends, with a bearer token that the token file has.
+HEADERS = (b"Host: cluster.example:6443\r\n"
+           b"User-Agent: kubectl/v1.31.0 (linux/amd64) kubernetes/9edcffc\r\n"
+           b"Accept: application/json;as=Table;v=v1;g=meta.k8s.io,application/json;as=Table;v=v1beta1;g=meta.k8s.io,"
+           b"application/json\r\n"
+           b"Authorization: Bearer token-500\r\n"
+           b"Accept-Encoding: gzip\r\n")
+
+
+def get(target):
+    return b"GET " + target + b" HTTP/1.1\r\n" + HEADERS + b"\r\n"
+
+
+GET = get(b"/api/v1/namespaces/a/pods?limit=500")
+GROUP = get(b"/apis/team-500.example.org")
+LIST = get(b"/apis")
+IN_GROUP = get(b"/apis/team-500.example.org/v1/namespaces/a/things")
+
+# Seven kinds of GET: a collection and a named resource in the core group and in a group, a watch, discovery, one
+# APIService, a health path.
+MIX = b"".join(map(get, (
+    b"/api/v1/namespaces/a/pods?limit=500", b"/apis/team-500.example.org/v1/namespaces/a/things/one",
+    b"/api/v1/namespaces/a/pods?watch=1", b"/apis", b"/apis/team-500.example.org",
+    b"/apis/apiregistration.k8s.io/v1/apiservices/v1.team-500.example.org", b"/healthz")))
+MIX_COUNT = 7
+
+
+def post_head(framing):
+    return (b"POST /api/v1/namespaces/a/configmaps HTTP/1.1\r\n" + HEADERS + b"Content-Type: application/json\r\n" + framing
+            + b"\r\n\r\n")
+
+
+def body(size):
+    """A JSON object of that size."""
+    empty = json.dumps({"kind": "ConfigMap", "data": {"text": ""}})
+    return json.dumps({"kind": "ConfigMap", "data": {"text": "x" * (size - len(empty))}}).encode()
+
+
+def post(size):
+    return post_head(b"Content-Length: %d" % size) + body(size)
+
+
+def post_in_chunks_of_one_byte(size):
+    return post_head(b"Transfer-Encoding: chunked") + b"".join(b"1\r\n%c\r\n" % byte for byte in body(size)) + b"0\r\n\r\n"
+
+
+def long_head():
+    """A head of some 64,000 bytes."""
+    line = b"X-Note: " + b"y" * 900 + b"\r\n"
+    return b"GET /api/v1/pods HTTP/1.1\r\n" + HEADERS + line * (63400 // len(line)) + b"\r\n"
+
+
+def tokens():
+    """The option of a token file of 1,000 users."""
+    return {"token-auth-file": "".join(f'token-{i},user-{i},{i},"dev,ops"\n' for i in range(1000))}
+
+
+def rules(count, level):
+    """The option of a policy whose last rule alone matches."""
+    others = [{"level": "None", "users": [f"system:serviceaccount:team-{i}:robot"], "verbs": ["get", "list"],
+               "resources": [{"group": "apps", "resources": ["deployments", "deployments/scale"]}]}
+              for i in range(count - 1)]
+    return {"audit-policy-file": json.dumps({"kind": "Policy", "apiVersion": "audit.k8s.io/v1",
+                                             "rules": others + [{"level": level}]})}
+
+
+def services(count):
+    """The option of a list of APIServices: the core API, and groups of one version each."""
+    items = [{"apiVersion": "apiregistration.k8s.io/v1", "kind": "APIService", "metadata": {"name": f"v1.{group}"},
+              "spec": {"group": group, "version": "v1", "groupPriorityMinimum": 1000, "versionPriority": 15}}
+             for group in ["", *(f"team-{i}.example.org" for i in range(count - 1))]]
+    return {"apiservices": json.dumps({"apiVersion": "v1", "kind": "List", "items": items})}
+
+
+def program():
+    """The program that the command line names, or that of this checkout, which is proved and built first."""
+    if len(sys.argv) > 1:
+        return sys.argv[1]
+    if subprocess.run([os.path.join(TOP, "apiaggd"), "--version"], stdout=subprocess.DEVNULL).returncode != 0:
+        sys.exit(1)
+    return os.path.join(TOP, "crates", "apiaggd", "out", "apiaggd")
+
+
+def command(of, place, options):
+    """The words of a run under files with these texts, by the names of their options. They are written to a folder."""
+    words = [of, "explain"]
+    for option, text in options.items():
+        path = os.path.join(place, option)
+        with open(path, "w") as out:
+            out.write(text)
+        words.append(f"--{option}={path}")
+    return words
