@@ -1,10 +1,10 @@
-"""Times calls of front_bench: the least of five runs, less a run that makes no call. Counts their instructions too."""
+"""Times calls of front_bench, in processor time: the least of five runs, less a run that makes no call. Counts their
+instructions too."""
 import os
 import re
 import shutil
 import subprocess
 import sys
-import time
 
 TOP = os.path.dirname(os.path.dirname(os.path.abspath(__file__)))
 CRATE = os.path.join(TOP, "crates", "front_bench")
@@ -24,14 +24,13 @@ def words(call, times, others):
 
 
 def run(call, times, path, *others):
-    """The seconds of one run."""
+    """The processor seconds of one run."""
     with open(path, "rb") as body:
-        start = time.monotonic()
-        status = subprocess.run(words(call, times, others), stdin=body).returncode
-        seconds = time.monotonic() - start
+        child = subprocess.Popen(words(call, times, others), stdin=body)
+    _, status, used = os.wait4(child.pid, 0)
     if status != 0:
         sys.exit(f"front_bench {call} {times} ended with {status}")
-    return seconds
+    return used.ru_utime + used.ru_stime
 
 
 def seconds_a_call(call, times, path, *others):
