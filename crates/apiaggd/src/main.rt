@@ -7,21 +7,28 @@ use std::process::ExitCode;
 use std::{env, io};
 
 const HELP: &str = "\
-apiaggd explains which audit events requests to a cluster API owe.
-
 Usage: apiaggd explain [OPTION].. < REQUESTS
+       apiaggd --help | --version
 
-explain    reads HTTP/1.1 requests from standard input, one after another, and
-           writes the audit event of each stage of each request as a line of
-           JSON to standard output
+Prints the audit events that requests to a Kubernetes API server cause.
+Reads HTTP/1.1 requests from standard input and writes one line of JSON for
+each event to standard output.
 
-  --token-auth-file=FILE     the bearer tokens that are known, as CSV
-  --audit-policy-file=FILE   the audit policy, as JSON; else all is Metadata
-  --apiservices=FILE         the APIServices, as JSON; else there are none
-  --moment=MICROSECONDS      what the clock shows, since 1970; else 0
+Options, as --NAME=VALUE or --NAME VALUE:
+  --token-auth-file=FILE     known bearer tokens, as CSV (default: none)
+  --audit-policy-file=FILE   audit policy, as JSON (default: all at Metadata)
+  --apiservices=FILE         APIService objects, as JSON (default: none)
+  --moment=MICROSECONDS      time of every event, since 1970 (default: 0)
 
-Statuses: 0 done, 2 usage, 3 configuration, 4 read fault, 6 no memory,
-7 write fault, 8 numbers spent, 9 input
+Exit status:
+  0  all requests were read and all their events written
+  2  invalid command line
+  3  option out of range, or invalid file
+  4  a file or the input could not be read
+  6  out of memory
+  7  the output could not be written
+  8  more than 2^48 requests
+  9  a request is malformed, too large or cut short
 ";
 
 const VERSION: &str = "apiaggd 0.1.0\n";
