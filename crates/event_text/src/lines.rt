@@ -1,7 +1,7 @@
 ghost use Rattle.std.specs.Prelude.{◌≡◌, [], ◌∷◌, ◌++◌, codes, IfOk, OnOk, OnErr};
 ghost use Rattle.front_base.specs.AuditId as base;
 ghost use Rattle.event_text.specs.Members as members;
-ghost use Rattle.event_text.specs.Members.{behind, joined};
+ghost use Rattle.event_text.specs.Members.{after_commas, joined};
 ghost use Rattle.event_text.specs.Line as spec;
 
 use crate::members::{push_name, push_text};
@@ -17,7 +17,7 @@ use std::mem;
 // Most lines without bodies fit into so many bytes.
 const USUAL_BYTES: usize = 1024;
 
-// The least that is written at once: the objects, and what most lines have beside them.
+// Room for the objects, and for what most lines have beside them.
 fn usual_length(event: &Event) -> usize {
     let objects = body_length(&event.request_object).saturating_add(body_length(
         &event.response_object,
@@ -27,7 +27,7 @@ fn usual_length(event: &Event) -> usize {
 
 fn push_audit_id(out: &mut Tail, id: AuditId) -> Result<(), NoMemory>
     ensures ok { OnOk result (out.new.written
-        ≡ out.old.written ++ behind (members.text (codes "auditID") (base.audit_id_text id) ∷ [])) }
+        ≡ out.old.written ++ after_commas (members.text (codes "auditID") (base.audit_id_text id) ∷ [])) }
     ensures before { out.new.before ≡ out.old.before }
 {
     push_name(out, "auditID")?;
