@@ -9,7 +9,7 @@ pub returns : goal.returns
 unfolding group_members
 returns c =
     let name = c.args.group.now.name.now in
-    written_six _ _ _ _ _ _ _ _ _ _ _ _ _ c.in_ok-extend_from_slice.ensures.items c.in_ok-push_quoted.ensures
+    written_six _ _ _ _ _ _ _ _ _ _ _ _ _ c.in_ok-extend_from_slice.ensures.items c.in_ok-push_quoted.ensures.ok
     c.in_ok-extend_from_slice-2.ensures.items
     (c.in_ok-push_versions.ensures
     ∙ ap (λ rows. c.extend_from_slice-2.new.self.items ++ join_with_byte 44 (map (version_text name) (lent_versions rows)))

@@ -10,5 +10,5 @@ returns c =
     let text : c.as_str.result.now ≡ c.args.group.now ++ 47 ∷ c.args.version.now =
     c.as_str.ensures.value ∙ c.in_ok-text.ensures in
     written_five _ _ _ _ _ _ _ _ _ _ _ c.in_ok-extend_from_slice.ensures.items
-    (c.in_ok-push_quoted.ensures ∙ ap (λ t. c.extend_from_slice.new.self.items ++ quoted t) text)
-    c.in_ok-extend_from_slice-2.ensures.items c.in_ok-push_quoted-2.ensures c.in_ok-push.ensures.items
+    (c.in_ok-push_quoted.ensures.ok ∙ ap (λ t. c.extend_from_slice.new.self.items ++ quoted t) text)
+    c.in_ok-extend_from_slice-2.ensures.items c.in_ok-push_quoted-2.ensures.ok c.in_ok-push.ensures.items
