@@ -149,14 +149,6 @@ impl Edge {
         })
     }
 
-    /// How many bytes are held.
-    pub fn held_count(&self) -> usize
-        ensures count { result ≡ length self.now }
-        ensures most { result ≤ MOST_HELD_BYTES }
-    {
-        self.intake.as_slice().len()
-    }
-
     /// The next request of the connection, whose body has at most `MOST_BODY_BYTES`. Of the stops only `ReadFault` comes
     /// with another count of failed reads. After an `Err` the edge isn't used again.
     pub fn next_request<C: Source>(&mut self, alloc: Global, conn: &mut C) -> Result<Request, Stop>

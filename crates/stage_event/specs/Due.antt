@@ -1,29 +1,17 @@
 -- At which stages a request has events, and where these show a body (Kubernetes, "Auditing").
-use Rattle.std.specs.Prelude.{Bool, true, false, not, ◌&&◌, ◌||◌, List, [], ◌∷◌, if◌then◌else◌}
+use Rattle.std.specs.Prelude.{Bool, false, not, ◌&&◌, List, [], ◌∷◌, if◌then◌else◌}
 use Rattle.front_base.specs.Info.{is_long_running}
 use Rattle.front_base.specs.declared.info.Info.{Info}
 use Rattle.front_base.specs.declared.level.Level.{Level}
 use Rattle.front_base.specs.declared.level.Level.TheVariants.{None, Metadata, Request, RequestResponse}
 use Rattle.front_base.specs.declared.stage.Stage.{Stage}
-use Rattle.front_base.specs.declared.stage.Stage.TheVariants.{RequestReceived, ResponseStarted, ResponseComplete, Panic}
+use Rattle.front_base.specs.declared.stage.Stage.TheVariants.{RequestReceived, ResponseStarted, ResponseComplete}
 
 -- the stages in the life of a request, in order
 abbrev pub stages : Info → List Stage
 stages info =
     if is_long_running info then RequestReceived ∷ ResponseStarted ∷ ResponseComplete ∷ []
     else RequestReceived ∷ ResponseComplete ∷ []
-
-abbrev pub same_stage : Stage → Stage → Bool
-same_stage RequestReceived RequestReceived = true
-same_stage ResponseStarted ResponseStarted = true
-same_stage ResponseComplete ResponseComplete = true
-same_stage Panic Panic = true
-same_stage _ _ = false
-
--- the stage is one of these
-abbrev pub has_stage : Stage → List Stage → Bool
-has_stage stage [] = false
-has_stage stage (s ∷ ss) = same_stage stage s || has_stage stage ss
 
 -- the request's body is shown from the level Request on, where the request names a resource
 abbrev pub request_due : Level → Info → Bool

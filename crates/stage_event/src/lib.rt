@@ -15,7 +15,7 @@ mod keeping;
 mod laws;
 mod making;
 
-pub use due::{has_stage, reply_due, request_due};
+pub use due::{reply_due, request_due};
 pub use event::{Event, ObjectRef};
 pub use facts::{Facts, Kept};
 pub use keeping::{MOST_KEPT_BYTES, kept};
