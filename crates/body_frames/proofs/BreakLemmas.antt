@@ -54,7 +54,7 @@ pub record FirstBreak (p : Place) (xs : List ℕ) (f : BodyFault) : Type 0 where
   pub awaits : is_open (run p front) ≡ true
   pub fault : fault_of (step (run p front) byte) ≡ Some f
 
--- nothing breaks behind an end
+-- nothing breaks after an end
 pub none_past : (xs : List ℕ) (p : Place) (f : BodyFault) → is_open p ≡ false → fault_of p ≡ None
     → fault_of (run p xs) ≡ None
 unfolding run

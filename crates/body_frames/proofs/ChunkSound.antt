@@ -212,7 +212,7 @@ pub either : (t : Bool) → (t ≡ true) ⊎ (t ≡ false)
 either true = inl refl
 either false = inr refl
 
--- what may follow behind some bytes, and the bytes, may follow before them
+-- what may follow after some bytes, with the bytes before it, may follow before them
 good_before : (xs : List ℕ) (p : Place) (rest out : List ℕ) → IsTrue (is_sound p) → Good (run p xs).mode rest out
     → Good p.mode (xs ++ rest) (emitted p xs ++ out)
 unfolding run emitted

@@ -264,7 +264,7 @@ open_or_done p h e = by_mode p.room p.mode h e
 
 -- ---- bytes of the body in one range
 
--- a byte of the body, and how many are left behind it
+-- a byte of the body, and how many are left after it
 record OneLess (framed room : ℕ) (m : Mode) (b : ℕ) : Type 0 where
   is : is_data_mode room m ≡ true
   left : data_left_mode (room - 1) (next_mode framed room m b) ≡ data_left_mode room m - 1
@@ -345,7 +345,7 @@ jumps_all : (xs : List ℕ) (p : Place) → 0 < length xs → length xs ≤ data
 jumps_all [] p h f = absurd (omega (arith, h))
 jumps_all (b ∷ xs) p h f = jumps xs p b f
 
--- a range of the body's bytes at the front of a piece
+-- a range of the body's bytes at the begin of a piece
 pub record Passed (p q : Place) (xs : List ℕ) : Type 0 where
   pub moved : q ≡ run p xs
   pub body : emitted p xs ≡ xs

@@ -22,10 +22,10 @@ use Rattle.body_frames.proofs.SizeLines.{InLine, GoodLine, line_of, back_tail, b
 use Rattle.body_frames.proofs.SizeLines.{back_extension, in_line, line_next, same_byte}
 use Rattle.body_frames.proofs.ChunkSound.{either}
 
--- ---- a size line that passes the limit is refused
+-- ---- a size line that exceeds the limit is refused
 
-passes_limit : (room size : ℕ) → room < size → fault_mode (after_line room size) ≡ Some TooLarge
-passes_limit room size h =
+exceeds_limit : (room size : ℕ) → room < size → fault_mode (after_line room size) ≡ Some TooLarge
+exceeds_limit room size h =
     let some : size == 0 ≡ false = grind (arith, nat_tests) in
     let over : nat_le size room ≡ false = grind (arith, nat_tests) in
     rw (some, over) refl
@@ -43,7 +43,7 @@ over_fault limit text h =
     let over : left < h.size = omega (arith, h.over, h.fits) in
     let xs = flat_map print_chunk h.chunks ++ print_line h.line in
     let fault : fault_of (run p xs) ≡ Some TooLarge =
-    ap fault_mode (both p refl refl).mode ∙ passes_limit left h.size over in
+    ap fault_mode (both p refl refl).mode ∙ exceeds_limit left h.size over in
     let split : text ≡ xs ++ h.rest = h.text_is ∙ sym (append_assoc (flat_map print_chunk h.chunks) (print_line h.line) h.rest) in
     ap (λ l. fault_of (run p l)) split ∙ ap fault_of (run-append p xs h.rest) ∙ broken_run h.rest (run p xs) TooLarge fault
 
