@@ -1,11 +1,11 @@
 // The next request of a connection.
-ghost use Rattle.std.specs.Prelude.{ℕ, List, ◌≡◌, ◌++◌, ◌<◌, ◌≤◌, [], IfOk, IfErr, OnOk, length, vec_len};
+ghost use Rattle.std.specs.Prelude.{◌≡◌, ◌≤◌, [], IfOk, IfErr, OnOk, length};
 ghost use Rattle.front_ports.specs.Cause.{Rose};
 ghost use Rattle.http_edge.specs.Calls as calls;
 ghost use Rattle.http_edge.specs.Requests as spec;
 
 use crate::{End, MOST_BODY_BYTES, Request, Stop};
-use body_frames::{BodyFault, Frame, bodies_fit, first_bodies};
+use body_frames::{BodyFault, Frame, bodies_fit};
 use front_base::{Bytes, NoMemory};
 use front_ports::Source;
 use http_head::{

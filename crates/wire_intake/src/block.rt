@@ -1,5 +1,5 @@
 // The block of the next head.
-ghost use Rattle.std.specs.Prelude.{◌≡◌, ◌≤◌, ◌<◌, IfOk, IfErr, OnOk, length};
+ghost use Rattle.std.specs.Prelude.{◌≡◌, ◌≤◌, IfOk, IfErr, OnOk};
 ghost use Rattle.front_ports.specs.Cause.{Rose};
 ghost use Rattle.wire_intake.specs.Blocks as spec;
 

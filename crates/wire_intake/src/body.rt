@@ -1,5 +1,5 @@
 // The next body.
-ghost use Rattle.std.specs.Prelude.{◌≡◌, ◌<◌, ◌≤◌, ◌⊎◌, [], true, IfOk, IfErr, OnOk, OnErr, length, vec_len};
+ghost use Rattle.std.specs.Prelude.{◌≡◌, ◌<◌, ◌≤◌, ◌⊎◌, true, IfOk, IfErr, OnOk, length};
 ghost use Rattle.front_ports.specs.Cause.{Rose};
 ghost use Rattle.body_frames.specs.Progress.{is_open, is_done, ends_here, most_left};
 ghost use Rattle.wire_intake.specs.Bodies as spec;
