@@ -6,7 +6,7 @@ unfoldable pub without_front : List ℕ → List ℕ
 without_front [] = []
 without_front (b ∷ text) = if b == 47 then without_front text else b ∷ text
 
--- a byte in front of a text; a slash alone is nothing
+-- a byte before a text; a slash alone is nothing
 abbrev pub in_front : ℕ → List ℕ → List ℕ
 in_front b [] = if b == 47 then [] else b ∷ []
 in_front b (next ∷ text) = b ∷ next ∷ text

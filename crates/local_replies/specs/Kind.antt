@@ -6,7 +6,7 @@ use Rattle.local_replies.specs.declared.kind.Kind.TheVariants as kind
 use Rattle.local_replies.specs.declared.local.Local.{Local}
 use Rattle.local_replies.specs.declared.local.Local.TheVariants.{Health, GroupList, OneGroup, ResourceList, AllServices, OneService, Unserved}
 
--- what a text has behind a front, or nothing
+-- what a text has after a prefix, or nothing
 abbrev pub rest_of : List ℕ → List ℕ → List ℕ
 rest_of front text = unwrap_or (behind front text) []
 

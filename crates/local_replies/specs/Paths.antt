@@ -4,7 +4,7 @@ use Rattle.local_replies.specs.Ends.{trimmed}
 use Rattle.local_replies.specs.declared.local.Local.{Local}
 use Rattle.local_replies.specs.declared.local.Local.TheVariants.{Health, GroupList, OneGroup, ResourceList, AllServices, OneService, Unserved}
 
--- what a text has behind a front, where it begins with it
+-- what a text has after a prefix, where it begins with it
 unfoldable pub behind : List ℕ → List ℕ → Option (List ℕ)
 behind [] text = Some text
 behind (x ∷ front) [] = None
@@ -32,11 +32,11 @@ Row = List ℕ → Option Local
 abbrev pub exactly : List ℕ → Local → Row
 exactly name local text = if bytes_eq text name then Some local else None
 
--- that text, and behind it one part more, which isn't empty
+-- that text, and after it one part more, which isn't empty
 abbrev pub with_part : List ℕ → (List ℕ → Local) → Row
 with_part front local text = one_part local (behind front text)
 
--- that text, and anything behind it
+-- that text, and anything after it
 abbrev pub with_rest : List ℕ → Local → Row
 with_rest front local text = any_text local (behind front text)
 

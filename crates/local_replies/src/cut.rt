@@ -1,4 +1,4 @@
-// Texts without a front or an end.
+// Texts without a prefix or a suffix.
 ghost use Rattle.std.specs.Prelude.{◌≡◌, ◌++◌, ℕ, List, IfSome, IfNone};
 
 pub fn without_prefix<'t>(text: &'t str, front: &str) -> Option<&'t str>

@@ -19,7 +19,7 @@ pub enum Kind {
     Unserved,
 }
 
-// What a text has behind a front, or nothing.
+// What a text has after a prefix, or nothing.
 fn rest_of(alloc: Global, front: &str, text: &str) -> Result<Text, NoMemory>
     ensures { IfOk result (λ rest. rest ≡ spec.rest_of front.now text.now) }
 {

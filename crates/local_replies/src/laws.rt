@@ -1,4 +1,4 @@
-ghost use Rattle.std.specs.Prelude.{◌≡◌, ◌+◌, ℕ, List, ◌∷◌, ◌++◌, [], false, length, All, Option};
+ghost use Rattle.std.specs.Prelude.{◌≡◌, ◌+◌, ℕ, List, ◌∷◌, ◌++◌, [], true, false, length, All, Option};
 ghost use Rattle.apiservice_table.specs.Changes.{placed, rows_of, IsLater, Story};
 ghost use Rattle.apiservice_table.specs.declared.change.Change.{Change};
 ghost use Rattle.front_base.specs.declared.info.Info.{Info};
@@ -10,6 +10,7 @@ ghost use Rattle.local_replies.specs.Status.{cause_of, refusal_text, told_codes}
 ghost use Rattle.local_replies.specs.declared.errand.LocalErrand.{LocalErrand};
 ghost use Rattle.local_replies.specs.declared.errand.LocalErrand.TheVariants as errand;
 ghost use Rattle.local_replies.specs.declared.local.Local.{Local};
+ghost use Rattle.local_replies.specs.declared.local.Local.TheVariants as local;
 ghost use Rattle.local_replies.specs.declared.reply.LocalReply.{LocalReply};
 
 use apiservice_table::one_user_knows_the_rows;
@@ -42,3 +43,19 @@ pub fn one_user_is_served()
 {
     one_user_knows_the_rows();
 }
+
+/// The order of refusals on local paths: one by the path (404) whatever the request is, then one by the method (405)
+/// whatever the user and the body are, then one by the user (403), who isn't of `system:masters`, whatever the body is, and
+/// at last one by the body (422).
+pub fn refusals_in_order()
+    ensures by_path { (info : Info) (method body : List ℕ) (user : User)
+        → local_errand local.Unserved info method body user ≡ errand.Deny 404 }
+    ensures by_method { (local : Local) (info : Info) (method body other_body : List ℕ) (user other_user : User)
+        → local_errand local info method body user ≡ errand.Deny 405
+        → local_errand local info method other_body other_user ≡ errand.Deny 405 }
+    ensures by_user { (local : Local) (info : Info) (method body other_body : List ℕ) (user : User)
+        → local_errand local info method body user ≡ errand.Deny 403
+        → (local_errand local info method other_body user ≡ errand.Deny 403) × (is_master user ≡ false) }
+    ensures by_body { (local : Local) (info : Info) (method body : List ℕ) (user : User)
+        → local_errand local info method body user ≡ errand.Deny 422 → is_master user ≡ true }
+{}

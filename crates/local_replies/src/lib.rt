@@ -21,7 +21,8 @@ mod status;
 
 pub use errand::{LocalErrand, local_errand};
 pub use laws::{
-    lengths_of_refusals, one_user_is_served, only_masters_write, slashes_at_ends_do_not_count,
+    lengths_of_refusals, one_user_is_served, only_masters_write, refusals_in_order,
+    slashes_at_ends_do_not_count,
 };
 pub use local::Local;
 pub use paths::LocalPaths;

@@ -38,7 +38,7 @@ fn refused(alloc: Global, fault: ChangeFault) -> Result<LocalReply, NoMemory>
     }
 }
 
-// Makes a change. The reply and the copy that is handed out are made before it, so that none is made where memory lacks.
+// Makes a change. The reply and the copy that is handed out are made before it, so that none is made where memory runs out.
 fn write<R: Routes>(
     alloc: Global,
     change: Change,

@@ -1,5 +1,4 @@
-use crate::{Content, Local, LocalPaths, LocalReply, refusal, status_reply, success};
-use front_base::NoMemory;
+use crate::{Local, LocalPaths, LocalReply, refusal, status_reply};
 use std::alloc::Global;
 use std::test::Fail;
 
@@ -16,20 +15,6 @@ fn line_of(alloc: Global, local: Option<Local>) -> Result<String, Fail> {
         Some(Local::Unserved) => String::from_str(alloc, "unserved")?,
     };
     Ok(line)
-}
-
-pub fn made(alloc: Global) -> Result<LocalPaths, Fail> {
-    match LocalPaths::new(alloc) {
-        Ok(paths) => Ok(paths),
-        Err(_) => Err("no memory")?,
-    }
-}
-
-fn found(alloc: Global, paths: &LocalPaths, path: &str) -> Result<String, Fail> {
-    match paths.local(alloc, path) {
-        Ok(local) => line_of(alloc, local),
-        Err(_) => Err("no memory")?,
-    }
 }
 
 // Paths, and which local path each is. The last one is empty.
@@ -75,22 +60,18 @@ healthz health
 #[test]
 fn paths_are_local_by_the_table(rt: HostRuntime) -> Result<(), Fail> {
     let alloc = rt.alloc();
-    let paths = made(alloc)?;
+    let paths = LocalPaths::new(alloc)?;
     for row in PATHS.lines() {
         let (path, line) = row.split_once(' ').ok_or("two words")?;
-        assert_eq!(rt; found(alloc, &paths, path)?.as_str(), line, "{row}");
+        let found = line_of(alloc, paths.local(alloc, path)?)?;
+        assert_eq!(rt; found.as_str(), line, "{row}");
     }
     Ok(())
 }
 
 // What a reply holds: its status, its media type and its body, in one line.
-pub fn held(alloc: Global, reply: Result<LocalReply, NoMemory>) -> Result<String, Fail> {
-    let Ok(reply) = reply else {
-        return Err("no memory")?;
-    };
-    let Ok(body) = str::from_utf8(reply.body.as_slice()) else {
-        return Err("not UTF-8")?;
-    };
+pub fn held(alloc: Global, reply: &LocalReply) -> Result<String, Fail> {
+    let body = str::from_utf8(reply.body.as_slice()).map_err(|_| "UTF-8")?;
     let (status, media_type) = (reply.status, reply.content.media_type());
     Ok(format!(in alloc; "{status} {media_type} {body}")?)
 }
@@ -114,10 +95,9 @@ const REFUSALS: &str = "\
 
 // What a refusal holds, its message as JSON spells it.
 fn refused(alloc: Global, code: &str, reason: &str, message: &str) -> Result<String, Fail> {
-    let front =
-        r#"{"kind":"Status","apiVersion":"v1","metadata":{},"status":"Failure","message":""#;
+    let head = r#"{"kind":"Status","apiVersion":"v1","metadata":{},"status":"Failure","message":""#;
     Ok(format!(in alloc;
-        "{code} application/json {front}{message}\",\"reason\":\"{reason}\",\"code\":{code}}}"
+        "{code} application/json {head}{message}\",\"reason\":\"{reason}\",\"code\":{code}}}"
     )?)
 }
 
@@ -130,7 +110,7 @@ fn refusals_tell_their_code(rt: HostRuntime) -> Result<(), Fail> {
         let number = code.parse::<u16>().map_err(|_| "a number")?;
         let line = refused(alloc, code, reason, message)?;
         assert_eq!(rt;
-            held(alloc, refusal(alloc, number))?.as_str(),
+            held(alloc, &refusal(alloc, number)?)?.as_str(),
             line.as_str()
         );
     }
@@ -140,19 +120,8 @@ fn refusals_tell_their_code(rt: HostRuntime) -> Result<(), Fail> {
 #[test]
 fn messages_are_quoted(rt: HostRuntime) -> Result<(), Fail> {
     let alloc = rt.alloc();
-    let reply = status_reply(alloc, 403, "Forbidden", "no \"a\\b\"");
+    let reply = status_reply(alloc, 403, "Forbidden", "no \"a\\b\"")?;
     let line = refused(alloc, "403", "Forbidden", r#"no \"a\\b\""#)?;
-    assert_eq!(rt; held(alloc, reply)?.as_str(), line.as_str());
-    Ok(())
-}
-
-pub const SUCCESS: &str =
-    r#"200 application/json {"kind":"Status","apiVersion":"v1","metadata":{},"status":"Success","code":200}"#;
-
-#[test]
-fn other_replies(rt: HostRuntime) -> Result<(), Fail> {
-    let alloc = rt.alloc();
-    assert_eq!(rt; held(alloc, success(alloc))?.as_str(), SUCCESS);
-    assert_eq!(rt; Content::Plain.media_type(), "text/plain");
+    assert_eq!(rt; held(alloc, &reply)?.as_str(), line.as_str());
     Ok(())
 }
