@@ -1,0 +1,80 @@
+-- At level Metadata lines don't depend on bodies.
+use Rattle.std.proofs.Common.{◌≡◌, ℕ, List, [], ◌∷◌, map, refl, sym, ap, ◌∙◌}
+use Rattle.event_text.specs.Line.{line_text}
+use Rattle.front_base.specs.declared.info.Info.{Info}
+use Rattle.front_base.specs.declared.level.Level.TheVariants as level
+use Rattle.front_base.specs.declared.stage.Stage.{Stage}
+use Rattle.front_base.specs.declared.user.User.{User}
+use Rattle.http_edge.specs.declared.request.Request.{Request}
+use Rattle.http_head.specs.declared.request.Head.{Head}
+use Rattle.local_replies.specs.declared.reply.LocalReply.{LocalReply}
+use Rattle.policy_rules.specs.Policy.{first}
+use Rattle.policy_rules.specs.declared.decision.Decision.{Decision}
+use Rattle.policy_rules.specs.declared.omit.Omit.{Omit}
+use Rattle.request_info.specs.Request.{audit_info}
+use Rattle.stage_event.specs.Events.{event}
+use Rattle.stage_event.specs.Views.{with_bodies}
+use Rattle.stage_event.specs.declared.facts.Facts.{Facts}
+use Rattle.stage_event.specs.declared.facts.Kept.{Kept}
+use Rattle.token_users.specs.Who.{who, user_of}
+use Rattle.audit_core.specs.Errand.{user_in, info_in}
+use Rattle.audit_core.specs.Exchange.{IsExchange, AreFacts, facts_by, agent_in, decision_in}
+use Rattle.audit_core.specs.Owed.{line_at, lines_at, stages_due, owed_at, owed}
+use Rattle.audit_core.specs.declared.exchange.Exchange.{Exchange}
+use Rattle.audit_core.specs.declared.settings.Settings.{Settings}
+use Rattle.audit_core.specs.declared.stamp.Stamp.{Stamp}
+
+-- what a request asks for, by whom and how it is recorded are told by its head
+same_info : (r q : Request) → r.head ≡ q.head → info_in r ≡ info_in q
+unfolding info_in
+same_info r q e = ap (λ (h : Head). audit_info h.method h.target) e
+
+same_user : (set : Settings) (r q : Request) → r.head ≡ q.head → user_in set r ≡ user_in set q
+unfolding user_in
+same_user set r q e = ap (λ (h : Head). user_of (who set.tokens h)) e
+
+same_decision : (set : Settings) (r q : Request) → r.head ≡ q.head → decision_in set r ≡ decision_in set q
+unfolding decision_in
+same_decision set r q e =
+    ap (λ u. first set.policy u (info_in r)) (same_user set r q e) ∙ ap (first set.policy (user_in set q)) (same_info r q e)
+
+-- the same facts but for the bodies
+same_facts : (set : Settings) (stamp : Stamp) (r q : Request) (n m : ℕ) (a b : Kept) → r.head ≡ q.head → n ≡ m
+    → facts_by stamp r (info_in r) (user_in set r) n a b ≡ facts_by stamp q (info_in q) (user_in set q) m a b
+same_facts set stamp r q n m a b e s =
+    ap (λ (h : Head). facts_by stamp (record { head = h; body = r.body }) (info_in r) (user_in set r) n a b) e
+    ∙ ap (λ i. facts_by stamp q i (user_in set r) n a b) (same_info r q e)
+    ∙ ap (λ u. facts_by stamp q (info_in q) u n a b) (same_user set r q e)
+    ∙ ap (λ k. facts_by stamp q (info_in q) (user_in set q) k a b) s
+
+-- a level hides the bodies from every event
+abbrev pub HidesBodies : Type 0
+HidesBodies = (stage : Stage) (facts : Facts) (request reply : Kept)
+    → event stage level.Metadata (with_bodies request reply facts) ≡ event stage level.Metadata facts
+
+same_lines : HidesBodies → (facts : Facts) (a b : Kept) (ss : List Stage)
+    → map (line_at level.Metadata (with_bodies a b facts)) ss ≡ map (line_at level.Metadata facts) ss
+same_lines law facts a b [] = refl
+same_lines law facts a b (s ∷ ss) =
+    ap (λ e. line_text e ∷ map (line_at level.Metadata (with_bodies a b facts)) ss) (law s facts a b)
+    ∙ ap (λ l. line_at level.Metadata facts s ∷ l) (same_lines law facts a b ss)
+
+-- the lines of an exchange of that decision
+owed_as : (x : Exchange) (d : Decision) → x.decision ≡ d → d.level ≡ level.Metadata → owed x ≡ lines_at level.Metadata d.omit x.facts
+owed_as x d e l =
+    ap (λ (k : Decision). owed_at k.level k.omit x.facts) e ∙ ap (λ v. owed_at v d.omit x.facts) l
+
+pub metadata_owed : HidesBodies → (set : Settings) (stamp : Stamp) (r q : Request) (reply other : LocalReply) (x y : Exchange)
+    → IsExchange set stamp r reply x → IsExchange set stamp q other y → r.head ≡ q.head → reply.status ≡ other.status
+    → (decision_in set r).level ≡ level.Metadata → owed x ≡ owed y
+metadata_owed law set stamp r q reply other x y h k e s l =
+    let d = decision_in set r in
+    let a = x.facts.request in
+    let b = x.facts.reply in
+    let facts : x.facts ≡ with_bodies a b y.facts =
+    h.facts_are.facts_are ∙ same_facts set stamp r q reply.status other.status a b e s
+    ∙ sym (ap (with_bodies a b) k.facts_are.facts_are) in
+    owed_as x d h.decision_is l
+    ∙ ap (λ f. lines_at level.Metadata d.omit f) facts
+    ∙ same_lines law y.facts a b (stages_due d.omit y.facts.info)
+    ∙ sym (owed_as y d (k.decision_is ∙ sym (same_decision set r q e)) l)

@@ -1,0 +1,4 @@
+mod AnswerLemmas
+mod ExchangeLemmas
+mod JudgedLemmas
+mod StoryLemmas

@@ -1,0 +1,96 @@
+-- What is known of a request that was answered (Kubernetes, "Auditing").
+use Rattle.std.specs.Prelude.{◌≡◌, ℕ, Bool, true, false, if◌then◌else◌, List, [], Option, Some, None, codes, bytes_eq}
+use Rattle.std.specs.Str.Lossy.{utf8_lossy}
+use Rattle.apiservice_table.specs.declared.change.Change.{Change}
+use Rattle.apiservice_rows.specs.Row.{Row}
+use Rattle.front_base.specs.declared.info.Info.{Info}
+use Rattle.front_base.specs.declared.level.Level.{Level}
+use Rattle.front_base.specs.declared.user.User.{User}
+use Rattle.http_edge.specs.declared.request.Request.{Request}
+use Rattle.http_head.specs.Name.{first_value}
+use Rattle.http_head.specs.declared.header.Header.{Header}
+use Rattle.local_replies.specs.declared.reply.LocalReply.{LocalReply}
+use Rattle.policy_rules.specs.Policy.{first}
+use Rattle.policy_rules.specs.declared.decision.Decision.{Decision}
+use Rattle.request_info.specs.Request.{info_of}
+use Rattle.stage_event.specs.Due.{request_due, reply_due}
+use Rattle.stage_event.specs.Kept.{IsKept}
+use Rattle.stage_event.specs.declared.facts.Facts.{Facts}
+use Rattle.stage_event.specs.declared.facts.Kept.{Kept}
+use Rattle.stage_event.specs.declared.facts.Kept.TheVariants.{NotAsked}
+use Rattle.audit_core.specs.Answer.{Answers}
+use Rattle.audit_core.specs.Errand.{user_in, info_in, is_refused, errand_in}
+use Rattle.audit_core.specs.declared.exchange.Exchange.{Exchange}
+use Rattle.audit_core.specs.declared.judged.Asked.{Asked}
+use Rattle.audit_core.specs.declared.judged.Judged.{Judged}
+use Rattle.audit_core.specs.declared.settings.Settings.{Settings}
+use Rattle.audit_core.specs.declared.stamp.Stamp.{Stamp}
+
+-- how the request is recorded
+unfoldable pub decision_in : Settings → Request → Decision
+decision_in set r = first set.policy (user_in set r) (info_in r)
+
+-- the User-Agent header that stands first, with U+FFFD for what isn't UTF-8, or nothing
+abbrev pub agent_by : Option (List ℕ) → List ℕ
+agent_by None = []
+agent_by (Some value) = utf8_lossy value
+
+abbrev pub agent_in : List Header → List ℕ
+agent_in headers = agent_by (first_value (codes "user-agent") headers)
+
+-- the body that a client is sent: HEAD requests get none
+abbrev pub reply_body : List ℕ → LocalReply → List ℕ
+reply_body method reply = if bytes_eq method (codes "HEAD") then [] else reply.body
+
+-- the facts of a request with that stamp, that asks for this and counts as that user, was answered with that status, and of
+-- whose bodies this is kept
+abbrev pub facts_by : Stamp → Request → Info → User → ℕ → Kept → Kept → Facts
+facts_by stamp r info user status request reply = record {
+  id = stamp.id;
+  target = r.head.target;
+  info = info;
+  user = user;
+  peer = stamp.peer;
+  agent = agent_in r.head.headers;
+  status = status;
+  request = request;
+  reply = reply;
+  received = stamp.received;
+  started = stamp.started;
+  complete = stamp.complete;
+}
+
+-- a body that nobody has to look at isn't asked for
+abbrev pub IsKeptIf : Bool → List ℕ → Kept → Type 0
+IsKeptIf false body kept = kept ≡ NotAsked
+IsKeptIf true body kept = IsKept body kept
+
+-- these are the facts of a request that was answered so, whose bodies are looked at where the level shows them
+pub record AreFacts (stamp : Stamp) (r : Request) (info : Info) (user : User) (level : Level) (answer : LocalReply) (facts : Facts) : Type 0 where
+  pub request_is : IsKeptIf (request_due level info) r.body facts.request
+  pub reply_is : IsKeptIf (reply_due level info) (reply_body r.head.method answer) facts.reply
+  pub facts_are : facts ≡ facts_by stamp r info user answer.status facts.request facts.reply
+
+-- this is known of a request with that stamp that was answered so
+pub record IsExchange (set : Settings) (stamp : Stamp) (r : Request) (answer : LocalReply) (x : Exchange) : Type 0 where
+  pub decision_is : x.decision ≡ decision_in set r
+  pub facts_are : AreFacts stamp r (info_in r) (user_in set r) (decision_in set r).level answer x.facts
+
+-- a request was answered as it wants, over routes that others may change too, and this is known of it
+abbrev pub Settles : Settings → Stamp → Request → List Row → List Change → List (ℕ × Change) → List Change → List (ℕ × Change)
+    → Exchange → Type 0
+Settles set stamp r opening seen own new_seen new_own x =
+    (reply : LocalReply) × Answers (errand_in set r) opening seen own new_seen new_own reply × IsExchange set stamp r reply x
+
+-- ---- what the code learns on the way
+
+abbrev pub IsAsked : Request → Asked → Type 0
+IsAsked r asked =
+    (asked.info ≡ info_in r) × (asked.refused ≡ is_refused (info_of r.head.method r.head.target))
+
+abbrev pub IsJudged : Settings → Request → Judged → Type 0
+IsJudged set r judged =
+    (judged.info ≡ info_in r)
+    × (judged.user ≡ user_in set r)
+    × (judged.errand ≡ errand_in set r)
+    × (judged.decision ≡ decision_in set r)
