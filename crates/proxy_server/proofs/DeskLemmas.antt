@@ -6,35 +6,48 @@ use Rattle.front_config.specs.Load as load
 use Rattle.front_config.specs.Load.{Read, IsRead, load_of}
 use Rattle.front_config.specs.Words as words
 use Rattle.front_config.specs.Words.{command_of}
+use Rattle.front_config.specs.declared.command.Command.{Command}
 use Rattle.front_config.specs.declared.command.Command.TheVariants.{Explain}
 use Rattle.front_config.specs.declared.command.ExplainWords.{ExplainWords}
+use Rattle.front_config.specs.declared.fault.FileFault.{FileFault}
 use Rattle.front_config.specs.declared.fault.LoadFault.{LoadFault}
 use Rattle.front_config.specs.declared.fault.LoadFault.TheVariants as load_fault
+use Rattle.front_config.specs.declared.fault.Which.{Which}
 use Rattle.front_config.specs.declared.fault.WordsFault.{WordsFault}
 use Rattle.front_config.specs.declared.fault.WordsFault.TheVariants as words_fault
 use Rattle.front_config.specs.declared.files.Loaded.{Loaded}
-use Rattle.proxy_server.specs.Desk.{Told, Loads, IsRefused, Configures, Run, status_of_words, status_of_load}
+use Rattle.proxy_server.specs.Ports.{Told, Port, FilesPort, IsUntouched}
+use Rattle.proxy_server.specs.Desk.{Loads, IsRefused, Configures, Run, status_of_words, status_of_load}
 use Rattle.proxy_server.specs.Serving.{Serves}
 use Rattle.proxy_server.specs.Status.{code_of}
-use Rattle.proxy_server.specs.declared.settings.Settings.{Settings}
+use Rattle.proxy_server.specs.declared.setup.Setup.{Setup}
 use Rattle.proxy_server.specs.declared.status.Status.{Status}
 use Rattle.proxy_server.specs.declared.status.Status.TheVariants.{Done, Usage, Configuration, ReadFault, PortFault, NoMemory, WriteFault, NumbersSpent, Input}
 
-words_fault_is : {A : Type 0} (r : Result A WordsFault) (fault : WordsFault) → words.fault_of r ≡ Some fault → r ≡ Err fault
-words_fault_is (Ok a) fault e = absurd (cc e)
-words_fault_is (Err own) fault e = cc
+usage_due : (r : Result Command WordsFault) → words.Gives {A = ExplainWords} Explain (Err words_fault.Usage) r → r ≡ Err words_fault.Usage
+usage_due (Ok a) e = absurd (cc e)
+usage_due (Err own) e = cc
 
-load_fault_is : {A : Type 0} (r : Result A LoadFault) (fault : LoadFault) → load.fault_of r ≡ Some fault → r ≡ Err fault
-load_fault_is (Ok a) fault e = absurd (cc e)
-load_fault_is (Err own) fault e = cc
+limits_due : (r : Result Command WordsFault) (name : List ℕ) → words.Gives {A = ExplainWords} Explain (Err (words_fault.Limits name)) r
+    → r ≡ Err (words_fault.Limits name)
+limits_due (Ok a) name e = absurd (cc e)
+limits_due (Err own) name e = cc
+
+read_due : (r : Result Loaded LoadFault) (which : Which) → load.Gives (Err (load_fault.ReadFault which)) r → r ≡ Err (load_fault.ReadFault which)
+read_due (Ok a) which e = absurd (cc e)
+read_due (Err own) which e = cc
+
+file_due : (r : Result Loaded LoadFault) (which : Which) (fault : FileFault) → load.Gives (Err (load_fault.BadFile which fault)) r
+    → r ≡ Err (load_fault.BadFile which fault)
+file_due (Ok a) which fault e = absurd (cc e)
+file_due (Err own) which fault e = cc
 
 -- words that are no command are refused so
-pub words_refused : (line : List (List ℕ)) (told : Told) (failed0 failed : Option (Option (List ℕ))) (FilesRose : Type 0) (fault : WordsFault)
-    → words.Fails fault (words.fault_of (command_of line)) → IsRefused line told failed0 failed FilesRose (status_of_words fault)
-words_refused line told failed0 failed FilesRose words_fault.Usage h = words_fault_is (command_of line) words_fault.Usage h
-words_refused line told failed0 failed FilesRose (words_fault.Limits name) h =
-    inl (name, words_fault_is (command_of line) (words_fault.Limits name) h)
-words_refused line told failed0 failed FilesRose words_fault.NoMemory h = tt
+pub words_refused : (line : List (List ℕ)) (files : FilesPort) (fault : WordsFault)
+    → words.Gives {A = ExplainWords} Explain (Err fault) (command_of line) → IsRefused line files (status_of_words fault)
+words_refused line files words_fault.Usage h = usage_due (command_of line) h
+words_refused line files (words_fault.Limits name) h = inl (name, limits_due (command_of line) name h)
+words_refused line files words_fault.NoMemory h = tt
 
 -- what the reads of files gave
 abbrev pub loads_of : (line : List (List ℕ)) (told : Told) (explain : ExplainWords) (tokens policy services : Read) (loaded : Result Loaded LoadFault)
@@ -53,24 +66,27 @@ loads_of line told explain tokens policy services loaded c t p s l = record {
 }
 
 -- files that are not loaded are refused so
-pub load_refused : (line : List (List ℕ)) (told : Told) (failed0 failed : Option (Option (List ℕ))) (before after : ℕ) (explain : ExplainWords)
-    (tokens policy services : Read) (fault : LoadFault) → command_of line ≡ Ok (Explain explain) → IsRead told explain.files.tokens tokens
-    → IsRead told explain.files.policy policy → IsRead told explain.files.services services
-    → load.Fails fault (load.fault_of (load_of explain.files tokens policy services))
-    → load.HasCause {A = Loaded} explain.files before after failed0 failed (Err fault)
-    → IsRefused line told failed0 failed (Rose before after) (status_of_load fault)
-load_refused line told failed0 failed before after explain tokens policy services (load_fault.ReadFault which) c t p s h cause =
-    let e : load_of explain.files tokens policy services ≡ Err (load_fault.ReadFault which) = load_fault_is _ _ h in
-    (cause.0, (which, loads_of line told explain tokens policy services (Err (load_fault.ReadFault which)) c t p s e, cause.1))
-load_refused line told failed0 failed before after explain tokens policy services (load_fault.BadFile which fault) c t p s h cause =
-    let e : load_of explain.files tokens policy services ≡ Err (load_fault.BadFile which fault) = load_fault_is _ _ h in
-    inr (which, fault, loads_of line told explain tokens policy services (Err (load_fault.BadFile which fault)) c t p s e)
-load_refused line told failed0 failed before after explain tokens policy services load_fault.NoMemory c t p s h cause = tt
+pub load_refused : (line : List (List ℕ)) (files : FilesPort) (explain : ExplainWords)
+    (tokens policy services : Read) (fault : LoadFault) → command_of line ≡ Ok (Explain explain)
+    → IsRead files.before.told explain.files.tokens tokens
+    → IsRead files.before.told explain.files.policy policy → IsRead files.before.told explain.files.services services
+    → load.Gives (Err fault) (load_of explain.files tokens policy services)
+    → load.HasCause {A = Loaded} explain.files files.before.faults files.after.faults files.before.failed files.after.failed (Err fault)
+    → IsRefused line files (status_of_load fault)
+load_refused line files explain tokens policy services (load_fault.ReadFault which) c t p s h cause =
+    let e : load_of explain.files tokens policy services ≡ Err (load_fault.ReadFault which) = read_due _ which h in (
+      cause.0,
+      (which, loads_of line files.before.told explain tokens policy services (Err (load_fault.ReadFault which)) c t p s e, cause.1),
+    )
+load_refused line files explain tokens policy services (load_fault.BadFile which fault) c t p s h cause =
+    let e : load_of explain.files tokens policy services ≡ Err (load_fault.BadFile which fault) = file_due _ which fault h in
+    inr (which, fault, loads_of line files.before.told explain tokens policy services (Err (load_fault.BadFile which fault)) c t p s e)
+load_refused line files explain tokens policy services load_fault.NoMemory c t p s h cause = tt
 
 -- ---- what the words alone decide
 
-module _ (line : List (List ℕ)) (told : Told) (failed0 failed : Option (Option (List ℕ))) (left0 left w0 w : Option (List ℕ)) (FilesRose ReadRose WriteRose : Type 0) where
-  usage_by : (status : Status) → code_of status ≡ 2 → IsRefused line told failed0 failed FilesRose status → command_of line ≡ Err words_fault.Usage
+module _ (line : List (List ℕ)) (files : FilesPort) (input output : Port) where
+  usage_by : (status : Status) → code_of status ≡ 2 → IsRefused line files status → command_of line ≡ Err words_fault.Usage
   usage_by Usage e h = h
   usage_by Done e h = absurd h
   usage_by Configuration e h = absurd (cc e)
@@ -81,7 +97,7 @@ module _ (line : List (List ℕ)) (told : Told) (failed0 failed : Option (Option
   usage_by NumbersSpent e h = absurd h
   usage_by Input e h = absurd h
 
-  served_not : (set : Settings) (rows : List Row) (status : Status) → code_of status ≡ 2 → Serves set rows left0 left w0 w ReadRose WriteRose status → command_of line ≡ Err words_fault.Usage
+  served_not : (set : Setup) (rows : List Row) (status : Status) → code_of status ≡ 2 → Serves set rows input output status → command_of line ≡ Err words_fault.Usage
   served_not set rows Usage e h = absurd h
   served_not set rows Done e h = absurd (cc e)
   served_not set rows Configuration e h = absurd h
@@ -92,16 +108,16 @@ module _ (line : List (List ℕ)) (told : Told) (failed0 failed : Option (Option
   served_not set rows NumbersSpent e h = absurd (cc e)
   served_not set rows Input e h = absurd (cc e)
 
-  pub usage_is : (status : Status) → code_of status ≡ 2 → Run line told failed0 failed left0 left w0 w FilesRose ReadRose WriteRose status
+  pub usage_is : (status : Status) → code_of status ≡ 2 → Run line files input output status
       → command_of line ≡ Err words_fault.Usage
   usage_is status e run =
       ⊎_elim
-      (λ (q : IsRefused line told failed0 failed FilesRose status × (left ≡ left0) × (w ≡ w0)). usage_by status e q.0)
-      (λ (q : (set : Settings) × (rows : List Row) × Configures line told set rows × Serves set rows left0 left w0 w ReadRose WriteRose status).
+      (λ (q : IsRefused line files status × IsUntouched input × IsUntouched output). usage_by status e q.0)
+      (λ (q : (set : Setup) × (rows : List Row) × Configures line files.before.told set rows × Serves set rows input output status).
       served_not q.0 q.1 status e q.3)
       run
 
-  misused_by : (status : Status) → command_of line ≡ Err words_fault.Usage → IsRefused line told failed0 failed FilesRose status
+  misused_by : (status : Status) → command_of line ≡ Err words_fault.Usage → IsRefused line files status
       → (code_of status ≡ 2) ⊎ (code_of status ≡ 6)
   misused_by Usage e h = inl refl
   misused_by Done e h = absurd h
@@ -117,11 +133,11 @@ module _ (line : List (List ℕ)) (told : Told) (failed0 failed : Option (Option
   misused_by NumbersSpent e h = absurd h
   misused_by Input e h = absurd h
 
-  pub misused_is : (status : Status) → command_of line ≡ Err words_fault.Usage → Run line told failed0 failed left0 left w0 w FilesRose ReadRose WriteRose status
+  pub misused_is : (status : Status) → command_of line ≡ Err words_fault.Usage → Run line files input output status
       → (code_of status ≡ 2) ⊎ (code_of status ≡ 6)
   misused_is status e run =
       ⊎_elim
-      (λ (q : IsRefused line told failed0 failed FilesRose status × (left ≡ left0) × (w ≡ w0)). misused_by status e q.0)
-      (λ (q : (set : Settings) × (rows : List Row) × Configures line told set rows × Serves set rows left0 left w0 w ReadRose WriteRose status).
+      (λ (q : IsRefused line files status × IsUntouched input × IsUntouched output). misused_by status e q.0)
+      (λ (q : (set : Setup) × (rows : List Row) × Configures line files.before.told set rows × Serves set rows input output status).
       absurd (cc (e, q.2.loads.command)))
       run

@@ -1,6 +1,4 @@
-mod AnswerLemmas
 mod DeskLemmas
-mod JudgeLemmas
+mod LinesLemmas
 mod ListLemmas
 mod ServingLemmas
-mod TableLemmas

@@ -5,10 +5,9 @@ use Rattle.http_edge.specs.declared.request.End.{End}
 use Rattle.http_edge.specs.declared.request.End.TheVariants as end
 use Rattle.http_edge.specs.declared.request.Request.{Request}
 use Rattle.apiservice_rows.specs.Row.{Row}
-use Rattle.proxy_server.specs.Answer.{rows_after, rows_after_all}
-use Rattle.proxy_server.specs.Exchange.{IsLines}
-use Rattle.proxy_server.specs.Serving.{AreLines, FirstOf}
-use Rattle.proxy_server.specs.declared.settings.Settings.{Settings}
+use Rattle.proxy_server.specs.Lines.{AreLines, IsLines, rows_after, rows_after_all}
+use Rattle.proxy_server.specs.Serving.{FirstOf}
+use Rattle.proxy_server.specs.declared.setup.Setup.{Setup}
 
 on_false : (t : Bool) (P Q : Type 0) → t ≡ false → Q → on_asks t P Q
 on_false t P Q e q = subst (λ s. on_asks s P Q) (sym e) q
@@ -86,12 +85,12 @@ stop_whole law bytes ys end.BodyTooLarge P s n f = law bytes ys end.BodyTooLarge
 
 -- ---- their lines
 
-pub rows_after_one : (set : Settings) (rows : List Row) (rs : List Request) (r : Request)
+pub rows_after_one : (set : Setup) (rows : List Row) (rs : List Request) (r : Request)
     → rows_after_all set rows (rs ++ r ∷ []) ≡ rows_after set (rows_after_all set rows rs) r
 rows_after_one set rows [] r = refl
 rows_after_one set rows (q ∷ rs) r = rows_after_one set (rows_after set rows q) rs r
 
-pub lines_one : (set : Settings) (n m : ℕ) (rows : List Row) (rs : List Request) (r : Request) (text own : List ℕ) → n + length rs ≡ m
+pub lines_one : (set : Setup) (n m : ℕ) (rows : List Row) (rs : List Request) (r : Request) (text own : List ℕ) → n + length rs ≡ m
     → AreLines set n rows rs text → IsLines set (rows_after_all set rows rs) m r own → AreLines set n rows (rs ++ r ∷ []) (text ++ own)
 lines_one set n m rows [] r text own e h is =
     let place : m ≡ n = sym e ∙ omega arith in

@@ -1,7 +1,6 @@
 pub mod Adapters
-pub mod Answer
 pub mod Desk
-pub mod Exchange
-pub mod Route
+pub mod Lines
+pub mod Ports
 pub mod Serving
 pub mod Status

@@ -1,6 +1,8 @@
 -- What a run over the requests of an input writes, and how it ends.
-use Rattle.std.specs.Prelude.{◌≡◌, ℕ, ◌+◌, ◌⊎◌, List, [], ◌∷◌, ◌++◌, length, Option, IfSome}
+use Rattle.std.specs.Prelude.{◌≡◌, ℕ, ◌≤◌, ◌⊎◌, List, [], ◌∷◌, ◌++◌, length, Option, Some, None, IfSome}
 use Rattle.std.specs.Io.KnownBytes.{Appends, Consumes}
+use Rattle.apiservice_rows.specs.Row.{Row}
+use Rattle.front_base.specs.declared.audit_id.TheConstants.{MOST_REQUESTS}
 use Rattle.front_ports.specs.Written.{AppendsFront}
 use Rattle.http_edge.specs.Requests.{IsRequests, IsUnfinished, ReadsTo, StartsWith, asks, on_asks}
 use Rattle.http_edge.specs.declared.request.End.{End}
@@ -8,70 +10,70 @@ use Rattle.http_edge.specs.declared.request.End.TheVariants as end_case
 use Rattle.http_edge.specs.declared.request.Request.{Request}
 use Rattle.http_edge.specs.declared.request.Stop.{Stop}
 use Rattle.http_edge.specs.declared.request.Stop.TheVariants as stop_case
-use Rattle.apiservice_rows.specs.Row.{Row}
-use Rattle.proxy_server.specs.Answer.{rows_after, rows_after_all}
-use Rattle.proxy_server.specs.Exchange.{IsLines}
-use Rattle.proxy_server.specs.declared.serving.TheConstants.{MOST_REQUESTS}
-use Rattle.proxy_server.specs.declared.settings.Settings.{Settings}
+use Rattle.proxy_server.specs.Lines.{AreLines, rows_after_all}
+use Rattle.proxy_server.specs.Ports.{Port, HasFailed, IsSound}
+use Rattle.proxy_server.specs.declared.setup.Setup.{Setup}
 use Rattle.proxy_server.specs.declared.status.Status.{Status}
 use Rattle.proxy_server.specs.declared.status.Status.TheVariants.{Done, ReadFault, NoMemory, WriteFault, NumbersSpent, Input}
-
--- the lines of these requests, the first of which has this number and is answered by these rows
-abbrev pub AreLines : Settings → ℕ → List Row → List Request → List ℕ → Type 0
-AreLines set n rows [] text = text ≡ []
-AreLines set n rows (r ∷ rs) text =
-    (own : List ℕ) × (others : List ℕ) × IsLines set rows n r own × AreLines set (n + 1) (rows_after set rows r) rs others
-    × (text ≡ own ++ others)
 
 -- the bytes begin with these requests
 abbrev pub FirstOf : List ℕ → List Request → Type 0
 FirstOf bytes [] = Unit {0}
 FirstOf bytes (r ∷ rs) = (after : List ℕ) × StartsWith bytes r after × on_asks (asks r) (rs ≡ []) (FirstOf after rs)
 
--- all requests of the input, which end so, and their lines. `left0` and `left` are what the source told before and
--- after, `w0` and `w` what the sink did
-pub record ServedAll (set : Settings) (rows : List Row) (left0 left w0 w : Option (List ℕ)) (end : End) : Type 0 where
+-- bytes that are told begin with these
+abbrev pub BeginsWith : Option (List ℕ) → List ℕ → Type 0
+BeginsWith None taken = Unit {0}
+BeginsWith (Some bytes) taken = (rest : List ℕ) × (bytes ≡ taken ++ rest)
+
+-- all requests of the input, which end so, and their lines. `taken` is what was read of it
+pub record ServedAll (set : Setup) (rows : List Row) (input output : Port) (end : End) : Type 0 where
   pub requests : List Request
+  pub few : length requests ≤ MOST_REQUESTS
   pub taken : List ℕ
-  pub consumed : Consumes left0 left taken
+  pub consumed : Consumes input.before.told input.after.told taken
   pub list : IsRequests taken requests end
-  pub whole : IfSome left0 (λ input. IsRequests input requests end)
+  pub whole : IfSome input.before.told (λ bytes. IsRequests bytes requests end)
   pub text : List ℕ
   pub lines : AreLines set 0 rows requests text
-  pub written : Appends w0 w text
+  pub written : Appends output.before.told output.after.told text
 
 -- the requests that stand whole in the bytes taken, and their lines
-pub record ServedTaken (set : Settings) (rows : List Row) (left0 left w0 w : Option (List ℕ)) : Type 0 where
+pub record ServedTaken (set : Setup) (rows : List Row) (input output : Port) : Type 0 where
   pub requests : List Request
+  pub few : length requests ≤ MOST_REQUESTS
   pub taken : List ℕ
   pub rest : List ℕ
-  pub consumed : Consumes left0 left taken
+  pub consumed : Consumes input.before.told input.after.told taken
   pub reads : ReadsTo taken requests rest
   pub awaits : IsUnfinished rest
   pub text : List ℕ
   pub lines : AreLines set 0 rows requests text
-  pub written : Appends w0 w text
+  pub written : Appends output.before.told output.after.told text
 
 -- the first 2^48 requests, which have all numbers, and their lines; one more stands next
-pub record ServedMost (set : Settings) (rows : List Row) (left0 left w0 w : Option (List ℕ)) : Type 0 where
+pub record ServedMost (set : Setup) (rows : List Row) (input output : Port) : Type 0 where
   pub requests : List Request
   pub next : Request
   pub taken : List ℕ
-  pub consumed : Consumes left0 left taken
+  pub consumed : Consumes input.before.told input.after.told taken
   pub first : FirstOf taken (requests ++ next ∷ [])
-  pub whole : IfSome left0 (λ input. FirstOf input (requests ++ next ∷ []))
+  pub whole : IfSome input.before.told (λ bytes. FirstOf bytes (requests ++ next ∷ []))
   pub all : length requests ≡ MOST_REQUESTS
   pub text : List ℕ
   pub lines : AreLines set 0 rows requests text
-  pub written : Appends w0 w text
+  pub written : Appends output.before.told output.after.told text
 
--- a front of the lines of the first requests
-pub record ServedFront (set : Settings) (rows : List Row) (left0 w0 w : Option (List ℕ)) : Type 0 where
+-- a prefix of the lines of the first requests of the bytes taken, which are the first of the input
+pub record ServedFront (set : Setup) (rows : List Row) (input output : Port) : Type 0 where
   pub requests : List Request
-  pub whole : IfSome left0 (λ input. FirstOf input requests)
+  pub few : length requests ≤ MOST_REQUESTS
+  pub taken : List ℕ
+  pub begins : BeginsWith input.before.told taken
+  pub first : FirstOf taken requests
   pub text : List ℕ
   pub lines : AreLines set 0 rows requests text
-  pub written : AppendsFront w0 w text
+  pub written : AppendsFront output.before.told output.after.told text
 
 -- the status by which an end of the list of requests is told
 abbrev pub status_of : End → Status
@@ -79,25 +81,19 @@ status_of end_case.Ended = Done
 status_of end_case.Asked = Done
 status_of _ = Input
 
--- what each status says, the others being none that this run has. The first request is answered by these rows. `ReadRose`
--- and `WriteRose` say that a count of faults rose
-abbrev pub Serves : Settings → List Row → Option (List ℕ) → Option (List ℕ) → Option (List ℕ) → Option (List ℕ) → Type 0 → Type 0 → Status → Type 0
-Serves set rows left0 left w0 w ReadRose WriteRose Done =
-    (end : End) × (status_of end ≡ Done) × ServedAll set rows left0 left w0 w end
-Serves set rows left0 left w0 w ReadRose WriteRose Input =
-    (end : End) × (status_of end ≡ Input) × ServedAll set rows left0 left w0 w end
-Serves set rows left0 left w0 w ReadRose WriteRose ReadFault = ReadRose × ServedTaken set rows left0 left w0 w
-Serves set rows left0 left w0 w ReadRose WriteRose WriteFault = WriteRose × ServedFront set rows left0 w0 w
-Serves set rows left0 left w0 w ReadRose WriteRose NumbersSpent = ServedMost set rows left0 left w0 w
-Serves set rows left0 left w0 w ReadRose WriteRose NoMemory = ServedFront set rows left0 w0 w
-Serves set rows left0 left w0 w ReadRose WriteRose _ = ⊥
+-- what each status says, the others being none that this run has. The first request is answered by these rows
+abbrev pub Serves : Setup → List Row → Port → Port → Status → Type 0
+Serves set rows input output Done =
+    (end : End) × (status_of end ≡ Done) × ServedAll set rows input output end × IsSound output
+Serves set rows input output Input =
+    (end : End) × (status_of end ≡ Input) × ServedAll set rows input output end × IsSound output
+Serves set rows input output ReadFault = HasFailed input × ServedTaken set rows input output
+Serves set rows input output WriteFault = HasFailed output × ServedFront set rows input output
+Serves set rows input output NumbersSpent = ServedMost set rows input output
+Serves set rows input output NoMemory = ServedFront set rows input output
+Serves set rows input output _ = ⊥
 
 -- ---- what the calls within a run do
-
--- the lines of a request are added, which these rows answer, and these are the rows after it
-abbrev pub Adds : Settings → ℕ → Request → List Row → List Row → List ℕ → List ℕ → Type 0
-Adds set n r rows rows_now old new =
-    (own : List ℕ) × IsLines set rows n r own × (new ≡ old ++ own) × (rows_now ≡ rows_after set rows r)
 
 -- how a run ends where it comes to a stop
 abbrev pub status_of_stop : Stop → Status
@@ -105,25 +101,28 @@ status_of_stop (stop_case.Refused end) = status_of end
 status_of_stop stop_case.ReadFault = ReadFault
 status_of_stop stop_case.NoMemory = NoMemory
 
--- the last lines were written, or a front of them where a write failed
-abbrev pub Closes : Option (List ℕ) → Option (List ℕ) → List ℕ → Type 0 → Status → Status → Type 0
-Closes w0 w text WriteRose status result =
-    ((result ≡ status) × Appends w0 w text) ⊎ ((result ≡ WriteFault) × WriteRose × AppendsFront w0 w text)
+-- the last lines were written, or a prefix of them where a write failed
+abbrev pub Closes : Port → List ℕ → Status → Status → Type 0
+Closes output text status result =
+    ((result ≡ status) × Appends output.before.told output.after.told text × IsSound output)
+    ⊎ ((result ≡ WriteFault) × HasFailed output × AppendsFront output.before.told output.after.told text)
 
--- a front of the lines was written, and this is left
+-- a prefix of the lines was written, and this is left
 pub record Spilled (w0 w : Option (List ℕ)) (old new : List ℕ) : Type 0 where
   pub front : List ℕ
   pub split : old ≡ front ++ new
   pub written : Appends w0 w front
 
 -- so far: these requests were read from the bytes taken, and these bytes are held; a part of their lines was written, and
--- the other part is pending; these are the rows now
-pub record Served (set : Settings) (rows rows_now : List Row) (left0 left : Option (List ℕ)) (held : List ℕ) (w0 w : Option (List ℕ)) (pending : List ℕ) (number : ℕ) : Type 0 where
+-- the other part is pending; these are the rows now. `left0`, `left`, `w0` and `w` are what source and sink told at first
+-- and tell now
+pub record Served (set : Setup) (rows rows_now : List Row) (left0 left : Option (List ℕ)) (held : List ℕ) (w0 w : Option (List ℕ)) (pending : List ℕ) (number : ℕ) : Type 0 where
   pub requests : List Request
   pub taken : List ℕ
   pub consumed : Consumes left0 left taken
   pub reads : ReadsTo taken requests held
   pub count : length requests ≡ number
+  pub few : length requests ≤ MOST_REQUESTS
   pub sent : List ℕ
   pub written : Appends w0 w sent
   pub lines : AreLines set 0 rows requests (sent ++ pending)

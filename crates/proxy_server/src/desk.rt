@@ -3,16 +3,17 @@ ghost use Rattle.std.specs.Prelude.{◌≡◌, ◌≤◌, ◌⊎◌, Err, IfErr,
 ghost use Rattle.front_config.specs.Words.{Gives, command_of};
 ghost use Rattle.front_config.specs.declared.command.Command.TheVariants.{Explain};
 ghost use Rattle.front_config.specs.declared.fault.WordsFault.TheVariants as words_fault;
-ghost use Rattle.front_ports.specs.Cause.{Rose};
 ghost use Rattle.front_ports.specs.FileMap.{KeepsFiles};
 ghost use Rattle.proxy_server.specs.Desk as spec;
+ghost use Rattle.proxy_server.specs.Ports.{files_port, port};
 ghost use Rattle.proxy_server.specs.Status.{code_of};
 ghost use Rattle.proxy_server.specs.declared.status.Status.{Status};
 
 use crate::serving::serve_requests;
-use crate::settings::Settings;
+use crate::setup::Setup;
 use crate::status::Status;
 use apiservice_table::{RouteTable, TableRoutes};
+use audit_core::Settings;
 use front_config::{Command, ExplainWords, LoadFault, Loaded, WordsFault, load, read_words};
 use front_ports::{ByteSink, Files, Source};
 use local_replies::LocalPaths;
@@ -51,18 +52,20 @@ fn explain_words(alloc: Global, words: &Vec<String>) -> Result<ExplainWords, Wor
 // What a run begins with.
 #[derive(Drop)]
 struct Start {
-    settings: Settings,
+    setup: Setup,
     table: RouteTable,
 }
 
 fn start_of(explain: ExplainWords, loaded: Loaded) -> Start
-    ensures settings { result.settings ≡ spec.settings_of explain loaded }
+    ensures setup { result.setup ≡ spec.setup_of explain loaded }
     ensures table { result.table ≡ loaded.table }
 {
     Start {
-        settings: Settings {
-            tokens: loaded.tokens,
-            policy: loaded.policy,
+        setup: Setup {
+            settings: Settings {
+                tokens: loaded.tokens,
+                policy: loaded.policy,
+            },
             moment: explain.moment,
         },
         table: loaded.table,
@@ -72,9 +75,10 @@ fn start_of(explain: ExplainWords, loaded: Loaded) -> Start
 // What words and files tell a run, and the table that it begins with, or why it is refused.
 fn configure<F: Files>(alloc: Global, words: &Vec<String>, files: &mut F) -> Result<Start, Status>
     ensures ok { IfOk result (λ told.
-        spec.Configures (map string_bytes words.now.items) (F.files files.old) told.settings told.table.rows) }
-    ensures err { IfErr result (spec.IsRefused (map string_bytes words.now.items) (F.files files.old)
-        (F.failed files.old) (F.failed files.new) (Rose (F.faults files.old) (F.faults files.new))) }
+        spec.Configures (map string_bytes words.now.items) (F.files files.old) told.setup told.table.rows) }
+    ensures err { IfErr result (spec.IsRefused (map string_bytes words.now.items)
+        (files_port (F.files files.old) (F.failed files.old) (F.faults files.old)
+        (F.files files.new) (F.failed files.new) (F.faults files.new))) }
     ensures kept { KeepsFiles (F.files files.old) (F.files files.new) }
     ensures later { F.faults files.old ≤ F.faults files.new }
 {
@@ -96,12 +100,12 @@ fn desk<F: Files, S: Source, O: ByteSink>(
     input: &mut S,
     out: &mut O,
 ) -> Status
-    ensures run { spec.Run (map string_bytes words.now.items) (F.files files.old)
-        (F.failed files.old) (F.failed files.new)
-        (S.left input.old) (S.left input.new) (O.written out.old) (O.written out.new)
-        (Rose (F.faults files.old) (F.faults files.new))
-        (Rose (S.read_faults input.old) (S.read_faults input.new))
-        (Rose (O.write_faults out.old) (O.write_faults out.new)) result }
+    ensures run { spec.Run (map string_bytes words.now.items)
+        (files_port (F.files files.old) (F.failed files.old) (F.faults files.old)
+        (F.files files.new) (F.failed files.new) (F.faults files.new))
+        (port (S.left input.old) (S.read_faults input.old) (S.left input.new) (S.read_faults input.new))
+        (port (O.written out.old) (O.write_faults out.old) (O.written out.new) (O.write_faults out.new))
+        result }
     ensures kept { KeepsFiles (F.files files.old) (F.files files.new) }
     ensures files_later { F.faults files.old ≤ F.faults files.new }
     ensures read_later { S.read_faults input.old ≤ S.read_faults input.new }
@@ -117,18 +121,23 @@ fn desk<F: Files, S: Source, O: ByteSink>(
     let Ok(mut routes) = TableRoutes::new(alloc, told.table) else {
         return Status::NoMemory;
     };
-    serve_requests(alloc, &told.settings, &paths, &mut routes, input, out)
+    serve_requests(alloc, &told.setup, &paths, &mut routes, input, out)
 }
 
 /// The command `explain`: reads the requests of an input and writes the audit lines that each of them owes, each with a
 /// line feed, under the policy and the tokens of the files that the words name, and by the APIServices of the third one,
 /// which the requests may change.
 ///
-/// It answers the code of a `Status`: `Done` where the input was read to its end, or to a request that asks to close;
-/// `Usage` where the words, which are those after the program's name, are no command line; `Configuration` where an
-/// option is out of its range or a file says what can't be; `ReadFault` where a file or the input could not be read;
-/// `WriteFault`; `Input` where a request is refused or cut short; `NumbersSpent` after 2^48 requests; `NoMemory`. Memory
-/// is bounded by one request, the files, and the changes of the table that were made.
+/// It answers the code of a `Status`: `Done` where the input was read to its end, or to the last request of its
+/// connection; `Usage` where the words, which are those after the program's name, are no command line; `Configuration`
+/// where an option is out of its range or a file is invalid; `ReadFault` where a file or the input could not be read;
+/// `WriteFault`; `Input` where a request is refused or cut short; `NumbersSpent` where 2^48 requests were served and one
+/// more stands next; `NoMemory`. After `Done` and `Input` no write failed. After `WriteFault` and `NoMemory` a prefix of
+/// the lines was written. Memory is bounded by one request, the lines that wait to be written, the files, and the changes
+/// of the table that were made.
+///
+/// What the clause says of bytes holds where a port tells them, as those in memory do. Of an input that tells nothing it
+/// says that some bytes were read which have these requests, and of an output that tells nothing it says nothing.
 pub fn run_desk<F: Files, S: Source, O: ByteSink>(
     alloc: Global,
     words: &Vec<String>,
@@ -137,12 +146,12 @@ pub fn run_desk<F: Files, S: Source, O: ByteSink>(
     out: &mut O,
 ) -> u8
     ensures run { (status : Status) × (result ≡ code_of status)
-        × spec.Run (map string_bytes words.now.items) (F.files files.old)
-        (F.failed files.old) (F.failed files.new)
-        (S.left input.old) (S.left input.new) (O.written out.old) (O.written out.new)
-        (Rose (F.faults files.old) (F.faults files.new))
-        (Rose (S.read_faults input.old) (S.read_faults input.new))
-        (Rose (O.write_faults out.old) (O.write_faults out.new)) status }
+        × spec.Run (map string_bytes words.now.items)
+        (files_port (F.files files.old) (F.failed files.old) (F.faults files.old)
+        (F.files files.new) (F.failed files.new) (F.faults files.new))
+        (port (S.left input.old) (S.read_faults input.old) (S.left input.new) (S.read_faults input.new))
+        (port (O.written out.old) (O.write_faults out.old) (O.written out.new) (O.write_faults out.new))
+        status }
 
     // The words alone decide on `Usage`.
     ensures usage { result ≡ code_of Status.Usage

@@ -3,26 +3,26 @@
 //! The main contract is that of `run_desk`, the command `explain`: how it ended, what it read, and what it wrote, which
 //! is the audit lines that the requests of its input owe, one after another, under the tokens and the policy of the files
 //! that its words name, and by the APIServices of a third one as the requests before left them. It takes no leave to wait,
-//! and always returns.
+//! and always returns. What a request wants, is answered and owes is said in `audit_core`, and nothing of it here.
+//!
+//! Over files, a source and a sink in memory, which tell what they hold, this fixes each byte of the output. Standard
+//! input and output tell nothing: of a run over them the contract says only that some bytes with these requests were read,
+//! and nothing of what was written. It is one piece of code that serves both, and can't see which it has. `ReaderSource`,
+//! `WriterSink` and `SystemFiles` are the few lines between it and the system, and tests alone show what they do.
 //!
 //! Nothing is promised of what a real file or terminal holds, nor of time.
 #![tactic(auto)]
 
 mod adapters;
-mod answer;
 mod desk;
-mod facts;
-mod judge;
 mod lines;
-mod route;
 mod serving;
-mod settings;
+mod setup;
 mod status;
 mod system_files;
 
 pub use adapters::{ReaderSource, WriterSink};
 pub use desk::run_desk;
-pub use serving::MOST_REQUESTS;
 pub use status::Status;
 pub use system_files::SystemFiles;
 

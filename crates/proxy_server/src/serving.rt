@@ -1,21 +1,20 @@
 // A run over the requests of an input, one after another.
 ghost use Rattle.std.specs.Prelude.{◌≡◌, ◌≤◌, OnErr, OnOk};
-ghost use Rattle.front_ports.specs.Cause.{Rose};
-ghost use Rattle.proxy_server.specs.Answer.{rows_of};
-ghost use Rattle.proxy_server.specs.Serving as spec;
+ghost use Rattle.apiservice_table.specs.Changes.{rows_of};
+ghost use Rattle.front_ports.specs.Cause.{HasCause};
 ghost use Rattle.front_ports.specs.Written.{AppendsFront};
+ghost use Rattle.proxy_server.specs.Ports.{port};
+ghost use Rattle.proxy_server.specs.Serving as spec;
 
 use crate::lines::add_lines;
-use crate::settings::Settings;
+use crate::setup::Setup;
 use crate::status::Status;
 use apiservice_table::TableRoutes;
+use front_base::MOST_REQUESTS;
 use front_ports::{ByteSink, PortFault, Source, write_all};
 use http_edge::{Edge, End, Stop, asks, requests_stay};
 use local_replies::LocalPaths;
 use std::alloc::Global;
-
-/// The most requests of one run, which is how many numbers an audit ID has.
-pub const MOST_REQUESTS: u64 = 281_474_976_710_656;
 
 // Lines are gathered until they have so many bytes, and written together.
 const WRITE_BYTES: usize = 65_536;
@@ -33,8 +32,9 @@ fn status_of_stop(stop: Stop) -> Status
 
 // Writes the last lines, and answers how the run ended.
 fn close<O: ByteSink>(out: &mut O, pending: &[u8], status: Status) -> Status
-    ensures closes { spec.Closes (O.written out.old) (O.written out.new) pending.now
-        (Rose (O.write_faults out.old) (O.write_faults out.new)) status result }
+    ensures closes { spec.Closes
+        (port (O.written out.old) (O.write_faults out.old) (O.written out.new) (O.write_faults out.new))
+        pending.now status result }
     ensures later { O.write_faults out.old ≤ O.write_faults out.new }
 {
     match write_all(out, pending) {
@@ -47,8 +47,7 @@ fn close<O: ByteSink>(out: &mut O, pending: &[u8], status: Status) -> Status
 fn spill<O: ByteSink>(out: &mut O, pending: &mut Vec<u8>) -> Result<(), PortFault>
     ensures ok { OnOk result (spec.Spilled (O.written out.old) (O.written out.new) pending.old.items pending.new.items) }
     ensures err { OnErr result (AppendsFront (O.written out.old) (O.written out.new) pending.old.items) }
-    ensures rose { OnErr result (Rose (O.write_faults out.old) (O.write_faults out.new)) }
-    ensures later { O.write_faults out.old ≤ O.write_faults out.new }
+    ensures cause { HasCause (O.write_faults out.old) (O.write_faults out.new) result }
 {
     if pending.len() < WRITE_BYTES {
         return Ok(());
@@ -62,16 +61,16 @@ fn spill<O: ByteSink>(out: &mut O, pending: &mut Vec<u8>) -> Result<(), PortFaul
 /// from 0 on, and each is answered by the table as those before it left it.
 pub fn serve_requests<S: Source, O: ByteSink>(
     alloc: Global,
-    settings: &Settings,
+    setup: &Setup,
     paths: &LocalPaths,
     routes: &mut TableRoutes,
     input: &mut S,
     out: &mut O,
 ) -> Status
-    ensures run { spec.Serves settings.now (rows_of routes.old)
-        (S.left input.old) (S.left input.new) (O.written out.old) (O.written out.new)
-        (Rose (S.read_faults input.old) (S.read_faults input.new))
-        (Rose (O.write_faults out.old) (O.write_faults out.new)) result }
+    ensures run { spec.Serves setup.now (rows_of routes.old)
+        (port (S.left input.old) (S.read_faults input.old) (S.left input.new) (S.read_faults input.new))
+        (port (O.written out.old) (O.write_faults out.old) (O.written out.new) (O.write_faults out.new))
+        result }
     ensures read_later { S.read_faults input.old ≤ S.read_faults input.new }
     ensures write_later { O.write_faults out.old ≤ O.write_faults out.new }
 {
@@ -89,15 +88,7 @@ pub fn serve_requests<S: Source, O: ByteSink>(
         if number == MOST_REQUESTS {
             return close(out, pending.as_slice(), Status::NumbersSpent);
         }
-        match add_lines(
-            alloc,
-            settings,
-            paths,
-            routes,
-            number,
-            &request,
-            &mut pending,
-        ) {
+        match add_lines(alloc, setup, paths, routes, number, &request, &mut pending) {
             Ok(()) => {}
             Err(_) => return close(out, pending.as_slice(), Status::NoMemory),
         }

@@ -8,7 +8,7 @@ pub enum Status {
     Done,
     /// The words are no command line.
     Usage,
-    /// An option is out of its range, or a file says what can't be.
+    /// An option is out of its range, or a file is invalid.
     Configuration,
     /// A file or the input could not be read.
     ReadFault,

@@ -1,18 +1,20 @@
 // The files of the system.
 ghost use Rattle.std.specs.Prelude.{◌≤◌, IfOk, vec_len};
 
-use front_base::{Bytes, Text};
-use front_ports::{FileFail, Files, MOST_FILE_BYTES};
+use front_base::{Bytes, MOST_FILE_BYTES, Text};
+use front_ports::{FileFail, Files};
 use std::alloc::Global;
 use std::io::Read;
 use std::{fs, rt};
 
-/// Files by their paths. It counts the reads that fail, and keeps the path of the last one.
+/// Files by their paths. It counts the reads that fail, and keeps the path of the last one, as long as memory suffices.
 #[derive(Drop)]
 pub struct SystemFiles<'r, R> {
     rt: &'r R,
     faults: u64,
     failed: Option<Text>,
+    // a path could not be kept
+    lost: bool,
 }
 
 impl<'r, R: rt::Files> SystemFiles<'r, R> {
@@ -21,6 +23,7 @@ impl<'r, R: rt::Files> SystemFiles<'r, R> {
             rt,
             faults: 0,
             failed: None,
+            lost: false,
         }
     }
 }
@@ -56,19 +59,22 @@ fn read_file<R: rt::Files>(alloc: Global, rt: &R, name: &str) -> Result<Vec<u8>,
 }
 
 impl<'r, R: rt::Files> Files for SystemFiles<'r, R> {
-    ghost use Rattle.std.specs.Prelude.{Some, None};
+    ghost use Rattle.std.specs.Prelude.{Some, None, if◌then◌else◌};
 
     ghost files = { λ _. None };
 
     ghost faults = { λ f. f.faults };
 
-    ghost failed = { λ f. Some f.failed };
+    ghost failed = { λ f. (if f.lost then None else Some f.failed) };
 
     fn read(&mut self, alloc: Global, name: &str) -> Result<Bytes, FileFail> {
         match read_file(alloc, self.rt, name) {
             Ok(bytes) => Ok(Bytes::new(bytes)),
             Err(FileFail::Fault) => {
-                self.failed = Some(Text::copy_of(alloc, name)?);
+                match Text::copy_of(alloc, name) {
+                    Ok(path) => self.failed = Some(path),
+                    Err(_) => self.lost = true,
+                }
                 self.faults = self.faults.saturating_add(1);
                 Err(FileFail::Fault)
             }

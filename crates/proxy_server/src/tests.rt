@@ -1,21 +1,21 @@
 ghost use Rattle.std.specs.Prelude.{None, []};
 
-use crate::{ReaderSource, Status, WriterSink, run_desk};
+use crate::{ReaderSource, Status, SystemFiles, WriterSink, run_desk};
 use front_base::Bytes;
 use front_ports::{
     ByteSink, FileFail, Files, MemBytes, MemConn, PortFault, Script, Source, write_all,
 };
 use std::alloc::{AllocError, Global};
+use std::fs;
+use std::fs::File;
 use std::test::Fail;
 
 const LIST_PODS: &str = "GET /api/v1/namespaces/a/pods HTTP/1.1\r\nHost: front\r\n\r\n";
 
-// Everything of namespaces `a` to `c` by what operators write most, and nothing of secrets.
+// Nothing of secrets, and bodies of configmaps.
 const POLICY: &str = "{\"kind\":\"Policy\",\"apiVersion\":\"audit.k8s.io/v1\",\"rules\":[\
 {\"level\":\"None\",\"resources\":[{\"group\":\"\",\"resources\":[\"secrets\"]}]},\
 {\"level\":\"Request\",\"resources\":[{\"group\":\"\",\"resources\":[\"configmaps\"]}]},\
-{\"level\":\"RequestResponse\",\"verbs\":[\"update\"]},\
-{\"level\":\"Metadata\",\"omitStages\":[\"RequestReceived\"],\"namespaces\":[\"b\"]},\
 {\"level\":\"Metadata\"}]}";
 
 const TOKENS: &str = "t1,ann,7,\"dev,ops\"\nt2,root,1,\"system:masters\"\n";
@@ -106,8 +106,8 @@ fn run_over_memory(
     })
 }
 
-// The line of an event of a list of pods, up to its moments.
-fn pods_line(alloc: Global, stage: &str, status: &str) -> Result<String, AllocError> {
+// The line of an event of a list of pods.
+fn pods_line(alloc: Global, stage: &str, status: &str, moment: &str) -> Result<String, AllocError> {
     format!(in alloc;
         "{{\"kind\":\"Event\",\"apiVersion\":\"audit.k8s.io/v1\",\"level\":\"Metadata\",\
          \"auditID\":\"00000000-0000-0000-0000-000000000000\",\"stage\":\"{stage}\",\
@@ -115,24 +115,31 @@ fn pods_line(alloc: Global, stage: &str, status: &str) -> Result<String, AllocEr
          \"user\":{{\"username\":\"system:anonymous\",\"groups\":[\"system:unauthenticated\"]}},\
          \"sourceIPs\":[\"127.0.0.1\"],\
          \"objectRef\":{{\"resource\":\"pods\",\"namespace\":\"a\",\"apiVersion\":\"v1\"}},{status}\
-         \"requestReceivedTimestamp\":\"1970-01-01T00:00:00.000000Z\",\
-         \"stageTimestamp\":\"1970-01-01T00:00:00.000000Z\"}}\n"
+         \"requestReceivedTimestamp\":\"{moment}\",\"stageTimestamp\":\"{moment}\"}}\n"
     )
 }
+
+// A command line, and the moment of its events.
+const MOMENTS: &str = "\
+explain|1970-01-01T00:00:00.000000Z
+explain --moment=1735689600123456|2025-01-01T00:00:00.123456Z
+explain --moment 253370764799999999|9998-12-31T23:59:59.999999Z
+";
 
 #[test]
 fn a_list_request_owes_two_lines(rt: HostRuntime) -> Result<(), Fail> {
     let alloc = rt.alloc();
-    let received = pods_line(alloc, "RequestReceived", "")?;
-    let status = "\"responseStatus\":{\"metadata\":{},\"code\":404},";
-    let complete = pods_line(alloc, "ResponseComplete", status)?;
-    assert_eq!(rt; received.len(), 468);
-    assert_eq!(rt; complete.len(), 513);
-    let lines = format!(in alloc; "{received}{complete}")?;
-    for size in [0, 1, 7, 4096] {
-        let run = run_over_memory(alloc, "explain", LIST_PODS.as_bytes(), size, 0, 2000)?;
-        assert_eq!(rt; run.status, 0, "at {size}");
-        assert_eq!(rt; run.output.as_slice(), lines.as_bytes(), "at {size}");
+    for row in MOMENTS.lines() {
+        let (words, moment) = row.split_once('|').ok_or("a row")?;
+        let received = pods_line(alloc, "RequestReceived", "", moment)?;
+        let status = "\"responseStatus\":{\"metadata\":{},\"code\":404},";
+        let complete = pods_line(alloc, "ResponseComplete", status, moment)?;
+        let lines = format!(in alloc; "{received}{complete}")?;
+        for size in [0, 1, 7, 4096] {
+            let run = run_over_memory(alloc, words, LIST_PODS.as_bytes(), size, 0, 2000)?;
+            assert_eq!(rt; run.status, 0, "at {size}");
+            assert_eq!(rt; run.output.as_slice(), lines.as_bytes(), "at {size}");
+        }
     }
     Ok(())
 }
@@ -149,16 +156,12 @@ explain|POST /api/v1/pods HTTP/1.1~Content-Length: 3145729~~|9|
 explain|POST /api/v1/pods HTTP/1.1~Content-Length: 9~~12345|9|
 explain|POST /api/v1/pods HTTP/1.1~Transfer-Encoding: chunked~~x|9|
 explain|~~|0|
-explain --moment=1735689600123456|GET /api/v1/namespaces/a/pods HTTP/1.1~~|0|468 513
 explain|GET /healthz HTTP/1.1~~|0|384 429
 explain --apiservices=bad|GET / HTTP/1.1~~|3|
 explain --apiservices=none|GET / HTTP/1.1~~|4|
 explain --token-auth-file=t|GET /api/v1/pods HTTP/1.1~Authorization: Bearer t1~~|0|446 491
 explain --token-auth-file t|GET /api/v1/pods HTTP/1.1~Authorization: Bearer nobody~~|0|374 419
 explain --audit-policy-file=p|POST /api/v1/namespaces/a/secrets HTTP/1.1~Content-Length: 7~~{\"a\":1}|0|
-explain --audit-policy-file=p|POST /api/v1/namespaces/a/pods HTTP/1.1~Content-Length: 7~~{\"a\":1}|0|470 515
-explain --audit-policy-file=p|POST /api/v1/namespaces/a/pods HTTP/1.1~Content-Length: 14~~{\"b\":\"longer\"}|0|470 515
-explain --audit-policy-file=p|GET /api/v1/namespaces/b/pods HTTP/1.1~~|0|513
 explain --moment=253370764799999999 --audit-policy-file p --token-auth-file=t||0|
 |GET / HTTP/1.1~~|2|
 serve|GET / HTTP/1.1~~|2|
@@ -221,16 +224,15 @@ fn each_run_ends_with_its_status(rt: HostRuntime) -> Result<(), Fail> {
 #[test]
 fn faults_leave_what_was_whole(rt: HostRuntime) -> Result<(), Fail> {
     let alloc = rt.alloc();
+    let once = run_over_memory(alloc, "explain", LIST_PODS.as_bytes(), 60, 0, 4000)?;
     let twice = format!(in alloc; "{LIST_PODS}{LIST_PODS}")?;
-    // The first request came before the read that fails, and a sink without room has a front of the lines.
+    // The first request came before the read that fails, and a sink without room for all takes nothing.
     let run = run_over_memory(alloc, "explain", twice.as_bytes(), 60, 2, 4000)?;
     assert_eq!(rt; run.status, 4);
-    assert_eq!(rt;
-        lengths_of(alloc, run.output.as_slice())?.as_str(),
-        "468 513"
-    );
+    assert_eq!(rt; run.output.as_slice(), once.output.as_slice());
     let run = run_over_memory(alloc, "explain", twice.as_bytes(), 60, 0, 980)?;
     assert_eq!(rt; run.status, 7);
+    assert_eq!(rt; run.output.as_slice(), b"".as_slice());
     Ok(())
 }
 
@@ -244,36 +246,16 @@ fn a_chunked_body_makes_one_event_however_it_is_cut(rt: HostRuntime) -> Result<(
     let whole = run_over_memory(alloc, line, input.as_slice(), 4096, 0, 4000)?;
     assert_eq!(rt; whole.status, 0);
     let text = str::from_utf8(whole.output.as_slice()).map_err(|_| "text")?;
-    assert!(rt; text.contains("\"level\":\"Request\""));
-    assert!(rt; text.contains("\"requestObject\":{\"a\":0.50},\"requestReceivedTimestamp\""));
+    let (_, rest) = text.split_once("\"responseStatus\":").ok_or("a status")?;
+    let (shown, _) = rest.split_once(",\"requestReceived").ok_or("a moment")?;
+    assert_eq!(rt;
+        shown,
+        "{\"metadata\":{},\"code\":404},\"requestObject\":{\"a\":0.50}"
+    );
     for size in [1, 2, 3, 5, 80, 90] {
         let run = run_over_memory(alloc, line, input.as_slice(), size, 0, 4000)?;
         assert_eq!(rt; run.output.as_slice(), whole.output.as_slice(), "at {size}");
     }
-    Ok(())
-}
-
-#[test]
-fn a_refused_update_shows_its_reply(rt: HostRuntime) -> Result<(), Fail> {
-    let alloc = rt.alloc();
-    let put = b"PUT /api/v1/namespaces/a/pods/p HTTP/1.1\r\nUpgrade: x\r\n\r\n";
-    let run = run_over_memory(
-        alloc,
-        "explain --audit-policy-file=p",
-        put.as_slice(),
-        0,
-        0,
-        4000,
-    )?;
-    assert_eq!(rt; run.status, 0);
-    let text = str::from_utf8(run.output.as_slice()).map_err(|_| "text")?;
-    assert!(rt;
-        text.contains(
-            "\"responseStatus\":{\"metadata\":{},\"code\":501},\"responseObject\":\
-        {\"kind\":\"Status\",\"apiVersion\":\"v1\",\"metadata\":{},\"status\":\"Failure\",\"message\":\
-        \"the request is not served\",\"reason\":\"NotImplemented\",\"code\":501},"
-        )
-    );
     Ok(())
 }
 
@@ -355,39 +337,15 @@ fn each_request_is_answered_by_the_table_as_it_stands(rt: HostRuntime) -> Result
     let text = str::from_utf8(run.output.as_slice()).map_err(|_| "text")?;
     let mut told = CODES.lines();
     for own in text.lines() {
-        if own.contains("\"stage\":\"ResponseComplete\"") {
+        if let Some((_, rest)) = own.split_once("\"stage\":\"ResponseComplete\"") {
+            let (_, rest) = rest.split_once("\"code\":").ok_or("a code")?;
             let row = told.next().ok_or("one request more")?;
             let (_, code) = row.split_once('|').ok_or("a row")?;
-            let member = format!(in alloc; "\"code\":{code}}}")?;
-            assert!(rt; own.contains(member.as_str()), "{row}: {own}");
+            let (own_code, _) = rest.split_once('}').ok_or("a code")?;
+            assert_eq!(rt; own_code, code, "{row}");
         }
     }
     assert_eq!(rt; told.next(), None);
-    Ok(())
-}
-
-#[test]
-fn local_replies_are_shown(rt: HostRuntime) -> Result<(), Fail> {
-    let alloc = rt.alloc();
-    let mut input = String::new(alloc);
-    for told in [
-        "t2 PUT /apis/apiregistration.k8s.io/v1/apiservices/v1.g row",
-        "t2 PUT /apis/apiregistration.k8s.io/v1/apiservices/v1.g",
-    ] {
-        input.push_str(request_of(alloc, told)?.as_str())?;
-    }
-    let line = "explain --token-auth-file=t --audit-policy-file=p";
-    let run = run_over_memory(alloc, line, input.as_bytes(), 100, 0, 60000)?;
-    let text = str::from_utf8(run.output.as_slice()).map_err(|_| "text")?;
-    // A row that isn't there is missing, and an object that isn't one is not accepted.
-    for (object, code, reason) in [(ROW, "404", "NotFound"), ("", "422", "Invalid")] {
-        let reply = format!(in alloc;
-            "\"reason\":\"{reason}\",\"code\":{code}}},\"requestReceivedTimestamp\""
-        )?;
-        assert!(rt; text.contains(reply.as_str()), "{code}");
-        let body = format!(in alloc; "\"requestObject\":{object},")?;
-        assert!(rt; object.is_empty() || text.contains(body.as_str()));
-    }
     Ok(())
 }
 
@@ -401,6 +359,12 @@ fn many_requests_come_in_one_input(rt: HostRuntime) -> Result<(), Fail> {
     let run = run_over_memory(alloc, "explain", input.as_slice(), 65536, 0, 9_810_000)?;
     assert_eq!(rt; run.status, 0);
     assert_eq!(rt; run.output.len(), 9_810_000);
+    // The last one has the number 9999.
+    let text = str::from_utf8(run.output.as_slice()).map_err(|_| "text")?;
+    let last = text.lines().last().ok_or("a line")?;
+    let (_, rest) = last.split_once("\"auditID\":\"").ok_or("an ID")?;
+    let (id, _) = rest.split_once('"').ok_or("an end")?;
+    assert_eq!(rt; id, "00000000-0000-0000-0000-00000000270f");
     Ok(())
 }
 
@@ -478,6 +442,40 @@ fn readers_and_writers_are_ports(rt: HostRuntime) -> Result<(), Fail> {
 }
 
 #[test]
+fn files_of_the_system_are_read(rt: HostRuntime) -> Result<(), Fail> {
+    let alloc = rt.alloc();
+    let mut files = SystemFiles::new(&rt);
+    let read = files.read(alloc, "/proc/sys/kernel/ostype");
+    assert_eq!(rt;
+        read.ok().ok_or("a file")?.as_slice(),
+        b"Linux\n".as_slice()
+    );
+    let read = files.read(alloc, "/nowhere/at/all");
+    assert_eq!(rt; read.err(), Some(FileFail::Fault));
+    let read = files.read(alloc, "/dev/zero");
+    assert_eq!(rt; read.err(), Some(FileFail::TooLong));
+    Ok(())
+}
+
+#[test]
+fn devices_are_ports(rt: HostRuntime) -> Result<(), Fail> {
+    let alloc = rt.alloc();
+    let words = words_of(alloc, "explain --token-auth-file=/dev/null")?;
+    let mut files = SystemFiles::new(&rt);
+    // Nothing is written where nothing is read, and no byte goes into a device that is full.
+    for (input, status) in [("", 0), (LIST_PODS, 7)] {
+        let mut source = ReaderSource::new(input.as_bytes());
+        let mut out = WriterSink::new(File::options().write(true).open(&rt, "/dev/full")?);
+        let own = run_desk(alloc, &words, &mut files, &mut source, &mut out);
+        assert_eq!(rt; own, status, "{input}");
+    }
+    let mut source = ReaderSource::new(fs::open(&rt, "/dev/null")?);
+    let mut buf = [1u8; 2];
+    assert_eq!(rt; source.read(&mut buf), Ok(0));
+    Ok(())
+}
+
+#[test]
 fn statuses_have_codes_and_words(rt: HostRuntime) {
     let words = [
         (0, None),
@@ -492,8 +490,7 @@ fn statuses_have_codes_and_words(rt: HostRuntime) {
     ];
     for (code, word) in words {
         let status = Status::of_code(code);
-        assert!(rt; status.is_some(), "{code}");
-        assert!(rt; status.and_then(|status| status.word()) == word, "{code}");
+        assert_eq!(rt; status.and_then(|status| status.word()), word, "{code}");
         assert_eq!(rt; status.map(|status| status.code()), Some(code));
     }
     assert_eq!(rt; Status::of_code(1), None);

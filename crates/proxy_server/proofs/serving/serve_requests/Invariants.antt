@@ -1,15 +1,15 @@
-use Rattle.std.proofs.Common.{◌≤◌, ◌-◌}
-use Rattle.proxy_server.specs.Answer.{rows_of}
+use Rattle.std.proofs.Common.{◌≡◌, ◌≤◌, ◌-◌}
+use Rattle.apiservice_table.specs.Changes.{rows_of}
+use Rattle.front_base.specs.declared.audit_id.TheConstants.{MOST_REQUESTS}
 use Rattle.proxy_server.specs.Serving.{Served}
-use Rattle.proxy_server.specs.declared.serving.TheConstants.{MOST_REQUESTS}
 use Rattle.proxy_server.proofs.serving.serve_requests.Given as goal
 
 abbrev pub invariant-serving : goal.invariant-serving
 invariant-serving g l = record {
-  served : Served l.settings (rows_of l.fn.routes) (rows_of l.routes) (g.S.Source.left l.fn.input) (g.S.Source.left l.input) l.edge (g.O.ByteSink.written l.fn.out) (g.O.ByteSink.written l.out) l.pending.items l.number;
+  served : Served l.setup (rows_of l.fn.routes) (rows_of l.routes) (g.S.Source.left l.fn.input) (g.S.Source.left l.input) l.edge (g.O.ByteSink.written l.fn.out) (g.O.ByteSink.written l.out) l.pending.items l.number;
   few : l.number ≤ MOST_REQUESTS;
   read_later : g.S.Source.read_faults l.fn.input ≤ g.S.Source.read_faults l.input;
-  write_later : g.O.ByteSink.write_faults l.fn.out ≤ g.O.ByteSink.write_faults l.out;
+  write_sound : g.O.ByteSink.write_faults l.out ≡ g.O.ByteSink.write_faults l.fn.out;
 }
 
 abbrev pub decreases-serving : goal.decreases-serving

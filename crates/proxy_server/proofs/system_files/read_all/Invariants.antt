@@ -1,5 +1,5 @@
 use Rattle.std.proofs.Common.{◌+◌, ◌-◌, vec_len}
-use Rattle.front_ports.specs.declared.files.TheConstants.{MOST_FILE_BYTES}
+use Rattle.front_base.specs.declared.file.TheConstants.{MOST_FILE_BYTES}
 use Rattle.proxy_server.proofs.system_files.read_all.Given as goal
 
 abbrev pub decreases-loop-buf : goal.decreases-loop-buf

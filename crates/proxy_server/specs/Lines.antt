@@ -1,0 +1,56 @@
+-- The audit lines of the requests of a run.
+use Rattle.std.specs.Prelude.{◌≡◌, ℕ, ◌+◌, List, [], ◌∷◌, ◌++◌}
+use Rattle.apiservice_rows.specs.Row.{Row}
+use Rattle.audit_core.specs.Answer.{reply_by, rows_by}
+use Rattle.audit_core.specs.Errand.{errand_in}
+use Rattle.audit_core.specs.Exchange.{IsExchange}
+use Rattle.audit_core.specs.Owed.{owed, ended}
+use Rattle.audit_core.specs.declared.exchange.Exchange.{Exchange}
+use Rattle.audit_core.specs.declared.stamp.Stamp.{Stamp}
+use Rattle.front_base.specs.AuditId.{AuditId}
+use Rattle.http_edge.specs.declared.request.Request.{Request}
+use Rattle.proxy_server.specs.declared.setup.Setup.{Setup}
+
+-- the address of all requests of a run over an input, which come over no connection
+abbrev pub own_address : List ℕ
+own_address = 127 ∷ 0 ∷ 0 ∷ 1 ∷ []
+
+abbrev pub id_of : ℕ → AuditId
+id_of number = record { boot = 0; bay = 0; number = number }
+
+-- what the request with that number is stamped with, at a clock that always shows that moment
+abbrev pub stamp_of : ℕ → ℕ → Stamp
+stamp_of moment number = record {
+  id = id_of number;
+  peer = own_address;
+  received = moment;
+  started = moment;
+  complete = moment;
+}
+
+-- the rows after a request
+unfoldable pub rows_after : Setup → List Row → Request → List Row
+rows_after set rows r = rows_by rows (errand_in set.settings r)
+
+-- the rows after requests, one after another
+abbrev pub rows_after_all : Setup → List Row → List Request → List Row
+rows_after_all set rows [] = rows
+rows_after_all set rows (r ∷ rs) = rows_after_all set (rows_after set rows r) rs
+
+-- this is the text of the lines that the request with that number owes, which these rows answer: each with a line feed
+pub record IsLines (set : Setup) (rows : List Row) (number : ℕ) (r : Request) (text : List ℕ) : Type 0 where
+  pub exchange : Exchange
+  pub is : IsExchange set.settings (stamp_of set.moment number) r (reply_by rows (errand_in set.settings r)) exchange
+  pub text_is : text ≡ ended 10 (owed exchange)
+
+-- the text of the lines of these requests, the first of which has this number and is answered by these rows
+abbrev pub AreLines : Setup → ℕ → List Row → List Request → List ℕ → Type 0
+AreLines set n rows [] text = text ≡ []
+AreLines set n rows (r ∷ rs) text =
+    (own : List ℕ) × (others : List ℕ) × IsLines set rows n r own × AreLines set (n + 1) (rows_after set rows r) rs others
+    × (text ≡ own ++ others)
+
+-- the lines of a request are added, which these rows answer, and these are the rows after it
+abbrev pub Adds : Setup → ℕ → Request → List Row → List Row → List ℕ → List ℕ → Type 0
+Adds set n r rows rows_now old new =
+    (own : List ℕ) × IsLines set rows n r own × (new ≡ old ++ own) × (rows_now ≡ rows_after set rows r)
