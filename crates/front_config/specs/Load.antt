@@ -4,7 +4,7 @@ use Rattle.json_value.specs.Results.{◌>>=◌}
 use Rattle.json_value.specs.Results as results
 use Rattle.front_ports.specs.Cause.{Rose}
 use Rattle.front_ports.specs.FileMap.{HasFile, HasLongFile, Notes}
-use Rattle.front_ports.specs.declared.files.TheConstants.{MOST_FILE_BYTES}
+use Rattle.front_base.specs.declared.file.TheConstants.{MOST_FILE_BYTES}
 use Rattle.front_ports.specs.declared.files.FileFail.{FileFail}
 use Rattle.front_ports.specs.declared.files.FileFail.TheVariants as fail
 use Rattle.token_users.specs.File.{file_records}

@@ -1,7 +1,7 @@
 use crate::{Command, FileNames, Loaded, WordsFault, load, read_words};
 use apiservice_rows::MOST_ROWS;
-use front_base::{Bytes, NoMemory, Text};
-use front_ports::{MOST_FILE_BYTES, MemFiles};
+use front_base::{Bytes, MOST_FILE_BYTES, NoMemory, Text};
+use front_ports::MemFiles;
 use std::alloc::{AllocError, Global};
 use std::test::Fail;
 

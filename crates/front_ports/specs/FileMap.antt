@@ -1,7 +1,7 @@
 -- What files hold, where that is told.
 use Rattle.std.specs.Prelude.{◌≡◌, ℕ, ◌<◌, List, [], ◌∷◌, length, Option, Some, None, ⊤, if◌then◌else◌}
 use Rattle.std.specs.Str.{bytes_eq}
-use Rattle.front_ports.specs.declared.files.TheConstants.{MOST_FILE_BYTES}
+use Rattle.front_base.specs.declared.file.TheConstants.{MOST_FILE_BYTES}
 
 -- the bytes of the file of that name, names and bytes being given
 abbrev pub file_of : List ℕ → List (List ℕ × List ℕ) → Option (List ℕ)

@@ -3,11 +3,8 @@ ghost use Rattle.front_ports.specs.Cause.{Rose};
 ghost use Rattle.front_ports.specs.FileMap.{KeepsFiles, HasFile, HasLongFile, Notes};
 ghost use Rattle.front_ports.specs.declared.files.FileFail.TheVariants.{NoMemory};
 
-use front_base::{Bytes, NoMemory as OutOfMemory};
+use front_base::{Bytes, MOST_FILE_BYTES, NoMemory as OutOfMemory};
 use std::alloc::{AllocError, Global};
-
-/// The most bytes that a configuration file may have.
-pub const MOST_FILE_BYTES: u64 = 16_777_216;
 
 /// Why a file was not read.
 #[derive(Clone, Copy, Debug, PartialEq, Eq)]

@@ -29,7 +29,7 @@ mod stream;
 pub use clock::Clock;
 pub use dial::{Call, Dial};
 pub use door::{Door, Visit};
-pub use files::{FileFail, Files, MOST_FILE_BYTES};
+pub use files::{FileFail, Files};
 pub use mem_bytes::MemBytes;
 pub use mem_clock::MemClock;
 pub use mem_conn::MemConn;

@@ -1,8 +1,8 @@
 ghost use Rattle.std.specs.Prelude.{◌≡◌, ◌||◌, None, is_none, option_map, if◌then◌else◌};
 ghost use Rattle.front_ports.specs.FileMap.{HasDistinctNames, file_of};
 
-use crate::files::{FileFail, Files, MOST_FILE_BYTES};
-use front_base::{Bytes, Text};
+use crate::files::{FileFail, Files};
+use front_base::{Bytes, MOST_FILE_BYTES, Text};
 use std::alloc::Global;
 
 /// Files in memory, which tell what they hold and which read failed last.
