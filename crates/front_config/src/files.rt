@@ -1,5 +1,5 @@
 // The files of a configuration.
-ghost use Rattle.std.specs.Prelude.{◌≡◌, ◌≤◌, IfOk, IfSome, length, option_map};
+ghost use Rattle.std.specs.Prelude.{◌≡◌, ◌≤◌, IfOk, IfSome, OnOk, length, option_map};
 ghost use Rattle.front_ports.specs.FileMap.{KeepsFiles};
 ghost use Rattle.front_config.specs.Load as spec;
 
@@ -48,6 +48,7 @@ fn bytes_of<F: Files>(
     ensures cause { spec.HasCause names.now (F.faults files.old) (F.faults files.new)
         (F.failed files.old) (F.failed files.new) result }
     ensures kept { KeepsFiles (F.files files.old) (F.files files.new) }
+    ensures sound { OnOk result (F.faults files.new ≡ F.faults files.old) }
     ensures later { F.faults files.old ≤ F.faults files.new }
 {
     let Some(name) = name_for(names, which) else {
@@ -88,6 +89,7 @@ fn tokens_of<F: Files>(alloc: Global, names: &FileNames, files: &mut F) -> Resul
     ensures cause { spec.HasCause names.now (F.faults files.old) (F.faults files.new)
         (F.failed files.old) (F.failed files.new) result }
     ensures kept { KeepsFiles (F.files files.old) (F.files files.new) }
+    ensures sound { OnOk result (F.faults files.new ≡ F.faults files.old) }
     ensures later { F.faults files.old ≤ F.faults files.new }
 {
     let bytes = bytes_of(alloc, names, Which::Tokens, files)?;
@@ -118,6 +120,7 @@ fn policy_of<F: Files>(alloc: Global, names: &FileNames, files: &mut F) -> Resul
     ensures cause { spec.HasCause names.now (F.faults files.old) (F.faults files.new)
         (F.failed files.old) (F.failed files.new) result }
     ensures kept { KeepsFiles (F.files files.old) (F.files files.new) }
+    ensures sound { OnOk result (F.faults files.new ≡ F.faults files.old) }
     ensures later { F.faults files.old ≤ F.faults files.new }
 {
     let bytes = bytes_of(alloc, names, Which::Policy, files)?;
@@ -152,6 +155,7 @@ fn table_of<F: Files>(
     ensures cause { spec.HasCause names.now (F.faults files.old) (F.faults files.new)
         (F.failed files.old) (F.failed files.new) result }
     ensures kept { KeepsFiles (F.files files.old) (F.files files.new) }
+    ensures sound { OnOk result (F.faults files.new ≡ F.faults files.old) }
     ensures later { F.faults files.old ≤ F.faults files.new }
 {
     let bytes = bytes_of(alloc, names, Which::Services, files)?;
@@ -169,8 +173,9 @@ pub fn load<F: Files>(alloc: Global, names: &FileNames, files: &mut F) -> Result
     ensures cause { spec.HasCause names.now (F.faults files.old) (F.faults files.new)
         (F.failed files.old) (F.failed files.new) result }
 
-    // Told files stay, and the count of faults doesn't fall.
+    // Told files stay. The count of faults doesn't fall, and stays where nothing failed.
     ensures kept { KeepsFiles (F.files files.old) (F.files files.new) }
+    ensures sound { OnOk result (F.faults files.new ≡ F.faults files.old) }
     ensures later { F.faults files.old ≤ F.faults files.new }
 {
     let tokens = tokens_of(alloc, names, files)?;

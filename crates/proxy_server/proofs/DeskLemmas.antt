@@ -16,7 +16,7 @@ use Rattle.front_config.specs.declared.fault.Which.{Which}
 use Rattle.front_config.specs.declared.fault.WordsFault.{WordsFault}
 use Rattle.front_config.specs.declared.fault.WordsFault.TheVariants as words_fault
 use Rattle.front_config.specs.declared.files.Loaded.{Loaded}
-use Rattle.proxy_server.specs.Ports.{Told, Port, FilesPort, IsUntouched}
+use Rattle.proxy_server.specs.Ports.{Told, Port, FilesPort, AreSound, IsUntouched}
 use Rattle.proxy_server.specs.Desk.{Loads, IsRefused, Configures, Run, status_of_words, status_of_load}
 use Rattle.proxy_server.specs.Serving.{Serves}
 use Rattle.proxy_server.specs.Status.{code_of}
@@ -113,8 +113,8 @@ module _ (line : List (List ℕ)) (files : FilesPort) (input output : Port) wher
   usage_is status e run =
       ⊎_elim
       (λ (q : IsRefused line files status × IsUntouched input × IsUntouched output). usage_by status e q.0)
-      (λ (q : (set : Setup) × (rows : List Row) × Configures line files.before.told set rows × Serves set rows input output status).
-      served_not q.0 q.1 status e q.3)
+      (λ (q : (set : Setup) × (rows : List Row) × Configures line files.before.told set rows × AreSound files × Serves set rows input output status).
+      served_not q.0 q.1 status e q.4)
       run
 
   misused_by : (status : Status) → command_of line ≡ Err words_fault.Usage → IsRefused line files status
@@ -138,6 +138,6 @@ module _ (line : List (List ℕ)) (files : FilesPort) (input output : Port) wher
   misused_is status e run =
       ⊎_elim
       (λ (q : IsRefused line files status × IsUntouched input × IsUntouched output). misused_by status e q.0)
-      (λ (q : (set : Setup) × (rows : List Row) × Configures line files.before.told set rows × Serves set rows input output status).
+      (λ (q : (set : Setup) × (rows : List Row) × Configures line files.before.told set rows × AreSound files × Serves set rows input output status).
       absurd (cc (e, q.2.loads.command)))
       run

@@ -8,7 +8,7 @@ use Rattle.std.proofs.lemmas.List.{take_all}
 use Rattle.front_base.specs.declared.audit_id.TheConstants.{MOST_REQUESTS}
 use Rattle.front_ports.specs.Cause.{Rose}
 use Rattle.front_ports.specs.Written.{AppendsFront}
-use Rattle.http_edge.specs.Calls.{GotRequest, NoRequest, Stopped, Awaits}
+use Rattle.http_edge.specs.Calls.{GotRequest, NoRequest, Stopped, Awaits, KeepsCount}
 use Rattle.http_edge.specs.Requests.{StartsWith, asks, IsRequests, IsStop, ReadsTo, IsUnfinished}
 use Rattle.http_edge.specs.declared.request.End.{End}
 use Rattle.http_edge.specs.declared.request.End.TheVariants as end
@@ -209,27 +209,28 @@ module _ (law : StartsStay) (refusals : RefusalsStay) (set : Setup) (rows rows_n
     written = Appends-trans output.before.told w output.after.told s.sent p s.written h;
   }
 
-  by_end : (e : End) → Stopped b input.after.told x e → Appends w output.after.told p → IsSound output
+  by_end : (e : End) → Stopped b input.after.told x e → Appends w output.after.told p → IsSound input → IsSound output
       → Serves set rows input output (status_of e)
-  by_end end.Ended h e q = (end.Ended, refl, served_stop end.Ended h e, q)
-  by_end end.Asked h e q = (end.Asked, refl, served_stop end.Asked h e, q)
-  by_end end.BadHead h e q = (end.BadHead, refl, served_stop end.BadHead h e, q)
-  by_end end.HeadTooLarge h e q = (end.HeadTooLarge, refl, served_stop end.HeadTooLarge h e, q)
-  by_end end.BadFraming h e q = (end.BadFraming, refl, served_stop end.BadFraming h e, q)
-  by_end end.BodyTooLarge h e q = (end.BodyTooLarge, refl, served_stop end.BodyTooLarge h e, q)
-  by_end end.CutShort h e q = (end.CutShort, refl, served_stop end.CutShort h e, q)
+  by_end end.Ended h e i q = (end.Ended, refl, served_stop end.Ended h e, i, q)
+  by_end end.Asked h e i q = (end.Asked, refl, served_stop end.Asked h e, i, q)
+  by_end end.BadHead h e i q = (end.BadHead, refl, served_stop end.BadHead h e, i, q)
+  by_end end.HeadTooLarge h e i q = (end.HeadTooLarge, refl, served_stop end.HeadTooLarge h e, i, q)
+  by_end end.BadFraming h e i q = (end.BadFraming, refl, served_stop end.BadFraming h e, i, q)
+  by_end end.BodyTooLarge h e i q = (end.BodyTooLarge, refl, served_stop end.BodyTooLarge h e, i, q)
+  by_end end.CutShort h e i q = (end.CutShort, refl, served_stop end.CutShort h e, i, q)
 
-  by_stop : (Read0 : Type 0) (t : Stop) → (Read0 → HasFailed input) → NoRequest b input.after.told x Read0 t
-      → Appends w output.after.told p → IsSound output → Serves set rows input output (status_of_stop t)
-  by_stop Read0 (stop.Refused e) f h a q = by_end e h a q
-  by_stop Read0 stop.ReadFault f h a q = (f h.1, served_fault h.0 a)
-  by_stop Read0 stop.NoMemory f h a q = served_front (whole_front w output.after.told p a)
+  by_stop : (Read0 : Type 0) (t : Stop) → (Read0 → HasFailed input) → KeepsCount input.before.faults input.after.faults t
+      → NoRequest b input.after.told x Read0 t → Appends w output.after.told p → IsSound output
+      → Serves set rows input output (status_of_stop t)
+  by_stop Read0 (stop.Refused e) f i h a q = by_end e h a i q
+  by_stop Read0 stop.ReadFault f i h a q = (f h.1, served_fault h.0 a)
+  by_stop Read0 stop.NoMemory f i h a q = served_front (whole_front w output.after.told p a)
 
   -- what is known where the lines before a stop are written, by what the stop is
-  pub stop_serves : (Read0 : Type 0) (t : Stop) (k : Status) → (Read0 → HasFailed input) → NoRequest b input.after.told x Read0 t
-      → Closed output w p (status_of_stop t) k → Serves set rows input output k
-  stop_serves Read0 t k f h done =
-      closed set rows input output w p (status_of_stop t) k done (by_stop Read0 t f h) served_front
+  pub stop_serves : (Read0 : Type 0) (t : Stop) (k : Status) → (Read0 → HasFailed input) → KeepsCount input.before.faults input.after.faults t
+      → NoRequest b input.after.told x Read0 t → Closed output w p (status_of_stop t) k → Serves set rows input output k
+  stop_serves Read0 t k f i h done =
+      closed set rows input output w p (status_of_stop t) k done (by_stop Read0 t f i h) served_front
 
 -- ---- a request stands next
 

@@ -14,7 +14,7 @@ use Rattle.front_config.specs.declared.fault.Which.{Which}
 use Rattle.front_config.specs.declared.fault.WordsFault.{WordsFault}
 use Rattle.front_config.specs.declared.fault.WordsFault.TheVariants as words_fault
 use Rattle.front_config.specs.declared.files.Loaded.{Loaded}
-use Rattle.proxy_server.specs.Ports.{Port, FilesPort, Told, IsUntouched}
+use Rattle.proxy_server.specs.Ports.{Port, FilesPort, Told, AreSound, IsUntouched}
 use Rattle.proxy_server.specs.Serving.{Serves}
 use Rattle.proxy_server.specs.declared.setup.Setup.{Setup}
 use Rattle.proxy_server.specs.declared.status.Status.{Status}
@@ -59,11 +59,13 @@ IsRefused words files ReadFault =
 IsRefused words files NoMemory = Unit {0}
 IsRefused words files _ = ⊥
 
--- a run: it is refused before it reads or writes anything, or the requests of its input are served
+-- a run: it is refused before it reads or writes anything, or all its files were read and the requests of its input are
+-- served
 abbrev pub Run : List (List ℕ) → FilesPort → Port → Port → Status → Type 0
 Run words files input output status =
     (IsRefused words files status × IsUntouched input × IsUntouched output)
-    ⊎ ((set : Setup) × (rows : List Row) × Configures words files.before.told set rows × Serves set rows input output status)
+    ⊎ ((set : Setup) × (rows : List Row) × Configures words files.before.told set rows × AreSound files
+    × Serves set rows input output status)
 
 -- ---- the statuses of faults
 

@@ -46,6 +46,10 @@ HasFailed p = Rose p.before.faults p.after.faults
 abbrev pub IsSound : Port → Type 0
 IsSound p = p.after.faults ≡ p.before.faults
 
+-- no file failed to be read
+abbrev pub AreSound : FilesPort → Type 0
+AreSound files = files.after.faults ≡ files.before.faults
+
 -- nothing was read or written
 abbrev pub IsUntouched : Port → Type 0
 IsUntouched p = p.after ≡ p.before

@@ -84,9 +84,9 @@ status_of _ = Input
 -- what each status says, the others being none that this run has. The first request is answered by these rows
 abbrev pub Serves : Setup → List Row → Port → Port → Status → Type 0
 Serves set rows input output Done =
-    (end : End) × (status_of end ≡ Done) × ServedAll set rows input output end × IsSound output
+    (end : End) × (status_of end ≡ Done) × ServedAll set rows input output end × IsSound input × IsSound output
 Serves set rows input output Input =
-    (end : End) × (status_of end ≡ Input) × ServedAll set rows input output end × IsSound output
+    (end : End) × (status_of end ≡ Input) × ServedAll set rows input output end × IsSound input × IsSound output
 Serves set rows input output ReadFault = HasFailed input × ServedTaken set rows input output
 Serves set rows input output WriteFault = HasFailed output × ServedFront set rows input output
 Serves set rows input output NumbersSpent = ServedMost set rows input output

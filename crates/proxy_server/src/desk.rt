@@ -1,5 +1,5 @@
 // The command `explain`.
-ghost use Rattle.std.specs.Prelude.{◌≡◌, ◌≤◌, ◌⊎◌, Err, IfErr, IfOk, map, string_bytes};
+ghost use Rattle.std.specs.Prelude.{◌≡◌, ◌≤◌, ◌⊎◌, Err, IfErr, IfOk, OnOk, map, string_bytes};
 ghost use Rattle.front_config.specs.Words.{Gives, command_of};
 ghost use Rattle.front_config.specs.declared.command.Command.TheVariants.{Explain};
 ghost use Rattle.front_config.specs.declared.fault.WordsFault.TheVariants as words_fault;
@@ -79,6 +79,7 @@ fn configure<F: Files>(alloc: Global, words: &Vec<String>, files: &mut F) -> Res
     ensures err { IfErr result (spec.IsRefused (map string_bytes words.now.items)
         (files_port (F.files files.old) (F.failed files.old) (F.faults files.old)
         (F.files files.new) (F.failed files.new) (F.faults files.new))) }
+    ensures sound { OnOk result (F.faults files.new ≡ F.faults files.old) }
     ensures kept { KeepsFiles (F.files files.old) (F.files files.new) }
     ensures later { F.faults files.old ≤ F.faults files.new }
 {
@@ -132,8 +133,8 @@ fn desk<F: Files, S: Source, O: ByteSink>(
 /// connection; `Usage` where the words, which are those after the program's name, are no command line; `Configuration`
 /// where an option is out of its range or a file is invalid; `ReadFault` where a file or the input could not be read;
 /// `WriteFault`; `Input` where a request is refused or cut short; `NumbersSpent` where 2^48 requests were served and one
-/// more stands next; `NoMemory`. After `Done` and `Input` no write failed. After `WriteFault` and `NoMemory` a prefix of
-/// the lines was written. Memory is bounded by one request, the lines that wait to be written, the files, and the changes
+/// more stands next; `NoMemory`. After `Done` and `Input` nothing failed: no count of faults of files, input and output
+/// rose. After `WriteFault` and `NoMemory` a prefix of the lines was written. Memory is bounded by one request, the lines that wait to be written, the files, and the changes
 /// of the table that were made.
 ///
 /// What the clause says of bytes holds where a port tells them, as those in memory do. Of an input that tells nothing it

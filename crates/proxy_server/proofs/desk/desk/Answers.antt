@@ -13,6 +13,7 @@ returns-clause-run g c =
       told.setup,
       told.table.rows,
       c.in-Ok.ensures.ok,
+      c.in-Ok.ensures.sound,
       subst
           (λ rows. Serves told.setup rows
           (port (g.S.Source.left c.args.input.now) (g.S.Source.read_faults c.args.input.now)

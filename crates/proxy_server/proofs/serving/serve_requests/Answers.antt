@@ -2,6 +2,7 @@ use Rattle.std.proofs.Common.{sym, subst, ◌∙◌, ◌++◌, ◌<◌, arith, r
 use Rattle.front_base.specs.declared.audit_id.TheConstants.{MOST_REQUESTS}
 use Rattle.front_ports.specs.Cause.{Rose}
 use Rattle.front_ports.specs.Written.{AppendsFront}
+use Rattle.http_edge.specs.Calls.{KeepsCount}
 use Rattle.http_edge.specs.declared.request.End.TheVariants.{Asked}
 use Rattle.proxy_server.specs.Ports.{Port, port}
 use Rattle.proxy_server.specs.Serving.{Spilled}
@@ -24,6 +25,7 @@ serving-init g c = record {
   served = served_none _ _ _ _ _ _ c.in-Ok.ensures c.new-pending.ensures.items;
   few = omega arith;
   read_later = omega arith;
+  read_sound = refl;
   write_sound = refl;
 }
 
@@ -41,7 +43,9 @@ returns-in-Err-clause-run g c =
     closed_as output (O.written c.serving.out) (O.write_faults c.serving.out) _ c.serving.pending.items _ _ c.close.result
     c.as_slice.ensures.value c.status_of_stop.ensures i.write_sound c.close.ensures.closes in
     stop_serves law.starts law.refused _ _ _ input output _ _ _ _ _ i.served _ c.in-Err.stop c.close.result
-    (rose_earlier _ _ _ i.read_later) c.in-Err.ensures.err done
+    (rose_earlier _ _ _ i.read_later)
+    (subst (λ n. KeepsCount n (S.read_faults c.next_request.new.conn) c.in-Err.stop) i.read_sound c.in-Err.ensures.told)
+    c.in-Err.ensures.err done
 
 pub returns-then-number-eq-MOST_REQUESTS-clause-run : goal.returns-then-number-eq-MOST_REQUESTS-clause-run
 returns-then-number-eq-MOST_REQUESTS-clause-run g c =
@@ -102,7 +106,7 @@ returns-then-asks-clause-run g c =
     closed_as output (O.written c.serving.out) (O.write_faults c.serving.out) _ (c.serving.pending.items ++ own.0) _ Done close.result
     (c.as_slice-then-asks.ensures.value ∙ own.2) refl i.write_sound close.ensures.closes in
     closed _ _ input output _ (c.serving.pending.items ++ own.0) Done close.result done
-    (λ h q. (Asked, refl, stand_asked law.starts _ _ _ input output _ _ _ _ r stands room own.0 own.1 (sym c.if-asks.ensures) h, q))
+    (λ h q. (Asked, refl, stand_asked law.starts _ _ _ input output _ _ _ _ r stands room own.0 own.1 (sym c.if-asks.ensures) h, c.in-Ok-next_request.ensures.calm ∙ i.read_sound, q))
     (λ h. last_front law.starts _ _ _ input output _ _ _ _ r stands room own.0 own.1 h)
 
 pub returns-in-Err-spill-clause-run : goal.returns-in-Err-spill-clause-run
@@ -142,5 +146,6 @@ serving-preserved g c =
       served = served_spilled _ _ _ _ _ _ _ _ _ (c.serving.pending.items ++ own.0) _ _ more spilled;
       few = omega (arith, i.few, c.if-number-eq-MOST_REQUESTS.false);
       read_later = omega (arith, i.read_later, c.next_request.ensures.later);
+      read_sound = c.in-Ok-next_request.ensures.calm ∙ i.read_sound;
       write_sound = c.in-Ok-spill.ensures.cause.sound ∙ i.write_sound;
     }

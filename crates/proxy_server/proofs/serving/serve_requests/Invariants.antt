@@ -9,6 +9,7 @@ invariant-serving g l = record {
   served : Served l.setup (rows_of l.fn.routes) (rows_of l.routes) (g.S.Source.left l.fn.input) (g.S.Source.left l.input) l.edge (g.O.ByteSink.written l.fn.out) (g.O.ByteSink.written l.out) l.pending.items l.number;
   few : l.number ≤ MOST_REQUESTS;
   read_later : g.S.Source.read_faults l.fn.input ≤ g.S.Source.read_faults l.input;
+  read_sound : g.S.Source.read_faults l.input ≡ g.S.Source.read_faults l.fn.input;
   write_sound : g.O.ByteSink.write_faults l.out ≡ g.O.ByteSink.write_faults l.fn.out;
 }
 
