@@ -1,0 +1,5 @@
+pub mod CopyLemmas
+pub mod FitLemmas
+pub mod NoteLemmas
+pub mod OwnLemmas
+pub mod TryLemmas

@@ -1,0 +1,13 @@
+-- What a lane over a sink of its own tells.
+use Rattle.std.specs.Prelude.{◌+◌, ◌-◌, ◌^◌, min, option_map}
+use Rattle.truncate_backend.specs.Lanes.{LaneTells}
+use Rattle.truncate_backend.specs.Tries.{SinkTells, lines_of, done_of}
+
+abbrev pub own_tells : SinkTells → LaneTells
+own_tells s =
+    record {
+      accepted = option_map done_of s.tries;
+      tried = option_map lines_of s.tries;
+      fulls = 0;
+      faults = min (s.faults + s.refusals) (2 ^ 64 - 1);
+    }
