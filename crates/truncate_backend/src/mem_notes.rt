@@ -1,4 +1,5 @@
-ghost use Rattle.std.specs.Prelude.{◌≡◌, ◌≤◌, [], IfOk, length, map, vec_capacity};
+ghost use Rattle.std.specs.Prelude.{◌≡◌, ◌≤◌, [], IfOk, length, nat_lt, ◌&&◌, vec_capacity};
+ghost use Rattle.truncate_backend.specs.Copies.{copies_fit};
 ghost use Rattle.truncate_backend.specs.Notes.{counts_of, notes_of};
 
 use crate::copies::LineCopies;
@@ -19,12 +20,12 @@ pub struct MemNotes {
 }
 
 impl MemNotes {
-    ghost use Rattle.truncate_backend.specs.MemoryNotes.{noted_tries, noted_most, noted_copies};
+    ghost use Rattle.truncate_backend.specs.MemoryNotes.{noted_tries, noted_room};
 
     /// No notes yet, with room for so many, and for so many lines of all of them and bytes of these lines.
     pub fn new(alloc: Global, notes: u64, lines: u64, bytes: u64) -> Result<MemNotes, NoMemory>
         ensures empty { IfOk result (λ n. noted_tries n ≡ []) }
-        ensures room { IfOk result (λ n. (noted_most n ≡ notes) × (noted_copies n ≡ record { lines = []; most_lines = lines; most_bytes = bytes })) }
+        ensures room { IfOk result (λ n. noted_room n ≡ record { notes = notes; lines = lines; bytes = bytes }) }
     {
         let most_notes = notes as usize;
         Ok(MemNotes {
@@ -40,18 +41,26 @@ impl MemNotes {
     {
         self.notes.as_slice()
     }
+
+    fn fits(&self, lines: &[Line]) -> bool
+        ensures { result ≡ (nat_lt (length self.now.notes.items) self.now.most_notes && copies_fit self.now.copies lines.now) }
+    {
+        self.notes.len() < self.most_notes && self.copies.fits(lines)
+    }
 }
 
 impl Notes for MemNotes {
     ghost use Rattle.std.specs.Prelude.{Some};
-    ghost use Rattle.truncate_backend.specs.MemoryNotes.{noted_tries, notes_fit};
+    ghost use Rattle.truncate_backend.specs.MemoryNotes.{noted_room, noted_tries, notes_fit};
 
     ghost tries = { λ n. Some (noted_tries n) };
+
+    ghost room = { λ n. Some (noted_room n) };
 
     ghost has_room = { notes_fit };
 
     fn free(&self, lines: &[Line]) -> bool {
-        self.notes.len() < self.most_notes && self.copies.fits(lines)
+        self.fits(lines)
     }
 
     fn note(&mut self, lines: &[Line], note: TryNote) {
