@@ -58,6 +58,7 @@ impl<W: ByteSink + Drop, N: Notes + Drop> LogSink<W, N> {
             result (log_tells N.tries self.new) (W.written (log_out self.new)) }
         ensures told { N.has_room (log_notes self.old) lines.now ≡ true
             → is_some (log_tells N.tries self.new).tries ≡ is_some (log_tells N.tries self.old).tries }
+        ensures room { N.room (log_notes self.new) ≡ N.room (log_notes self.old) }
         ensures cause { OnErr result (N.has_room (log_notes self.old) lines.now ≡ true
             → Rose (W.write_faults (log_out self.old)) (W.write_faults (log_out self.new))) }
     {
@@ -112,6 +113,7 @@ impl<W: ByteSink + Drop, N: Notes + Drop> BatchSink for LogSink<W, N> {
             result (log_tells N.tries self.new) (W.written (log_out self.new)) }
         ensures told { N.has_room (log_notes self.old) lines.now ≡ true
             → is_some (log_tells N.tries self.new).tries ≡ is_some (log_tells N.tries self.old).tries }
+        ensures room { N.room (log_notes self.new) ≡ N.room (log_notes self.old) }
         ensures cause { OnErr result (N.has_room (log_notes self.old) lines.now ≡ true
             → Rose (W.write_faults (log_out self.old)) (W.write_faults (log_out self.new))) }
 

@@ -23,8 +23,8 @@ fn line(alloc: Global, letter: u8, length: usize) -> Result<Line, NoMemory> {
     })
 }
 
-fn two(alloc: Global, first: usize, second: usize) -> Result<Vec<Line>, Fail> {
-    Ok(vec![in alloc; line(alloc, b'a', first)?, line(alloc, b'b', second)?]?)
+fn two(alloc: Global, first: usize, second: usize) -> Result<[Line; 2], NoMemory> {
+    Ok([line(alloc, b'a', first)?, line(alloc, b'b', second)?])
 }
 
 // A log with room for 1,000,000 bytes, whose writes of these numbers fail.
@@ -51,7 +51,7 @@ fn each_line_has_a_line_feed(rt: HostRuntime) -> Result<(), Fail> {
     let out = MemBytes::new(alloc, 100, Vec::new(alloc))?;
     let mut log = LogSink::start(alloc, out, NoNotes)?;
     let lines = two(alloc, 2, 1)?;
-    assert_eq!(rt; log.put(lines.as_slice()), Ok(()));
+    assert_eq!(rt; log.put(&lines), Ok(()));
     assert_eq!(rt; log.out().bytes(), b"aa\nb\n".as_slice());
     Ok(())
 }
@@ -62,8 +62,8 @@ fn lines_that_fit_the_buffer_are_one_write(rt: HostRuntime) -> Result<(), Fail> 
     let alloc = rt.alloc();
     let mut log = log(alloc, vec![in alloc; 2]?, 2)?;
     let lines = two(alloc, 32_767, 32_767)?;
-    assert_eq!(rt; log.put(lines.as_slice()), Ok(()));
-    assert_eq!(rt; log.put(lines.as_slice()), Err(SinkFault::Port));
+    assert_eq!(rt; log.put(&lines), Ok(()));
+    assert_eq!(rt; log.put(&lines), Err(SinkFault::Port));
     let notes = [
         note(2, 65_536, TryAnswer::Done),
         note(2, 0, TryAnswer::Port),
@@ -78,11 +78,11 @@ fn a_fault_within_a_line_leaves_its_prefix(rt: HostRuntime) -> Result<(), Fail> 
     let alloc = rt.alloc();
     let mut log = log(alloc, vec![in alloc; 2]?, 2)?;
     let lines = two(alloc, 40_000, 40_000)?;
-    assert_eq!(rt; log.put(lines.as_slice()), Err(SinkFault::Port));
+    assert_eq!(rt; log.put(&lines), Err(SinkFault::Port));
     assert_eq!(rt; log.out().bytes().len(), 65_536);
     assert!(rt; log.out().bytes().ends_with(b"bbb"));
     let short = two(alloc, 1, 1)?;
-    assert_eq!(rt; log.put(short.as_slice()), Ok(()));
+    assert_eq!(rt; log.put(&short), Ok(()));
     assert!(rt; log.out().bytes().ends_with(b"bbba\nb\n"));
     let notes = [
         note(2, 65_536, TryAnswer::Port),
@@ -97,7 +97,7 @@ fn a_long_line_is_written_whole(rt: HostRuntime) -> Result<(), Fail> {
     let alloc = rt.alloc();
     let mut log = log(alloc, Vec::new(alloc), 1)?;
     let lines = two(alloc, 200_000, 100_000)?;
-    assert_eq!(rt; log.put(lines.as_slice()), Ok(()));
+    assert_eq!(rt; log.put(&lines), Ok(()));
     assert_eq!(rt; log.out().bytes().len(), 300_002);
     assert_eq!(rt; log.out().bytes().get(200_000).copied(), Some(b'\n'));
     assert_eq!(rt;
