@@ -50,8 +50,10 @@ impl<W: ByteSink> Buffer<W> {
     // Writes what is in the buffer.
     fn flush(&mut self) -> Result<(), PortFault>
         requires room { self.old.sent + length self.old.bytes.items < 2 ^ 63 }
-        ensures ok { OnOk result (Follows (W.written self.old.out) self.old.sent self.old.bytes.items [] (W.written self.new.out) self.new.sent []) }
-        ensures err { OnErr result (Stops (W.written self.old.out) self.old.sent self.old.bytes.items [] (W.written self.new.out) self.new.sent) }
+        ensures ok { OnOk result (Follows (W.written self.old.out) self.old.sent self.old.bytes.items
+            [] (W.written self.new.out) self.new.sent []) }
+        ensures err { OnErr result (Stops (W.written self.old.out) self.old.sent self.old.bytes.items
+            [] (W.written self.new.out) self.new.sent) }
         ensures empty { self.new.bytes.items ≡ [] }
         ensures counted { OnOk result (self.new.sent ≡ self.old.sent + length self.old.bytes.items) }
         ensures cause { HasCause (W.write_faults self.old.out) (W.write_faults self.new.out) result }
@@ -75,8 +77,10 @@ impl<W: ByteSink> Buffer<W> {
     fn fill(&mut self, piece: &[u8]) -> Result<usize, PortFault>
         requires long { 65536 < length self.old.bytes.items + length piece.now }
         requires room { self.old.sent + length self.old.bytes.items + length piece.now < 2 ^ 63 }
-        ensures ok { IfOk result (λ n. Follows (W.written self.old.out) self.old.sent self.old.bytes.items (take n piece.now) (W.written self.new.out) self.new.sent []) }
-        ensures err { OnErr result (Stops (W.written self.old.out) self.old.sent self.old.bytes.items piece.now (W.written self.new.out) self.new.sent) }
+        ensures ok { IfOk result (λ n. Follows (W.written self.old.out) self.old.sent self.old.bytes.items
+            (take n piece.now) (W.written self.new.out) self.new.sent []) }
+        ensures err { OnErr result (Stops (W.written self.old.out) self.old.sent self.old.bytes.items
+            piece.now (W.written self.new.out) self.new.sent) }
         ensures full { IfOk result (λ n. n + length self.old.bytes.items ≡ 65536) }
         ensures empty { self.new.bytes.items ≡ [] }
         ensures counted { IfOk result (λ n. self.new.sent ≡ self.old.sent + 65536) }
@@ -93,9 +97,12 @@ impl<W: ByteSink> Buffer<W> {
     // Adds a piece.
     fn add(&mut self, piece: &[u8]) -> Result<(), PortFault>
         requires room { self.old.sent + length self.old.bytes.items + length piece.now < 2 ^ 63 }
-        ensures ok { OnOk result (Follows (W.written self.old.out) self.old.sent self.old.bytes.items piece.now (W.written self.new.out) self.new.sent self.new.bytes.items) }
-        ensures err { OnErr result (Stops (W.written self.old.out) self.old.sent self.old.bytes.items piece.now (W.written self.new.out) self.new.sent) }
-        ensures counted { OnOk result (self.new.sent + length self.new.bytes.items ≡ self.old.sent + length self.old.bytes.items + length piece.now) }
+        ensures ok { OnOk result (Follows (W.written self.old.out) self.old.sent self.old.bytes.items
+            piece.now (W.written self.new.out) self.new.sent self.new.bytes.items) }
+        ensures err { OnErr result (Stops (W.written self.old.out) self.old.sent self.old.bytes.items
+            piece.now (W.written self.new.out) self.new.sent) }
+        ensures counted { OnOk result (self.new.sent + length self.new.bytes.items
+            ≡ self.old.sent + length self.old.bytes.items + length piece.now) }
         ensures cause { HasCause (W.write_faults self.old.out) (W.write_faults self.new.out) result }
     {
         let mut at = 0;
@@ -113,8 +120,10 @@ impl<W: ByteSink> Buffer<W> {
     fn add_line(&mut self, line: &Line) -> Result<(), PortFault>
         requires room { self.old.sent + length self.old.bytes.items < 2 ^ 62 }
         ensures short { length line.now.bytes ≤ 4194304 }
-        ensures ok { OnOk result (Follows (W.written self.old.out) self.old.sent self.old.bytes.items (line.now.bytes ++ 10 ∷ []) (W.written self.new.out) self.new.sent self.new.bytes.items) }
-        ensures err { OnErr result (Stops (W.written self.old.out) self.old.sent self.old.bytes.items (line.now.bytes ++ 10 ∷ []) (W.written self.new.out) self.new.sent) }
+        ensures ok { OnOk result (Follows (W.written self.old.out) self.old.sent self.old.bytes.items
+            (line.now.bytes ++ 10 ∷ []) (W.written self.new.out) self.new.sent self.new.bytes.items) }
+        ensures err { OnErr result (Stops (W.written self.old.out) self.old.sent self.old.bytes.items
+            (line.now.bytes ++ 10 ∷ []) (W.written self.new.out) self.new.sent) }
         ensures cause { HasCause (W.write_faults self.old.out) (W.write_faults self.new.out) result }
     {
         match self.add(line.bytes.as_slice()) {
@@ -127,8 +136,10 @@ impl<W: ByteSink> Buffer<W> {
     fn add_lines(&mut self, lines: &[Line]) -> Result<(), PortFault>
         requires few { length lines.now < 2 ^ 32 }
         requires first { (self.old.sent ≡ 0) × (self.old.bytes.items ≡ []) }
-        ensures ok { OnOk result (Buffered (W.written self.old.out) (W.written self.new.out) (log_text lines.now) self.new.sent []) }
-        ensures err { OnErr result (Stopped (W.written self.old.out) (W.written self.new.out) (log_text lines.now) self.new.sent) }
+        ensures ok { OnOk result (
+            Buffered (W.written self.old.out) (W.written self.new.out) (log_text lines.now) self.new.sent []) }
+        ensures err { OnErr result (
+            Stopped (W.written self.old.out) (W.written self.new.out) (log_text lines.now) self.new.sent) }
         ensures cause { HasCause (W.write_faults self.old.out) (W.write_faults self.new.out) result }
     {
         for line in lines {

@@ -6,7 +6,7 @@ use front_base::{Line, NoMemory};
 use std::alloc::Global;
 use std::marker::Model;
 
-/// Which line it is, and how many bytes it has.
+// Which line a copy is of, and how many bytes it has.
 #[derive(Clone, Copy, Debug)]
 pub struct Entry {
     pub bay: u16,
@@ -14,7 +14,7 @@ pub struct Entry {
     pub length: usize,
 }
 
-/// Copies of lines, in room that was reserved.
+/// Copies of lines, in room that was reserved: their bytes one after another, and an entry for each.
 #[derive(Drop)]
 pub struct LineCopies {
     entries: Vec<Entry>,
@@ -29,7 +29,11 @@ impl Model for LineCopies {
 
     ghost Value = { seen.Copies };
 
-    ghost view = { λ c. record { lines = seen.lines_at c.entries.items c.bytes.items; most_lines = c.most_lines; most_bytes = c.most_bytes } };
+    ghost view = { λ c. record {
+      lines = seen.lines_at c.entries.items c.bytes.items;
+      most_lines = c.most_lines;
+      most_bytes = c.most_bytes;
+    } };
 
     ghost invariant = { λ c. (seen.lengths_of c.entries.items ≡ length c.bytes.items)
         × (length c.entries.items ≤ c.most_lines) × (c.most_lines ≤ vec_capacity c.entries)
@@ -49,7 +53,7 @@ impl LineCopies {
         })
     }
 
-    /// How many lines there are.
+    /// Whether there is room for copies of these lines too.
     pub fn fits(&self, lines: &[Line]) -> bool
         ensures { result ≡ copies_fit self.now lines.now }
     {

@@ -31,6 +31,8 @@ pub trait Lane {
 
     fn offer(&mut self, line: Line) -> Offer
         requires { ForSome (bay self.old) (λ b. line.bay ≡ b) }
-        ensures fixed { (bay self.new ≡ bay self.old) × (home self.new ≡ home self.old) × (queued self.new ≡ queued self.old) }
+        ensures fixed { (bay self.new ≡ bay self.old)
+            × (home self.new ≡ home self.old)
+            × (queued self.new ≡ queued self.old) }
         ensures offered { Offered (tells self.old) line (queued self.old) result (tells self.new) };
 }

@@ -43,7 +43,8 @@ impl MemNotes {
     }
 
     fn fits(&self, lines: &[Line]) -> bool
-        ensures { result ≡ (nat_lt (length self.now.notes.items) self.now.most_notes && copies_fit self.now.copies lines.now) }
+        ensures { result ≡ (nat_lt (length self.now.notes.items) self.now.most_notes
+            && copies_fit self.now.copies lines.now) }
     {
         self.notes.len() < self.most_notes && self.copies.fits(lines)
     }
