@@ -5,6 +5,7 @@ use Rattle.truncate_backend.specs.Notes.{NotesRoom, room_for, tries_of}
 use Rattle.truncate_backend.specs.Tries.{Try}
 use Rattle.truncate_backend.specs.declared.mem_notes.MemNotes.{MemNotes}
 
+-- the tries that were noted
 abbrev pub noted_tries : MemNotes → List Try
 noted_tries n = tries_of n.notes.items n.copies.lines
 

@@ -4,11 +4,12 @@ use Rattle.front_base.specs.Line.{Line}
 use Rattle.truncate_backend.specs.Tries.{Try, lines_of, bytes_of}
 use Rattle.truncate_backend.specs.declared.tries.TryNote.{TryNote}
 
--- so many lines belong to the first note, and so on
+-- the tries of notes, whose lines stand one after another
 abbrev pub tries_of : List TryNote → List Line → List Try
 tries_of [] lines = []
 tries_of (n ∷ ns) lines = record { lines = take n.lines lines; note = n } ∷ tries_of ns (drop n.lines lines)
 
+-- how many lines the notes have in all
 abbrev pub counts_of : List TryNote → ℕ
 counts_of [] = 0
 counts_of (n ∷ ns) = n.lines + counts_of ns

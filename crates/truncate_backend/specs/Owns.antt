@@ -3,6 +3,7 @@ use Rattle.std.specs.Prelude.{◌+◌, ◌-◌, ◌^◌, min, option_map}
 use Rattle.truncate_backend.specs.Lanes.{LaneTells}
 use Rattle.truncate_backend.specs.Tries.{SinkTells, lines_of, done_of}
 
+-- it accepted what the sink wrote, tried what the sink tried, and failed as often as the sink
 abbrev pub own_tells : SinkTells → LaneTells
 own_tells s =
     record {
