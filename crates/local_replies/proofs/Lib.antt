@@ -1,4 +1,3 @@
-pub mod EndsLemmas
 pub mod BehindLemmas
 pub mod RouteLemmas
 pub mod SeekLemmas

@@ -1,5 +1,4 @@
 pub mod Content
-pub mod Ends
 pub mod Errand
 pub mod Kind
 pub mod Looked

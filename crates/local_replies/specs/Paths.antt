@@ -1,6 +1,6 @@
 -- Which paths are local (Kubernetes, "Kubernetes API health endpoints", "API discovery", and the API of APIServices).
 use Rattle.std.specs.Prelude.{ℕ, ◌==◌, Bool, true, false, List, [], ◌∷◌, codes, bytes_eq, Option, Some, None, if◌then◌else◌}
-use Rattle.local_replies.specs.Ends.{trimmed}
+use Rattle.front_base.specs.Ends.{trimmed}
 use Rattle.local_replies.specs.declared.local.Local.{Local}
 use Rattle.local_replies.specs.declared.local.Local.TheVariants.{Health, GroupList, OneGroup, ResourceList, AllServices, OneService, Unserved}
 

@@ -2,9 +2,8 @@
 ghost use Rattle.std.specs.Prelude.{◌≡◌, IfOk};
 ghost use Rattle.local_replies.specs.Kind as spec;
 
-use crate::cut::without_prefix;
 use crate::local::Local;
-use front_base::{NoMemory, Text};
+use front_base::{NoMemory, Text, without_prefix};
 use std::alloc::Global;
 
 // A local path without the name in it.

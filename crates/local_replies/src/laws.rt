@@ -14,12 +14,15 @@ ghost use Rattle.local_replies.specs.declared.local.Local.TheVariants as local;
 ghost use Rattle.local_replies.specs.declared.reply.LocalReply.{LocalReply};
 
 use apiservice_table::one_user_knows_the_rows;
+use front_base::slashes_are_trimmed;
 
 /// A slash at either end of a path makes no other local path of it.
 pub fn slashes_at_ends_do_not_count()
     ensures front { (path : List ℕ) → local_of (47 ∷ path) ≡ local_of path }
     ensures back { (path : List ℕ) → local_of (path ++ 47 ∷ []) ≡ local_of path }
-{}
+{
+    slashes_are_trimmed();
+}
 
 /// The Status of each code that has a cause is 104 bytes longer than its reason and its message: neither needs an escape.
 pub fn lengths_of_refusals()

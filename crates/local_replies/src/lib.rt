@@ -7,8 +7,6 @@
 //! Nothing is promised of who asks: the caller knows the user.
 #![tactic(auto)]
 
-mod cut;
-mod ends;
 mod errand;
 mod kind;
 mod laws;

@@ -5,10 +5,9 @@ ghost use Rattle.local_replies.specs.Paths.{first_of, local_of, table};
 ghost use Rattle.local_replies.specs.Router.{rows_with, IsFree, IsLocalRouter};
 ghost use Rattle.matchit.specs.Route.{parse_route};
 
-use crate::ends::trimmed;
 use crate::kind::Kind;
 use crate::local::Local;
-use front_base::NoMemory;
+use front_base::{NoMemory, trim_slashes};
 use matchit::{InsertError, Router};
 use std::alloc::Global;
 
@@ -84,7 +83,7 @@ impl LocalPaths {
     pub fn local(&self, alloc: Global, path: &str) -> Result<Option<Local>, NoMemory>
         ensures { IfOk result (λ local. local ≡ local_of path.now) }
     {
-        let text = trimmed(path);
+        let text = trim_slashes(path);
         match self.kind_of(text) {
             Some(kind) => Ok(Some(kind.local_at(alloc, text)?)),
             None => Ok(None),
