@@ -64,7 +64,7 @@ fn fitted(alloc: Global, event: &Event, max: u64) -> Result<(&'static str, u64),
     Ok(match fit(alloc, event, max)? {
         Fit::Whole(line) => ("whole", line.as_slice().len() as u64),
         Fit::Stripped(line) => ("stripped", line.as_slice().len() as u64),
-        Fit::TooLarge { size } => ("too large", size),
+        Fit::TooLarge { size } => ("too-large", size),
     })
 }
 
@@ -100,26 +100,51 @@ fn noted(notes: &mut MemNotes, line: &Line) -> bool {
     free
 }
 
-// The lengths were counted from the members' own texts (`Event` of `audit.k8s.io/v1`).
+// A maximum, and what fits: the lengths were counted from the members' own texts (`Event` of `audit.k8s.io/v1`).
+const WITH_OBJECTS: &str = "509 whole 509
+508 stripped 415
+415 stripped 415
+414 too-large 415
+106 too-large 415
+";
+
+const WITHOUT: &str = "367 whole 367
+366 too-large 415
+";
+
+// The row of a maximum.
+fn row_of(alloc: Global, event: &Event, max: &str) -> Result<String, Fail> {
+    let (what, size) = fitted(alloc, event, max.parse().map_err(|_| "a number")?)?;
+    Ok(format!(in alloc; "{max} {what} {size}")?)
+}
+
+// The rows of the maxima of these rows.
+fn rows_of(alloc: Global, event: &Event, rows: &str) -> Result<String, Fail> {
+    let mut own = String::new(alloc);
+    for row in rows.lines() {
+        let (max, _) = row.split_once(' ').ok_or("a row")?;
+        own.push_str(row_of(alloc, event, max)?.as_str())?;
+        own.push('\n')?;
+    }
+    Ok(own)
+}
+
 #[test]
 fn a_line_fits_whole_or_stripped_or_not(rt: HostRuntime) -> Result<(), Fail> {
     let alloc = rt.alloc();
-    let request = Some(hundred_bytes(alloc)?);
-    let event = event(alloc, request, Some(object(alloc, b"{\"b\":1}")?))?;
-    assert_eq!(rt; fitted(alloc, &event, 509)?, ("whole", 509));
-    assert_eq!(rt; fitted(alloc, &event, 508)?, ("stripped", 415));
-    assert_eq!(rt; fitted(alloc, &event, 415)?, ("stripped", 415));
-    assert_eq!(rt; fitted(alloc, &event, 414)?, ("too large", 415));
-    assert_eq!(rt; fitted(alloc, &event, 106)?, ("too large", 415));
+    let (request, response) = (hundred_bytes(alloc)?, object(alloc, b"{\"b\":1}")?);
+    let event = event(alloc, Some(request), Some(response))?;
+    assert_eq!(rt;
+        rows_of(alloc, &event, WITH_OBJECTS)?.as_str(),
+        WITH_OBJECTS
+    );
     Ok(())
 }
 
 #[test]
 fn a_line_without_objects_is_not_stripped(rt: HostRuntime) -> Result<(), Fail> {
-    let alloc = rt.alloc();
-    let event = event(alloc, None, None)?;
-    assert_eq!(rt; fitted(alloc, &event, 367)?, ("whole", 367));
-    assert_eq!(rt; fitted(alloc, &event, 366)?, ("too large", 415));
+    let event = event(rt.alloc(), None, None)?;
+    assert_eq!(rt; rows_of(rt.alloc(), &event, WITHOUT)?.as_str(), WITHOUT);
     Ok(())
 }
 
