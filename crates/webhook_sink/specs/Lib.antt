@@ -1,0 +1,6 @@
+pub mod Buffered
+pub mod Exchanges
+pub mod Hooks
+pub mod Lists
+pub mod Posts
+pub mod Replies
