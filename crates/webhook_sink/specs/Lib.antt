@@ -4,3 +4,4 @@ pub mod Hooks
 pub mod Lists
 pub mod Posts
 pub mod Replies
+pub mod Hooked

@@ -25,7 +25,7 @@ fn host_of(alloc: Global, hook: &HookUrl) -> Result<String, NoMemory>
 
 // What stands before the length in the head.
 #[tactic(auto, unfolding(crate::specs::Posts::before_length))]
-pub fn before_length(alloc: Global, hook: &HookUrl) -> Result<Bytes, NoMemory>
+fn before_length(alloc: Global, hook: &HookUrl) -> Result<Bytes, NoMemory>
     ensures { IfOk result (λ text. text ≡ spec.before_length hook.now) }
 {
     let host = host_of(alloc, hook)?;
@@ -44,6 +44,30 @@ fn after_length() -> &'static [u8]
     ensures short { length result.now ≤ 40 }
 {
     b"\r\nConnection: close\r\n\r\n"
+}
+
+// The most bytes before the length in a head. `url` reads no text that makes more.
+const MOST_BEFORE_BYTES: usize = 1_099_511_627_776;
+
+/// What the posts to a URL begin with.
+#[derive(Drop)]
+pub struct PostHead {
+    pub url: HookUrl,
+    pub before: Bytes,
+    ghost text: { before ≡ spec.before_length url },
+    ghost short: { length before ≤ 2 ^ 40 },
+}
+
+impl PostHead {
+    pub fn new(alloc: Global, url: HookUrl) -> Result<PostHead, NoMemory>
+        ensures { IfOk result (λ head. head.url ≡ url) }
+    {
+        let before = before_length(alloc, &url)?;
+        if before.as_slice().len() > MOST_BEFORE_BYTES {
+            return Err(NoMemory);
+        }
+        Ok(PostHead { url, before })
+    }
 }
 
 impl SendBuffer {
