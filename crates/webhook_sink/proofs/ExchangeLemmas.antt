@@ -1,5 +1,5 @@
 -- What a dial notes of one exchange.
-use Rattle.std.proofs.Common.{◌≡◌, ℕ, ◌+◌, ◌<◌, ◌≤◌, inl, inr, List, [], ◌∷◌, ◌++◌, length, take, Option, None, Some, IfSome, refl, sym, ap, subst, ◌∙◌, arith}
+use Rattle.std.proofs.Common.{◌≡◌, ℕ, ◌<◌, inr, List, [], ◌∷◌, ◌++◌, length, take, Option, None, Some, IfSome, refl, sym, ap, subst, ◌∙◌, arith}
 use Rattle.std.proofs.Math.Seq.{take-length}
 use Rattle.std.specs.Io.KnownBytes.{Appends, Consumes}
 use Rattle.front_base.specs.declared.address.Address.{Address}
@@ -8,7 +8,7 @@ use Rattle.front_ports.specs.Dials.{NotesCall, NotesSent}
 use Rattle.front_ports.specs.Side.{Side}
 use Rattle.front_ports.specs.declared.dial.Call.{Call}
 use Rattle.webhook_sink.specs.Replies.{Came, rest_of}
-use Rattle.webhook_sink.specs.Exchanges.{EndsBy, ExchangedBy, NotesOne, Answered, Broken}
+use Rattle.webhook_sink.specs.Exchanges.{EndsBy, ExchangedBy, NotesOne}
 use Rattle.webhook_sink.specs.declared.reply.Reply.{Reply}
 
 -- ---- one object told in two ways

@@ -1,5 +1,5 @@
 -- The head of a post is what stands before its length, the length, and what stands after it.
-use Rattle.std.proofs.Common.{◌≡◌, ℕ, List, [], ◌∷◌, ◌++◌, length, refl, sym, ap, ◌∙◌, append_assoc, append-nil, codes, decimal}
+use Rattle.std.proofs.Common.{◌≡◌, ℕ, List, [], ◌++◌, length, sym, ap, ◌∙◌, append_assoc, append-nil, codes, decimal}
 use Rattle.front_base.specs.Line.{Line}
 use Rattle.http_head.specs.Written.{line, header_lines, request_line}
 use Rattle.webhook_sink.specs.Lists.{list_text}

@@ -1,19 +1,19 @@
 -- What heads say in some bytes they say in more bytes, and what was taken so far.
-use Rattle.std.proofs.Common.{◌≡◌, ℕ, zero, suc, ◌+◌, ◌<◌, ◌≤◌, inl, inr, List, [], ◌∷◌, ◌++◌, length, take, drop, Option, None, Some, refl, sym, ap, subst, ◌∙◌, arith, append_assoc, append-nil}
+use Rattle.std.proofs.Common.{◌≡◌, ℕ, zero, suc, ◌<◌, ◌≤◌, inl, inr, List, [], ◌∷◌, ◌++◌, length, Option, None, Some, refl, sym, ap, subst, ◌∙◌, arith, append_assoc, append-nil}
 use Rattle.std.proofs.Math.Seq.{drop-append-le, take-append-le}
 use Rattle.std.proofs.KnownBytes.{Consumes-nil, Consumes-trans}
 use Rattle.std.specs.Io.KnownBytes.{Consumes, IsAtEnd}
 use Rattle.http_head.specs.Answer.{AwaitsBlock, IsBlock, IsTooLarge}
 use Rattle.http_head.specs.Block.{block_in, line_count, IsSearched}
-use Rattle.http_head.specs.Reply.{IsReply, IsNoReply, IsStatusOf, IsStatusAnswer}
+use Rattle.http_head.specs.Reply.{IsNoReply, IsStatusOf, IsStatusAnswer}
 use Rattle.http_head.specs.declared.block.Search.{Search}
 use Rattle.http_head.specs.declared.block.TheConstants.{MOST_HEAD_BYTES, MOST_LINES}
 use Rattle.http_head.specs.declared.answer.StatusAnswer.{StatusAnswer}
 use Rattle.http_head.specs.declared.answer.StatusAnswer.TheVariants as status
 use Rattle.webhook_sink.specs.declared.reply.Reply.{Reply}
-use Rattle.webhook_sink.specs.declared.reply.Reply.TheVariants.{Final, Bad}
+use Rattle.webhook_sink.specs.declared.reply.Reply.TheVariants.{Bad}
 use Rattle.webhook_sink.specs.declared.reply.TheConstants.{MOST_INTERIM}
-use Rattle.webhook_sink.specs.Replies.{decided, after_head, SaysIf, ReadsAs, Replies, rest_of, Seen, ReadOn, Filled, GotStatus, Passed, Came}
+use Rattle.webhook_sink.specs.Replies.{decided, after_head, SaysIf, Replies, rest_of, Seen, ReadOn, Filled, GotStatus, Passed, Came}
 
 -- what http_head says of blocks
 pub record BlockLaws : Type 0 where

@@ -1,5 +1,5 @@
 -- One exchange over a link of its own: what the dial notes of it, and what is answered.
-use Rattle.std.specs.Prelude.{◌≡◌, ◌≤◌, ℕ, ◌⊎◌, List, [], ◌∷◌, ◌++◌, length, take, Option, None, Some}
+use Rattle.std.specs.Prelude.{◌≡◌, ◌≤◌, ℕ, ◌⊎◌, List, [], ◌∷◌, length, take, Option, None, Some}
 use Rattle.std.specs.Io.KnownBytes.{Appends}
 use Rattle.front_base.specs.declared.address.Address.{Address}
 use Rattle.front_ports.specs.Dials.{failed_call}

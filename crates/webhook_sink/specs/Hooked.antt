@@ -1,7 +1,6 @@
 -- What a webhook does with a try.
-use Rattle.std.specs.Prelude.{◌≡◌, ℕ, List, Option, None, Some, Bool, true, false, Result, Ok, Err, ⊤}
+use Rattle.std.specs.Prelude.{◌≡◌, ℕ, List, Option, None, Some, Bool, true, false, Result, Err, ⊤}
 use Rattle.front_base.specs.Line.{Line}
-use Rattle.front_base.specs.declared.address.Address.{Address}
 use Rattle.front_ports.specs.declared.dial.Call.{Call}
 use Rattle.truncate_backend.specs.Tries.{Try, SinkTells, TriedAs}
 use Rattle.truncate_backend.specs.declared.tries.SinkFault.{SinkFault}

@@ -1,5 +1,5 @@
 -- The URLs that a webhook can have (URL Standard, section 4).
-use Rattle.std.specs.Prelude.{ℕ, Bool, true, false, not, ◌&&◌, List, [], ◌∷◌, ◌++◌, Option, Some, None, is_some, unwrap_or, nat_eq, codes, bytes_eq, Result, Ok, Err, if◌then◌else◌}
+use Rattle.std.specs.Prelude.{ℕ, Bool, not, ◌&&◌, List, [], ◌∷◌, ◌++◌, Option, Some, None, is_some, unwrap_or, nat_eq, codes, bytes_eq, Result, Ok, Err, if◌then◌else◌}
 use Rattle.std.specs.Option.{option_eq}
 use Rattle.std.specs.Net.Addr.{ipv4_octets}
 use Rattle.url.specs.declared.host.Host.{Host}

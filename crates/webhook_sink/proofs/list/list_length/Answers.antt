@@ -1,4 +1,4 @@
-use Rattle.std.proofs.Common.{◌≡◌, ◌≤◌, length, ap, ◌∙◌, arith, sym}
+use Rattle.std.proofs.Common.{◌≤◌, length, ap, ◌∙◌, arith}
 use Rattle.front_base.specs.Line.{Line}
 use Rattle.webhook_sink.proofs.ListLemmas.{bytes-next, bytes-all, list-length}
 use Rattle.webhook_sink.proofs.list.list_length.Goals as goal

@@ -1,4 +1,4 @@
-use Rattle.std.proofs.Common.{List, ℕ, ◌++◌, ◌≡◌, ap, ◌∙◌, subst, decimal}
+use Rattle.std.proofs.Common.{List, ℕ, ◌++◌, ◌≡◌, ◌∙◌, subst, decimal}
 use Rattle.webhook_sink.specs.Buffered.{Follows, Stops}
 use Rattle.webhook_sink.specs.Posts.{after_length}
 use Rattle.webhook_sink.proofs.BufferLemmas.{then-stops, stays-stopped, err-maps}

@@ -1,4 +1,4 @@
-use Rattle.std.proofs.Common.{List, ℕ, ◌++◌, subst, length, decimal}
+use Rattle.std.proofs.Common.{ℕ, ◌++◌, subst, length, decimal}
 use Rattle.webhook_sink.specs.Buffered.{Follows, Stops}
 use Rattle.webhook_sink.specs.Lists.{list_text}
 use Rattle.webhook_sink.specs.Posts.{after_length, post_from}

@@ -1,5 +1,3 @@
-use Rattle.std.proofs.Common.{List, ℕ, subst}
-use Rattle.webhook_sink.specs.Buffered.{Follows}
 use Rattle.webhook_sink.specs.Posts.{post_from}
 use Rattle.webhook_sink.proofs.BufferLemmas.{wrote-all, wrote-part, wrote-stopped}
 use Rattle.webhook_sink.proofs.buffer.SendBuffer.send_post.Goals as goal
