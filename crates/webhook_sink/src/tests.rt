@@ -1,3 +1,7 @@
+ghost use Rattle.std.specs.Prelude.{IfOk};
+ghost use Rattle.std.specs.List.{All};
+ghost use Rattle.front_ports.specs.Memory.{IsUnused};
+
 use crate::{HookFault, WebhookSink, check_url, list_length, read_url};
 use front_base::{Bytes, Line, NoMemory};
 use front_ports::{MemDial, MemLink, Script};
@@ -21,7 +25,9 @@ fn line(alloc: Global, text: &str) -> Result<Line, NoMemory> {
 }
 
 // A link that answers this, in reads of so many bytes.
-fn link(alloc: Global, input: &str, size: u32) -> Result<MemLink, NoMemory> {
+fn link(alloc: Global, input: &str, size: u32) -> Result<MemLink, NoMemory>
+    ensures { IfOk result IsUnused }
+{
     let mut sizes = Vec::new(alloc);
     for _ in 0..400 {
         sizes.push(size)?;
@@ -38,7 +44,9 @@ fn link(alloc: Global, input: &str, size: u32) -> Result<MemLink, NoMemory> {
     )
 }
 
-fn hook(alloc: Global, links: Vec<MemLink>) -> Result<WebhookSink<MemDial, MemNotes>, HookFault> {
+fn hook(alloc: Global, links: Vec<MemLink>) -> Result<WebhookSink<MemDial, MemNotes>, HookFault>
+    requires { All IsUnused links.items }
+{
     let dial = MemDial::new(alloc, links, Vec::new(alloc))?;
     let notes = MemNotes::new(alloc, 4, 100, 10_000)?;
     WebhookSink::start(alloc, "http://127.0.0.1:9400/audit?x=1", dial, notes)
