@@ -1,0 +1,4 @@
+mod FileLemmas
+mod FindLemmas
+mod KeyLemmas
+mod RowLemmas

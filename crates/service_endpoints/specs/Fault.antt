@@ -1,0 +1,19 @@
+-- What is read, or the fault of the first row that is refused.
+use Rattle.std.specs.Prelude.{Bool, true, false, Option, Result}
+use Rattle.json_value.specs.Results as results
+use Rattle.service_endpoints.specs.declared.fault.EndpointFault.{EndpointFault}
+use Rattle.service_endpoints.specs.declared.fault.EndpointFault.TheVariants.{BadRow, Input, NoMemory}
+
+-- no file makes it due: memory ran out, or the reader of CSV failed
+abbrev pub is_free : EndpointFault → Bool
+is_free (BadRow row why) = false
+is_free Input = true
+is_free NoMemory = true
+
+-- a fault that is answered is the one that is due, or one that no file makes due
+abbrev pub Fails : EndpointFault → Option EndpointFault → Type 0
+Fails = results.Fails is_free
+
+-- what is answered, seen by view, is what is due, or a fault that no file makes due
+abbrev pub Gives : {A B : Type 0} → (A → B) → Result A EndpointFault → Result B EndpointFault → Type 0
+Gives = results.Gives is_free
