@@ -14,7 +14,7 @@ use Rattle.front_base.specs.Number.{is_number, number_of, has_leading_zero, plai
 use Rattle.apiservice_rows.specs.Object.{is_service_name, is_group, are_name_bytes}
 use Rattle.service_endpoints.specs.Key.{is_port, is_name_and_port, is_service_key, are_parts}
 
-both : (a b : Bool) → (a && b) ≡ true → (a ≡ true) × (b ≡ true)
+pub both : (a b : Bool) → (a && b) ≡ true → (a ≡ true) × (b ≡ true)
 both true b e = (refl, e)
 both false b e = absurd (cc e)
 
@@ -48,7 +48,7 @@ name_length t e =
     let h = both (nat_lt (length t) 254) (are_name_bytes t) (both (nat_lt 0 (length t)) (is_group t) e).1 in
     grind (arith, nat_tests, h.0)
 
-own : IsNumeralModel (λ ds. all_ascii_digits ds ≡ true) (digits_value 10)
+pub own : IsNumeralModel (λ ds. all_ascii_digits ds ≡ true) (digits_value 10)
 own = numerals_by_value _ tells_all_ascii_digits
 
 -- a text without a leading zero that begins with one is just that

@@ -1,4 +1,5 @@
 mod FileLemmas
 mod FindLemmas
 mod KeyLemmas
+mod LawLemmas
 mod RowLemmas

@@ -1,5 +1,5 @@
 -- The keys of endpoints.
-use Rattle.std.specs.Prelude.{ℕ, ◌&&◌, ◌||◌, Bool, false, List, ◌∷◌, ◌++◌, Option, Some, None, is_some, codes, decimal}
+use Rattle.std.specs.Prelude.{◌≡◌, ℕ, ◌<◌, ◌&&◌, ◌||◌, Bool, true, false, List, ◌∷◌, ◌++◌, Option, Some, None, is_some, codes, decimal}
 use Rattle.std.specs.Str.{bytes_eq}
 use Rattle.front_base.specs.Address.{port_of}
 use Rattle.front_base.specs.Cut.{cut_at}
@@ -38,3 +38,10 @@ is_service_key text = are_parts is_service_name is_name_and_port (cut_at 47 text
 
 abbrev pub is_key : List ℕ → Bool
 is_key text = bytes_eq text delegate_key || is_service_key text
+
+-- a service as an APIService may name it
+pub record IsService (s : ServiceRef) : Type 0 where
+  pub namespace : is_service_name s.namespace ≡ true
+  pub name : is_service_name s.name ≡ true
+  pub some_port : 0 < s.port
+  pub low_port : s.port < 65536

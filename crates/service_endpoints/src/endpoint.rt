@@ -1,4 +1,4 @@
-// One row of a file of endpoints.
+// One row of an endpoints file.
 ghost use Rattle.std.specs.Prelude.{◌≡◌, ◌≤◌, length, IfOk, IfSome, option_map};
 ghost use Rattle.csv.specs.Records.{fields_of};
 ghost use Rattle.service_endpoints.specs.Fault.{Gives};

@@ -15,7 +15,7 @@ pub enum BadEndpoint {
     Address,
 }
 
-/// Why a file of endpoints isn't read.
+/// Why an endpoints file isn't read.
 #[derive(Clone, Copy, Debug, PartialEq, Eq)]
 pub enum EndpointFault {
     /// A row is no endpoint. Rows are counted from 0, without blank lines.

@@ -1,4 +1,4 @@
-// A whole file of endpoints.
+// A whole endpoints file.
 ghost use Rattle.std.specs.Prelude.{◌≡◌, ◌⊎◌, ◌<◌, ◌≤◌, ◌^◌, IfOk, IsOk, Err, length, map};
 ghost use Rattle.csv.specs.Records.{fields_of};
 ghost use Rattle.service_endpoints.specs.Fault.{Gives};
@@ -47,8 +47,8 @@ fn records_of(alloc: Global, rows: &[ByteRecord]) -> Result<Vec<Endpoint>, Endpo
     Ok(records)
 }
 
-/// The endpoints of a file, or its first row that is none. The file is CSV of two fields: a key, which is
-/// `namespace/name:port` or `local`, and an address.
+/// The endpoints of a file, or its first row that is none, and why. The file is CSV of two fields: a key, which is
+/// `namespace/name:port` or `local`, and an address. Rows are read without headers.
 pub fn read_endpoints(alloc: Global, bytes: &[u8]) -> Result<Endpoints, EndpointFault>
     requires { length bytes.now ≤ MOST_FILE_BYTES }
     ensures { Gives (λ e. e) result (spec.file_records bytes.now) }
