@@ -1,1 +1,4 @@
+pub mod Client
+pub mod Forwarded
+pub mod Hop
 pub mod Target
