@@ -1,5 +1,5 @@
 -- The rows of a list, one item after another.
-use Rattle.std.proofs.Common.{◌≡◌, Bool, true, false, ◌∷◌, [], ◌++◌, List, Some, Result, Ok, Err, refl, sym, ap, ◌∙◌, append_assoc}
+use Rattle.std.proofs.Common.{◌≡◌, ℕ, ◌+◌, Bool, true, false, ◌∷◌, [], ◌++◌, List, Some, Result, Ok, Err, refl, sym, ap, ◌∙◌, append_assoc}
 use Rattle.serde_json.specs.Data.{Data, Items, no_items, item}
 use Rattle.json_value.specs.Results.{◌>>=◌, fault_of, Unless}
 use Rattle.apiservice_rows.specs.Fault.{is_memory, Fails}
@@ -18,20 +18,20 @@ with_front-front a b (Ok x) = ap Ok (append_assoc a b x)
 with_front-front a b (Err e) = refl
 
 -- one item more was read
-pub rows_more : (done : List Row) (d : Data) (ds : Items) (r : Row) → row_of true d ≡ Ok r
-    → with_front (done ++ r ∷ []) (item_rows ds) ≡ with_front done (item_rows (item d ds))
+pub rows_more : (done : List Row) (place : ℕ) (d : Data) (ds : Items) (r : Row) → row_of (Some place) d ≡ Ok r
+    → with_front (done ++ r ∷ []) (item_rows (place + 1) ds) ≡ with_front done (item_rows place (item d ds))
 unfolding item_rows
-rows_more done d ds r e = with_front-front done (r ∷ []) (item_rows ds) ∙ rw e refl
+rows_more done place d ds r e = with_front-front done (r ∷ []) (item_rows (place + 1) ds) ∙ rw e refl
 
 -- an item that is refused refuses the list
-pub rows_stop : (done : List Row) (d : Data) (ds : Items) (f : RowFault) → row_of true d ≡ Err f
-    → with_front done (item_rows (item d ds)) ≡ Err f
+pub rows_stop : (done : List Row) (place : ℕ) (d : Data) (ds : Items) (f : RowFault) → row_of (Some place) d ≡ Err f
+    → with_front done (item_rows place (item d ds)) ≡ Err f
 unfolding item_rows
-rows_stop done d ds f e = rw e refl
+rows_stop done place d ds f e = rw e refl
 
-pub rows_end : (done : List Row) → with_front done (item_rows no_items) ≡ Ok (done ++ [])
+pub rows_end : (done : List Row) (place : ℕ) → with_front done (item_rows place no_items) ≡ Ok (done ++ [])
 unfolding item_rows
-rows_end done = refl
+rows_end done place = refl
 
 fault_is : {A : Type 0} (r : Result A RowFault) (f : RowFault) → fault_of r ≡ Some f → r ≡ Err f
 fault_is (Ok x) f e = absurd (cc e)
@@ -43,6 +43,7 @@ stops true r all f h e = tt
 stops false r all f h e = ap fault_of (h (fault_is r f e))
 
 -- the fault of an item is that of the list
-pub fault_stops : (done : List Row) (d : Data) (ds : Items) (all : Result (List Row) RowFault) (f : RowFault)
-    → Fails f (fault_of (row_of true d)) → with_front done (item_rows (item d ds)) ≡ all → Fails f (fault_of all)
-fault_stops done d ds all f fails is = stops (is_memory f) (row_of true d) all f (λ e. sym is ∙ rows_stop done d ds f e) fails
+pub fault_stops : (done : List Row) (place : ℕ) (d : Data) (ds : Items) (all : Result (List Row) RowFault) (f : RowFault)
+    → Fails f (fault_of (row_of (Some place) d)) → with_front done (item_rows place (item d ds)) ≡ all → Fails f (fault_of all)
+fault_stops done place d ds all f fails is =
+    stops (is_memory f) (row_of (Some place) d) all f (λ e. sym is ∙ rows_stop done place d ds f e) fails

@@ -1,11 +1,12 @@
 -- The first name that stood before, and the names that are among others.
-use Rattle.std.proofs.Common.{◌≡◌, ℕ, Bool, true, false, cond, List, [], ◌∷◌, ◌++◌, Some, None, Ok, refl, ap, ◌∙◌}
+use Rattle.std.proofs.Common.{◌≡◌, ℕ, Bool, true, false, cond, List, [], ◌∷◌, ◌++◌, length, Some, None, Ok, refl, ap, ◌∙◌}
 use Rattle.std.specs.Prelude.{not, ◌||◌}
 use Rattle.std.specs.Str.{bytes_eq}
 use Rattle.std.proofs.lemmas.List.{map-append}
 use Rattle.json_value.specs.Results.{fault_of}
 use Rattle.apiservice_rows.specs.Row.{Row}
 use Rattle.apiservice_rows.specs.RowList.{is_among, names_of, repeated, distinct}
+use Rattle.apiservice_rows.specs.declared.fault.RowFault.{RowFault}
 use Rattle.apiservice_rows.specs.declared.fault.RowFault.TheVariants.{Repeated}
 
 or_cases : (a b : Bool) → (a || b) ≡ cond a true b
@@ -36,7 +37,7 @@ repeated_more before name names e = rw e refl
 
 -- a name that stood before ends the search
 pub repeated_here : (before : List (List ℕ)) (name : List ℕ) (names : List (List ℕ)) → is_among name before ≡ true
-    → repeated before (name ∷ names) ≡ Some name
+    → repeated before (name ∷ names) ≡ Some (Repeated (length before) name)
 unfolding repeated
 repeated_here before name names e = rw e refl
 
@@ -44,10 +45,10 @@ pub repeated_end : (before : List (List ℕ)) → repeated before [] ≡ None
 unfolding repeated
 repeated_end before = refl
 
-pub distinct_stops : (names : List (List ℕ)) (name : List ℕ) → repeated [] names ≡ Some name
-    → fault_of (distinct names) ≡ Some (Repeated name)
+pub distinct_stops : (names : List (List ℕ)) (fault : RowFault) → repeated [] names ≡ Some fault
+    → fault_of (distinct names) ≡ Some fault
 unfolding distinct
-distinct_stops names name e = rw e refl
+distinct_stops names fault e = rw e refl
 
 pub distinct_ends : (names : List (List ℕ)) → repeated [] names ≡ None → distinct names ≡ Ok tt
 unfolding distinct

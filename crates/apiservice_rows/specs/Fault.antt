@@ -8,10 +8,10 @@ use Rattle.apiservice_rows.specs.declared.fault.RowFault.TheVariants.{NotJson, B
 
 abbrev pub is_memory : RowFault → Bool
 is_memory NotJson = false
-is_memory (BadField name) = false
-is_memory NameMismatch = false
-is_memory (Range name) = false
-is_memory (Repeated name) = false
+is_memory (BadField item member) = false
+is_memory (NameMismatch item) = false
+is_memory (Range item member) = false
+is_memory (Repeated item name) = false
 is_memory Full = false
 is_memory NoMemory = true
 

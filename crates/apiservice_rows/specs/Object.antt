@@ -1,5 +1,6 @@
--- An APIService object (`apiregistration.k8s.io/v1`) and the row that it gives, or its first fault.
-use Rattle.std.specs.Prelude.{ℕ, ◌+◌, ◌==◌, ◌&&◌, ◌||◌, nat_lt, Bool, true, false, if◌then◌else◌, List, [], ◌∷◌, length, Option, Some, None, option_and_then, Result, Ok, Err, codes}
+-- An APIService object (`apiregistration.k8s.io/v1`) and the row that it gives, or its first fault. `place` is its place
+-- in a list, and None where it stands alone.
+use Rattle.std.specs.Prelude.{ℕ, ◌+◌, ◌==◌, ◌&&◌, ◌||◌, nat_lt, Bool, true, false, if◌then◌else◌, List, [], ◌∷◌, length, Option, Some, None, is_some, option_and_then, Result, Ok, Err, codes}
 use Rattle.std.specs.Char.{is_ascii_digit, is_ascii_lowercase}
 use Rattle.std.specs.Str.{bytes_eq}
 use Rattle.serde_json.specs.Data.{Data, Num, unsigned, negative, float, Items, no_items, item}
@@ -18,8 +19,8 @@ use Rattle.apiservice_rows.specs.declared.service.ServiceRef.{ServiceRef}
 -- ---- what it is
 
 -- an APIService of this version of its API, whose numbers are all whole and fit 64 bits
-unfoldable pub head_of : Bool → Data → Result (Unit {0}) RowFault
-head_of in_list d = faultless BadField (head_fault in_list (codes "APIService") (codes "apiregistration.k8s.io/v1") d)
+unfoldable pub head_of : Option ℕ → Data → Result (Unit {0}) RowFault
+head_of place d = faultless (BadField place) (head_fault (is_some place) (codes "APIService") (codes "apiregistration.k8s.io/v1") d)
 
 -- ---- whose it is
 
@@ -56,24 +57,24 @@ kept test (Some text) = if test text then Some text else None
 abbrev pub is_not_empty : List ℕ → Bool
 is_not_empty text = nat_lt 0 (length text)
 
-unfoldable pub name_of : Data → Result (List ℕ) RowFault
-name_of d =
-    found_or (BadField (codes "name")) (kept is_not_empty (text_in (inner (codes "metadata") (codes "name") d)))
+unfoldable pub name_of : Option ℕ → Data → Result (List ℕ) RowFault
+name_of place d =
+    found_or (BadField place (codes "metadata.name")) (kept is_not_empty (text_in (inner (codes "metadata") (codes "name") d)))
 
-abbrev pub some_group : Data → Result (List ℕ) RowFault
-some_group d = found_or (BadField (codes "group")) (kept is_group (as_str d))
+abbrev pub some_group : Option ℕ → Data → Result (List ℕ) RowFault
+some_group place d = found_or (BadField place (codes "spec.group")) (kept is_group (as_str d))
 
-abbrev pub group_in : Option Data → Result (List ℕ) RowFault
-group_in None = Ok []
-group_in (Some d) = some_group d
+abbrev pub group_in : Option ℕ → Option Data → Result (List ℕ) RowFault
+group_in place None = Ok []
+group_in place (Some d) = some_group place d
 
 -- absent is the core group, whose name is empty
-unfoldable pub group_of : Data → Result (List ℕ) RowFault
-group_of d = group_in (inner (codes "spec") (codes "group") d)
+unfoldable pub group_of : Option ℕ → Data → Result (List ℕ) RowFault
+group_of place d = group_in place (inner (codes "spec") (codes "group") d)
 
-unfoldable pub version_of : Data → Result (List ℕ) RowFault
-version_of d =
-    found_or (BadField (codes "version")) (kept is_version (text_in (inner (codes "spec") (codes "version") d)))
+unfoldable pub version_of : Option ℕ → Data → Result (List ℕ) RowFault
+version_of place d =
+    found_or (BadField place (codes "spec.version")) (kept is_version (text_in (inner (codes "spec") (codes "version") d)))
 
 -- a whole number that fits 64 bits; one below 0 counts as 0, which is out of every range
 abbrev pub whole : Num → Option ℕ
@@ -84,8 +85,15 @@ whole (float x) = None
 abbrev pub whole_in : Option Data → Option ℕ
 whole_in found = option_and_then whole (option_and_then as_number found)
 
-unfoldable pub priority_of : List ℕ → Data → Result ℕ RowFault
-priority_of name d = found_or (BadField name) (whole_in (inner (codes "spec") name d))
+-- the number that `spec` has by that name; its path is given too
+unfoldable pub priority_of : Option ℕ → List ℕ → List ℕ → Data → Result ℕ RowFault
+priority_of place member name d = found_or (BadField place member) (whole_in (inner (codes "spec") name d))
+
+unfoldable pub group_number_of : Option ℕ → Data → Result ℕ RowFault
+group_number_of place d = priority_of place (codes "spec.groupPriorityMinimum") (codes "groupPriorityMinimum") d
+
+unfoldable pub version_number_of : Option ℕ → Data → Result ℕ RowFault
+version_number_of place d = priority_of place (codes "spec.versionPriority") (codes "versionPriority") d
 
 -- ---- which service answers for it
 
@@ -96,33 +104,35 @@ some_present (Err fault) = Err fault
 abbrev pub is_service_name : List ℕ → Bool
 is_service_name text = is_not_empty text && is_group text
 
-unfoldable pub service_text : List ℕ → Data → Result (List ℕ) RowFault
-service_text name d = found_or (BadField name) (kept is_service_name (text_in (present name d)))
+-- the text that the service has by that name; its path is given too
+unfoldable pub service_text : Option ℕ → List ℕ → List ℕ → Data → Result (List ℕ) RowFault
+service_text place member name d = found_or (BadField place member) (kept is_service_name (text_in (present name d)))
 
-abbrev pub port_in : Option Data → Result ℕ RowFault
-port_in None = Ok 443
-port_in (Some d) = found_or (BadField (codes "port")) (whole_in (Some d))
+abbrev pub port_in : Option ℕ → Option Data → Result ℕ RowFault
+port_in place None = Ok 443
+port_in place (Some d) = found_or (BadField place (codes "spec.service.port")) (whole_in (Some d))
 
 -- the port of HTTPS where none is named, and in any range yet
-unfoldable pub port_of : Data → Result ℕ RowFault
-port_of d = port_in (present (codes "port") d)
+unfoldable pub port_of : Option ℕ → Data → Result ℕ RowFault
+port_of place d = port_in place (present (codes "port") d)
 
-unfoldable pub present_service : Data → Result FoundService RowFault
-present_service d = do
-  namespace ← service_text (codes "namespace") d
-  name ← service_text (codes "name") d
-  port ← port_of d
+unfoldable pub present_service : Option ℕ → Data → Result FoundService RowFault
+present_service place d = do
+  namespace ← service_text place (codes "spec.service.namespace") (codes "namespace") d
+  name ← service_text place (codes "spec.service.name") (codes "name") d
+  port ← port_of place d
   Ok (record { namespace = namespace; name = name; port = port })
 
-abbrev pub some_service : Data → Result (Option FoundService) RowFault
-some_service d = if is_object d then some_present (present_service d) else Err (BadField (codes "service"))
+abbrev pub some_service : Option ℕ → Data → Result (Option FoundService) RowFault
+some_service place d =
+    if is_object d then some_present (present_service place d) else Err (BadField place (codes "spec.service"))
 
-abbrev pub service_in : Option Data → Result (Option FoundService) RowFault
-service_in None = Ok None
-service_in (Some d) = some_service d
+abbrev pub service_in : Option ℕ → Option Data → Result (Option FoundService) RowFault
+service_in place None = Ok None
+service_in place (Some d) = some_service place d
 
-unfoldable pub service_of : Data → Result (Option FoundService) RowFault
-service_of d = service_in (inner (codes "spec") (codes "service") d)
+unfoldable pub service_of : Option ℕ → Data → Result (Option FoundService) RowFault
+service_of place d = service_in place (inner (codes "spec") (codes "service") d)
 
 -- ---- whether it is available
 
@@ -138,54 +148,62 @@ is_available (item d ds) =
     is_text (codes "True") (present (codes "status") d)
     else is_available ds
 
-abbrev pub available_by : Items → Result Bool RowFault
-available_by ds = if are_objects ds then Ok (is_available ds) else Err (BadField (codes "conditions"))
+abbrev pub available_by : Option ℕ → Items → Result Bool RowFault
+available_by place ds =
+    if are_objects ds then Ok (is_available ds) else Err (BadField place (codes "status.conditions"))
 
-abbrev pub conditions_in : Option Data → Result Bool RowFault
-conditions_in found = list_or (BadField (codes "conditions")) (Ok true) available_by found
+abbrev pub conditions_in : Option ℕ → Option Data → Result Bool RowFault
+conditions_in place found = list_or (BadField place (codes "status.conditions")) (Ok true) (available_by place) found
 
-abbrev pub some_status : Data → Result Bool RowFault
-some_status d =
-    if is_object d then conditions_in (present (codes "conditions") d) else Err (BadField (codes "status"))
+abbrev pub some_status : Option ℕ → Data → Result Bool RowFault
+some_status place d =
+    if is_object d then conditions_in place (present (codes "conditions") d) else Err (BadField place (codes "status"))
 
-abbrev pub status_in : Option Data → Result Bool RowFault
-status_in None = Ok true
-status_in (Some d) = some_status d
+abbrev pub status_in : Option ℕ → Option Data → Result Bool RowFault
+status_in place None = Ok true
+status_in place (Some d) = some_status place d
 
 -- available where nothing is said
-unfoldable pub available_of : Data → Result Bool RowFault
-available_of d = status_in (present (codes "status") d)
+unfoldable pub available_of : Option ℕ → Data → Result Bool RowFault
+available_of place d = status_in place (present (codes "status") d)
 
 -- ---- the whole
 
-unfoldable pub name_check : List ℕ → List ℕ → List ℕ → Result (Unit {0}) RowFault
-name_check name version group = if bytes_eq name (own_name version group) then Ok tt else Err NameMismatch
+unfoldable pub name_check : Option ℕ → List ℕ → List ℕ → List ℕ → Result (Unit {0}) RowFault
+name_check place name version group =
+    if bytes_eq name (own_name version group) then Ok tt else Err (NameMismatch place)
 
 -- from 1 to most
-unfoldable pub ranged : List ℕ → ℕ → ℕ → Result ℕ RowFault
-ranged name most n = if nat_lt 0 n && nat_lt n (most + 1) then Ok n else Err (Range name)
+unfoldable pub ranged : Option ℕ → List ℕ → ℕ → ℕ → Result ℕ RowFault
+ranged place member most n = if nat_lt 0 n && nat_lt n (most + 1) then Ok n else Err (Range place member)
 
-unfoldable pub ranged_service : Option FoundService → Result (Option ServiceRef) RowFault
-ranged_service None = Ok None
-ranged_service (Some s) = do
-  port ← ranged (codes "port") 65535 s.port
+unfoldable pub group_ranged : Option ℕ → ℕ → Result ℕ RowFault
+group_ranged place n = ranged place (codes "spec.groupPriorityMinimum") 20000 n
+
+unfoldable pub version_ranged : Option ℕ → ℕ → Result ℕ RowFault
+version_ranged place n = ranged place (codes "spec.versionPriority") 1000 n
+
+unfoldable pub ranged_service : Option ℕ → Option FoundService → Result (Option ServiceRef) RowFault
+ranged_service place None = Ok None
+ranged_service place (Some s) = do
+  port ← ranged place (codes "spec.service.port") 65535 s.port
   Ok (Some (record { namespace = s.namespace; name = s.name; port = port }))
 
 -- the row of an object, or the first of its faults in this order
-unfoldable pub row_of : Bool → Data → Result Row RowFault
-row_of in_list d = do
-  head ← head_of in_list d
-  name ← name_of d
-  group ← group_of d
-  version ← version_of d
-  group_number ← priority_of (codes "groupPriorityMinimum") d
-  version_number ← priority_of (codes "versionPriority") d
-  found ← service_of d
-  available ← available_of d
-  same ← name_check name version group
-  group_priority ← ranged (codes "groupPriorityMinimum") 20000 group_number
-  version_priority ← ranged (codes "versionPriority") 1000 version_number
-  service ← ranged_service found
+unfoldable pub row_of : Option ℕ → Data → Result Row RowFault
+row_of place d = do
+  head ← head_of place d
+  name ← name_of place d
+  group ← group_of place d
+  version ← version_of place d
+  group_number ← group_number_of place d
+  version_number ← version_number_of place d
+  found ← service_of place d
+  available ← available_of place d
+  same ← name_check place name version group
+  group_priority ← group_ranged place group_number
+  version_priority ← version_ranged place version_number
+  service ← ranged_service place found
   Ok (record {
     name = name;
     group = group;
@@ -201,4 +219,4 @@ row_of in_list d = do
 unfoldable pub read_row : List ℕ → Result Row RowFault
 read_row bytes = do
   d ← found_or NotJson (value_of bytes)
-  row_of false d
+  row_of None d

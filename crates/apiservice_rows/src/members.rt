@@ -1,4 +1,5 @@
-// The members of an APIService object, one check each.
+// The members of an APIService object, one check each. `item` is the object's place in a list, and None where it stands
+// alone.
 ghost use Rattle.std.specs.Prelude.{◌≡◌, false, IfOk, OnOk, option_map};
 ghost use Rattle.serde_json.specs.View.{view, items_view};
 ghost use Rattle.serde_json.specs.Written.{has_float};
@@ -16,54 +17,59 @@ use std::alloc::Global;
 
 // What the object is: its kind, the version of its API, and that its numbers are whole and fit 64 bits.
 #[tactic(auto, unfolding(crate::specs::Object::head_of))]
-pub fn check_head(alloc: Global, in_list: bool, value: &Value) -> Result<(), RowFault>
-    ensures value { Gives (λ u. u) result (spec.head_of in_list (view value.now)) }
+pub fn check_head(alloc: Global, item: Option<usize>, value: &Value) -> Result<(), RowFault>
+    ensures value { Gives (λ u. u) result (spec.head_of item (view value.now)) }
     ensures whole { OnOk result (has_float (view value.now) ≡ false) }
 {
-    match head_fault(in_list, "APIService", "apiregistration.k8s.io/v1", value) {
-        Some(name) => Err(bad_field(alloc, name)),
+    match head_fault(
+        item.is_some(),
+        "APIService",
+        "apiregistration.k8s.io/v1",
+        value,
+    ) {
+        Some(name) => Err(bad_field(alloc, item, name)),
         None => Ok(()),
     }
 }
 
 #[tactic(auto, unfolding(crate::specs::Object::name_of))]
-pub fn name_of(alloc: Global, value: &Value) -> Result<Text, RowFault>
-    ensures { Gives (λ t. t) result (spec.name_of (view value.now)) }
+pub fn name_of(alloc: Global, item: Option<usize>, value: &Value) -> Result<Text, RowFault>
+    ensures { Gives (λ t. t) result (spec.name_of item (view value.now)) }
 {
     match text_in(inner(value, "metadata", "name")) {
         Some(text) if !text.is_empty() => Ok(Text::copy_of(alloc, text)?),
-        _ => Err(bad_field(alloc, "name")),
+        _ => Err(bad_field(alloc, item, "metadata.name")),
     }
 }
 
-fn some_group(alloc: Global, found: &Value) -> Result<Text, RowFault>
-    ensures { Gives (λ t. t) result (spec.some_group (view found.now)) }
+fn some_group(alloc: Global, item: Option<usize>, found: &Value) -> Result<Text, RowFault>
+    ensures { Gives (λ t. t) result (spec.some_group item (view found.now)) }
 {
     match found.as_str() {
         Some(text) if is_group(text) => Ok(Text::copy_of(alloc, text)?),
-        _ => Err(bad_field(alloc, "group")),
+        _ => Err(bad_field(alloc, item, "spec.group")),
     }
 }
 
 // Absent is the core group, whose name is empty.
 #[tactic(auto, unfolding(crate::specs::Object::group_of))]
-pub fn group_of(alloc: Global, value: &Value) -> Result<Text, RowFault>
-    ensures { Gives (λ t. t) result (spec.group_of (view value.now)) }
+pub fn group_of(alloc: Global, item: Option<usize>, value: &Value) -> Result<Text, RowFault>
+    ensures { Gives (λ t. t) result (spec.group_of item (view value.now)) }
 {
     match inner(value, "spec", "group") {
         None => Ok(Text::new(String::new(alloc))),
-        Some(found) => some_group(alloc, found),
+        Some(found) => some_group(alloc, item, found),
     }
 }
 
 #[tactic(auto, unfolding(crate::specs::Object::version_of))]
-pub fn version_of(alloc: Global, value: &Value) -> Result<Text, RowFault>
-    ensures value { Gives (λ t. t) result (spec.version_of (view value.now)) }
+pub fn version_of(alloc: Global, item: Option<usize>, value: &Value) -> Result<Text, RowFault>
+    ensures value { Gives (λ t. t) result (spec.version_of item (view value.now)) }
     ensures no_dot { IfOk result (λ t. has_dot t ≡ false) }
 {
     match text_in(inner(value, "spec", "version")) {
         Some(text) if is_version(text) => Ok(Text::copy_of(alloc, text)?),
-        _ => Err(bad_field(alloc, "version")),
+        _ => Err(bad_field(alloc, item, "spec.version")),
     }
 }
 
@@ -81,30 +87,70 @@ fn whole_in(found: Option<&Value>) -> Option<u64>
     }
 }
 
+// The number that `spec` has by that name, whose path is `member`.
 #[tactic(auto, unfolding(crate::specs::Object::priority_of))]
-pub fn priority_of(alloc: Global, name: &str, value: &Value) -> Result<u64, RowFault>
-    ensures { Gives (λ n. n) result (spec.priority_of name.now (view value.now)) }
+fn priority_of(
+    alloc: Global,
+    item: Option<usize>,
+    member: &str,
+    name: &str,
+    value: &Value,
+) -> Result<u64, RowFault>
+    ensures { Gives (λ n. n) result (spec.priority_of item member.now name.now (view value.now)) }
 {
     match whole_in(inner(value, "spec", name)) {
         Some(number) => Ok(number),
-        None => Err(bad_field(alloc, name)),
+        None => Err(bad_field(alloc, item, member)),
     }
 }
 
+#[tactic(auto, unfolding(crate::specs::Object::group_number_of))]
+pub fn group_number_of(alloc: Global, item: Option<usize>, value: &Value) -> Result<u64, RowFault>
+    ensures { Gives (λ n. n) result (spec.group_number_of item (view value.now)) }
+{
+    priority_of(
+        alloc,
+        item,
+        "spec.groupPriorityMinimum",
+        "groupPriorityMinimum",
+        value,
+    )
+}
+
+#[tactic(auto, unfolding(crate::specs::Object::version_number_of))]
+pub fn version_number_of(alloc: Global, item: Option<usize>, value: &Value) -> Result<u64, RowFault>
+    ensures { Gives (λ n. n) result (spec.version_number_of item (view value.now)) }
+{
+    priority_of(
+        alloc,
+        item,
+        "spec.versionPriority",
+        "versionPriority",
+        value,
+    )
+}
+
+// The text that the service has by that name, whose path is `member`.
 #[tactic(auto, unfolding(crate::specs::Object::service_text))]
-fn service_text(alloc: Global, name: &str, service: &Value) -> Result<Text, RowFault>
-    ensures { Gives (λ t. t) result (spec.service_text name.now (view service.now)) }
+fn service_text(
+    alloc: Global,
+    item: Option<usize>,
+    member: &str,
+    name: &str,
+    service: &Value,
+) -> Result<Text, RowFault>
+    ensures { Gives (λ t. t) result (spec.service_text item member.now name.now (view service.now)) }
 {
     match text_in(present(service, name)) {
         Some(text) if is_service_name(text) => Ok(Text::copy_of(alloc, text)?),
-        _ => Err(bad_field(alloc, name)),
+        _ => Err(bad_field(alloc, item, member)),
     }
 }
 
 // The port of HTTPS where none is named.
 #[tactic(auto, unfolding(crate::specs::Object::port_of))]
-fn port_of(alloc: Global, service: &Value) -> Result<u64, RowFault>
-    ensures { Gives (λ n. n) result (spec.port_of (view service.now)) }
+fn port_of(alloc: Global, item: Option<usize>, service: &Value) -> Result<u64, RowFault>
+    ensures { Gives (λ n. n) result (spec.port_of item (view service.now)) }
 {
     let found = present(service, "port");
     if found.is_none() {
@@ -112,17 +158,21 @@ fn port_of(alloc: Global, service: &Value) -> Result<u64, RowFault>
     }
     match whole_in(found) {
         Some(port) => Ok(port),
-        None => Err(bad_field(alloc, "port")),
+        None => Err(bad_field(alloc, item, "spec.service.port")),
     }
 }
 
 #[tactic(auto, unfolding(crate::specs::Object::present_service))]
-fn present_service(alloc: Global, service: &Value) -> Result<FoundService, RowFault>
-    ensures { Gives (λ s. s) result (spec.present_service (view service.now)) }
+fn present_service(
+    alloc: Global,
+    item: Option<usize>,
+    service: &Value,
+) -> Result<FoundService, RowFault>
+    ensures { Gives (λ s. s) result (spec.present_service item (view service.now)) }
 {
-    let namespace = service_text(alloc, "namespace", service)?;
-    let name = service_text(alloc, "name", service)?;
-    let port = port_of(alloc, service)?;
+    let namespace = service_text(alloc, item, "spec.service.namespace", "namespace", service)?;
+    let name = service_text(alloc, item, "spec.service.name", "name", service)?;
+    let port = port_of(alloc, item, service)?;
     Ok(FoundService {
         namespace,
         name,
@@ -130,22 +180,30 @@ fn present_service(alloc: Global, service: &Value) -> Result<FoundService, RowFa
     })
 }
 
-fn some_service(alloc: Global, found: &Value) -> Result<Option<FoundService>, RowFault>
-    ensures { Gives (λ s. s) result (spec.some_service (view found.now)) }
+fn some_service(
+    alloc: Global,
+    item: Option<usize>,
+    found: &Value,
+) -> Result<Option<FoundService>, RowFault>
+    ensures { Gives (λ s. s) result (spec.some_service item (view found.now)) }
 {
     if !found.is_object() {
-        return Err(bad_field(alloc, "service"));
+        return Err(bad_field(alloc, item, "spec.service"));
     }
-    Ok(Some(present_service(alloc, found)?))
+    Ok(Some(present_service(alloc, item, found)?))
 }
 
 #[tactic(auto, unfolding(crate::specs::Object::service_of))]
-pub fn service_of(alloc: Global, value: &Value) -> Result<Option<FoundService>, RowFault>
-    ensures { Gives (λ s. s) result (spec.service_of (view value.now)) }
+pub fn service_of(
+    alloc: Global,
+    item: Option<usize>,
+    value: &Value,
+) -> Result<Option<FoundService>, RowFault>
+    ensures { Gives (λ s. s) result (spec.service_of item (view value.now)) }
 {
     match inner(value, "spec", "service") {
         None => Ok(None),
-        Some(found) => some_service(alloc, found),
+        Some(found) => some_service(alloc, item, found),
     }
 }
 
@@ -172,41 +230,49 @@ fn is_available(conditions: &Vec<Value>) -> bool
     true
 }
 
-fn available_by(alloc: Global, conditions: &Vec<Value>) -> Result<bool, RowFault>
-    ensures { Gives (λ b. b) result (spec.available_by (items_view conditions.now.items)) }
+fn available_by(
+    alloc: Global,
+    item: Option<usize>,
+    conditions: &Vec<Value>,
+) -> Result<bool, RowFault>
+    ensures { Gives (λ b. b) result (spec.available_by item (items_view conditions.now.items)) }
 {
     if !are_objects(conditions) {
-        return Err(bad_field(alloc, "conditions"));
+        return Err(bad_field(alloc, item, "status.conditions"));
     }
     Ok(is_available(conditions))
 }
 
-fn conditions_in(alloc: Global, found: Option<&Value>) -> Result<bool, RowFault>
-    ensures { Gives (λ b. b) result (spec.conditions_in (option_map (λ v. view v.now) found.entry)) }
+fn conditions_in(
+    alloc: Global,
+    item: Option<usize>,
+    found: Option<&Value>,
+) -> Result<bool, RowFault>
+    ensures { Gives (λ b. b) result (spec.conditions_in item (option_map (λ v. view v.now) found.entry)) }
 {
     match found {
         None => Ok(true),
-        Some(Value::Array(conditions)) => available_by(alloc, conditions),
-        Some(_) => Err(bad_field(alloc, "conditions")),
+        Some(Value::Array(conditions)) => available_by(alloc, item, conditions),
+        Some(_) => Err(bad_field(alloc, item, "status.conditions")),
     }
 }
 
-fn some_status(alloc: Global, status: &Value) -> Result<bool, RowFault>
-    ensures { Gives (λ b. b) result (spec.some_status (view status.now)) }
+fn some_status(alloc: Global, item: Option<usize>, status: &Value) -> Result<bool, RowFault>
+    ensures { Gives (λ b. b) result (spec.some_status item (view status.now)) }
 {
     if !status.is_object() {
-        return Err(bad_field(alloc, "status"));
+        return Err(bad_field(alloc, item, "status"));
     }
-    conditions_in(alloc, present(status, "conditions"))
+    conditions_in(alloc, item, present(status, "conditions"))
 }
 
 // Available where no condition says otherwise.
 #[tactic(auto, unfolding(crate::specs::Object::available_of))]
-pub fn available_of(alloc: Global, value: &Value) -> Result<bool, RowFault>
-    ensures { Gives (λ b. b) result (spec.available_of (view value.now)) }
+pub fn available_of(alloc: Global, item: Option<usize>, value: &Value) -> Result<bool, RowFault>
+    ensures { Gives (λ b. b) result (spec.available_of item (view value.now)) }
 {
     match present(value, "status") {
         None => Ok(true),
-        Some(status) => some_status(alloc, status),
+        Some(status) => some_status(alloc, item, status),
     }
 }

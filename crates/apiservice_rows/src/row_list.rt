@@ -57,11 +57,11 @@ fn is_list(value: &Value) -> bool
 }
 
 fn item_rows(alloc: Global, items: &Vec<Value>) -> Result<Vec<Row>, RowFault>
-    ensures { Gives (λ v. v.items) result (spec.item_rows (items_view items.now.items)) }
+    ensures { Gives (λ v. v.items) result (spec.item_rows 0 (items_view items.now.items)) }
 {
     let mut rows = Vec::new(alloc);
-    for item in items {
-        rows.push(row_of(alloc, true, item)?)?;
+    for (place, item) in items.iter().enumerate() {
+        rows.push(row_of(alloc, Some(place), item)?)?;
     }
     Ok(rows)
 }
@@ -72,7 +72,7 @@ fn items_in(alloc: Global, found: Option<&Value>) -> Result<Vec<Row>, RowFault>
 {
     match found {
         Some(Value::Array(items)) => item_rows(alloc, items),
-        _ => Err(bad_field(alloc, "items")),
+        _ => Err(bad_field(alloc, None, "items")),
     }
 }
 
@@ -81,9 +81,9 @@ fn check_distinct(alloc: Global, rows: &[Row]) -> Result<(), RowFault>
     ensures { Gives (λ u. u) result (spec.distinct (spec.names_of rows.now)) }
 {
     let mut names: BTreeSet<&str> = BTreeSet::new(alloc);
-    for row in rows {
+    for (place, row) in rows.iter().enumerate() {
         if !names.insert(row.name.as_str())? {
-            return Err(repeated(alloc, row.name.as_str()));
+            return Err(repeated(alloc, place, row.name.as_str()));
         }
     }
     Ok(())
@@ -112,7 +112,7 @@ fn list_rows(alloc: Global, value: &Value) -> Result<Rows, RowFault>
 fn one_row(alloc: Global, value: &Value) -> Result<Rows, RowFault>
     ensures { Gives (λ r. r) result (spec.one_row (view value.now)) }
 {
-    let row = row_of(alloc, false, value)?;
+    let row = row_of(alloc, None, value)?;
     Ok(Rows::new(vec![in alloc; row]?))
 }
 

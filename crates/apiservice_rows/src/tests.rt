@@ -103,35 +103,35 @@ fn reads_a_list_as_kubectl_prints_it(rt: HostRuntime) -> Result<(), Fail> {
 }
 
 // What `metadata` and `spec` hold and what stands after them, and the row or its fault.
-const ANSWERS: &str = r#""name":""|"group":"g","version":"v1"||BadField { name: Text("name") }
-"name":7|"group":"g","version":"v1"||BadField { name: Text("name") }
-"name":"v1.g"|"group":"g","version":"v1","caBundle":1.0||BadField { name: Text("number") }
-"name":"v1.g"|"group":"g","version":"v1","x":[{"y":-0}]||BadField { name: Text("number") }
-"name":"v1.g"|"group":"g","version":"v1","x":18446744073709551616||BadField { name: Text("number") }
-"name":"v1.g"|"group":"G","version":"v1"||BadField { name: Text("group") }
-"name":"v1.g"|"group":"g","version":"1v"||BadField { name: Text("version") }
-"name":"v1.g"|"group":"g","version":"v1.0"||BadField { name: Text("version") }
-"name":"v1.g"|"group":"g","version":"v1","service":[]||BadField { name: Text("service") }
-"name":"v1.g"|"group":"g","version":"v1","service":{}||BadField { name: Text("namespace") }
-"name":"v1.g"|"group":"g","version":"v1","service":{"namespace":"s"}||BadField { name: Text("name") }
-"name":"v1.g"|"group":"g","version":"v1"|,"status":true|BadField { name: Text("status") }
-"name":"v1.g"|"group":"g","version":"v1"|,"status":{"conditions":[null]}|BadField { name: Text("conditions") }
-"name":"v1.g"|"group":"g","version":"v1"|,"status":{"conditions":{}}|BadField { name: Text("conditions") }
-"name":"v1.h"|"group":"g","version":"v1"||NameMismatch
+const ANSWERS: &str = r#""name":""|"group":"g","version":"v1"||BadField { item: None, member: Text("metadata.name") }
+"name":7|"group":"g","version":"v1"||BadField { item: None, member: Text("metadata.name") }
+"name":"v1.g"|"group":"g","version":"v1","caBundle":1.0||BadField { item: None, member: Text("number") }
+"name":"v1.g"|"group":"g","version":"v1","x":[{"y":-0}]||BadField { item: None, member: Text("number") }
+"name":"v1.g"|"group":"g","version":"v1","x":18446744073709551616||BadField { item: None, member: Text("number") }
+"name":"v1.g"|"group":"G","version":"v1"||BadField { item: None, member: Text("spec.group") }
+"name":"v1.g"|"group":"g","version":"1v"||BadField { item: None, member: Text("spec.version") }
+"name":"v1.g"|"group":"g","version":"v1.0"||BadField { item: None, member: Text("spec.version") }
+"name":"v1.g"|"group":"g","version":"v1","service":[]||BadField { item: None, member: Text("spec.service") }
+"name":"v1.g"|"group":"g","version":"v1","service":{}||BadField { item: None, member: Text("spec.service.namespace") }
+"name":"v1.g"|"group":"g","version":"v1","service":{"namespace":"s"}||BadField { item: None, member: Text("spec.service.name") }
+"name":"v1.g"|"group":"g","version":"v1"|,"status":true|BadField { item: None, member: Text("status") }
+"name":"v1.g"|"group":"g","version":"v1"|,"status":{"conditions":[null]}|BadField { item: None, member: Text("status.conditions") }
+"name":"v1.g"|"group":"g","version":"v1"|,"status":{"conditions":{}}|BadField { item: None, member: Text("status.conditions") }
+"name":"v1.h"|"group":"g","version":"v1"||NameMismatch { item: None }
 "name":"v1.g"|"group":"g","version":"v1"|,|NotJson
 "name":"v1."|"version":"v1","groupPriorityMinimum":20000,"versionPriority":1000||v1. 20000 1000 /v1 - true
 "name":"v1."|"version":"v1","groupPriorityMinimum":1,"versionPriority":1||v1. 1 1 /v1 - true
-"name":"v1."|"version":"v1","groupPriorityMinimum":0||Range { name: Text("groupPriorityMinimum") }
-"name":"v1."|"version":"v1","groupPriorityMinimum":20001||Range { name: Text("groupPriorityMinimum") }
-"name":"v1."|"version":"v1","versionPriority":-1||Range { name: Text("versionPriority") }
-"name":"v1."|"version":"v1","versionPriority":1001||Range { name: Text("versionPriority") }
-"name":"v1."|"version":"v1","versionPriority":null||BadField { name: Text("versionPriority") }
+"name":"v1."|"version":"v1","groupPriorityMinimum":0||Range { item: None, member: Text("spec.groupPriorityMinimum") }
+"name":"v1."|"version":"v1","groupPriorityMinimum":20001||Range { item: None, member: Text("spec.groupPriorityMinimum") }
+"name":"v1."|"version":"v1","versionPriority":-1||Range { item: None, member: Text("spec.versionPriority") }
+"name":"v1."|"version":"v1","versionPriority":1001||Range { item: None, member: Text("spec.versionPriority") }
+"name":"v1."|"version":"v1","versionPriority":null||BadField { item: None, member: Text("spec.versionPriority") }
 "name":"v1."|"version":"v1","service":{"name":"x","namespace":"s","port":65535}||v1. 100 10 /v1 s/x:65535 true
 "name":"v1."|"version":"v1","service":{"name":"x","namespace":"s","port":1}||v1. 100 10 /v1 s/x:1 true
 "name":"v1."|"version":"v1","service":{"name":"x","namespace":"s","port":null}||v1. 100 10 /v1 s/x:443 true
-"name":"v1."|"version":"v1","service":{"name":"x","namespace":"s","port":0}||Range { name: Text("port") }
-"name":"v1."|"version":"v1","service":{"name":"x","namespace":"s","port":65536}||Range { name: Text("port") }
-"name":"v1."|"version":"v1","service":{"name":"x","namespace":"s","port":"443"}||BadField { name: Text("port") }
+"name":"v1."|"version":"v1","service":{"name":"x","namespace":"s","port":0}||Range { item: None, member: Text("spec.service.port") }
+"name":"v1."|"version":"v1","service":{"name":"x","namespace":"s","port":65536}||Range { item: None, member: Text("spec.service.port") }
+"name":"v1."|"version":"v1","service":{"name":"x","namespace":"s","port":"443"}||BadField { item: None, member: Text("spec.service.port") }
 "name":"v1."|"version":"v1"||v1. 100 10 /v1 - true
 "name":"v1."|"version":"v1"|,"status":null|v1. 100 10 /v1 - true
 "name":"v1."|"version":"v1"|,"status":{}|v1. 100 10 /v1 - true
@@ -186,8 +186,10 @@ fn count(alloc: Global, text: &str) -> Result<String, AllocError> {
 // How many objects stand before the last one, the last one's group, and how many rows that is, or the fault.
 const COUNTS: &str = r#"1023|last.example|1024
 1024|last.example|Full
-1024|g7.example|Repeated { name: Text("v1.g7.example") }
-2|G|BadField { name: Text("group") }"#;
+1024|g7.example|Repeated { item: 1024, name: Text("v1.g7.example") }
+9|g7.example|Repeated { item: 9, name: Text("v1.g7.example") }
+0|G|BadField { item: Some(0), member: Text("spec.group") }
+2|G|BadField { item: Some(2), member: Text("spec.group") }"#;
 
 #[test]
 fn a_table_full_and_one_more(rt: HostRuntime) -> Result<(), Fail> {

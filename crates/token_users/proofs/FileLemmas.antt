@@ -8,7 +8,7 @@ use Rattle.csv.specs.declared.parser.Config.{Config}
 use Rattle.csv.specs.declared.parser.State.{State}
 use Rattle.csv.specs.declared.parser.State.TheVariants as st
 use Rattle.json_value.specs.Results.{◌>>=◌, fault_of, Unless}
-use Rattle.token_users.specs.Fault.{is_memory, Fails}
+use Rattle.token_users.specs.Fault.{is_free, Fails}
 use Rattle.token_users.specs.File.{record_of, records_from, rows_of}
 use Rattle.token_users.specs.declared.record.Record.{Record}
 use Rattle.token_users.specs.declared.fault.TokenFault.{TokenFault}
@@ -55,7 +55,7 @@ stops false r all f h e = ap fault_of (h (fault_is r f e))
 -- the fault of a row is that of the file
 pub fault_stops : (done : List Record) (i : ℕ) (row : List (List ℕ)) (rows : List (List (List ℕ))) (all : Result (List Record) TokenFault) (f : TokenFault)
     → Fails f (fault_of (record_of i row)) → with_records done (records_from i (row ∷ rows)) ≡ all → Fails f (fault_of all)
-fault_stops done i row rows all f fails is = stops (is_memory f) (record_of i row) all f (λ e. sym is ∙ records_stop done i row rows f e) fails
+fault_stops done i row rows all f fails is = stops (is_free f) (record_of i row) all f (λ e. sym is ∙ records_stop done i row rows f e) fails
 
 -- there are at most as many rows as bytes, and one
 some_rows : (more : State → List ℕ → List (List (List ℕ))) (n : ℕ) (read : Option Read) → ((s : State) (xs : List ℕ) → length (more s xs) ≤ n) → length (records_next more read) ≤ suc n

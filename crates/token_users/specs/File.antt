@@ -6,6 +6,9 @@ use Rattle.std.specs.Str.{is_utf8}
 use Rattle.csv.specs.Reading.{default_config, records, strip_bom}
 use Rattle.csv.specs.Records.{field_at}
 use Rattle.json_value.specs.Results.{◌>>=◌, found_or}
+use Rattle.token_users.specs.declared.fault.BadRecord.TheVariants.{FewFields, NotUtf8, Control}
+use Rattle.token_users.specs.declared.fault.Field.{Field}
+use Rattle.token_users.specs.declared.fault.Field.TheVariants as field
 use Rattle.token_users.specs.declared.fault.TokenFault.{TokenFault}
 use Rattle.token_users.specs.declared.fault.TokenFault.TheVariants.{BadRow}
 use Rattle.token_users.specs.declared.record.Record.{Record}
@@ -36,14 +39,24 @@ text_at fields i = option_and_then if_text (field_at fields i)
 abbrev pub groups_at : List (List ℕ) → Option (List ℕ)
 groups_at fields = if nat_lt (length fields) 4 then Some [] else text_at fields 3
 
--- what the fields of the row with this number say: token, user, uid and groups; fields after the fourth say nothing
+abbrev pub all_fields : ℕ → List (List ℕ) → Result (Unit {0}) TokenFault
+all_fields number fields = if nat_lt (length fields) 3 then Err (BadRow number FewFields) else Ok tt
+
+abbrev pub plain : ℕ → Field → List ℕ → Result (Unit {0}) TokenFault
+plain number field text = if is_plain text then Ok tt else Err (BadRow number (Control field))
+
+-- what the fields of the row with this number say: token, user, uid and groups; fields after the fourth say nothing. The
+-- first check that fails says why the row is refused
 unfoldable pub record_of : ℕ → List (List ℕ) → Result Record TokenFault
 record_of number fields = do
-  token ← found_or (BadRow number) (text_at fields 0)
-  name ← found_or (BadRow number) (text_at fields 1)
-  uid ← found_or (BadRow number) (text_at fields 2)
-  groups ← found_or (BadRow number) (groups_at fields)
-  if is_plain name && is_plain groups then Ok (record { token = token; user = record { name = name; uid = uid; groups = groups_in groups } }) else Err (BadRow number)
+  enough ← all_fields number fields
+  token ← found_or (BadRow number (NotUtf8 field.Token)) (text_at fields 0)
+  name ← found_or (BadRow number (NotUtf8 field.User)) (text_at fields 1)
+  uid ← found_or (BadRow number (NotUtf8 field.Uid)) (text_at fields 2)
+  groups ← found_or (BadRow number (NotUtf8 field.Groups)) (groups_at fields)
+  plain_name ← plain number field.User name
+  plain_groups ← plain number field.Groups groups
+  Ok (record { token = token; user = record { name = name; uid = uid; groups = groups_in groups } })
 
 -- a record without a token is none
 abbrev pub with_record : Record → List Record → List Record

@@ -1,7 +1,7 @@
 //! Who asks: the users of a token file, and the one whose bearer token a request carries.
 //!
 //! The main contracts are those of `read_tokens`, which gives the records of a file exactly, or the first row that is
-//! refused, and of `who`, which gives the user of the last record that has the request's token. Contracts see `Tokens`
+//! refused and why, and of `who`, which gives the user of the last record that has the request's token. Contracts see `Tokens`
 //! as the list of its records; the code finds a token by one look-up in an ordered map.
 //!
 //! Nothing is promised about how long a look-up takes: it compares the token with those of the file.
@@ -18,7 +18,7 @@ mod user;
 
 pub use asker::Who;
 pub use bearer::who;
-pub use fault::TokenFault;
+pub use fault::{BadRecord, Field, TokenFault};
 pub use record::Record;
 pub use rows::read_tokens;
 pub use tokens::Tokens;

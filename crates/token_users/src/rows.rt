@@ -14,7 +14,7 @@ use std::alloc::Global;
 // The rows of a file, with any number of fields.
 fn rows_of(alloc: Global, bytes: &[u8]) -> Result<Vec<ByteRecord>, TokenFault>
     ensures rows { IfOk result (λ rows. map fields_of rows.items ≡ spec.rows_of bytes.now) }
-    ensures memory { result ≡ Err TokenFault.NoMemory ⊎ IsOk result }
+    ensures free { (result ≡ Err TokenFault.NoMemory) ⊎ (result ≡ Err TokenFault.Input) ⊎ IsOk result }
 {
     let rdr = ReaderBuilder::new()
         .has_headers(false)
@@ -25,8 +25,8 @@ fn rows_of(alloc: Global, bytes: &[u8]) -> Result<Vec<ByteRecord>, TokenFault>
         match row {
             Ok(row) => rows.push(row)?,
             Err(error) => match error.into_kind() {
-                // A slice never fails to be read, but no clause of the reader says so.
-                ErrorKind::Io(_) | ErrorKind::OutOfMemory => return Err(TokenFault::NoMemory),
+                ErrorKind::OutOfMemory => return Err(TokenFault::NoMemory),
+                ErrorKind::Io(_) => return Err(TokenFault::Input),
                 _ => unreachable!(),
             },
         }
@@ -49,7 +49,7 @@ fn records_of(alloc: Global, rows: &[ByteRecord]) -> Result<Vec<Record>, TokenFa
     Ok(records)
 }
 
-/// The tokens of a file, or its first row that is no record. The file is CSV: token, user, uid and, separated by commas
+/// The tokens of a file, or its first row that is no record, and why it is none. The file is CSV: token, user, uid and, separated by commas
 /// within the one field, groups.
 pub fn read_tokens(alloc: Global, bytes: &[u8]) -> Result<Tokens, TokenFault>
     requires { length bytes.now ≤ MOST_FILE_BYTES }

@@ -55,33 +55,45 @@ fn answer(alloc: Global, tokens: &Tokens, lines: &[(&str, &str)]) -> Result<Stri
     line_of(alloc, &who.into_user(alloc)?)
 }
 
+// The first fault of a file in words, empty where it has none.
+fn refusal(alloc: Global, file: &[u8]) -> Result<String, AllocError> {
+    match read(alloc, file) {
+        Ok(_) => Ok(String::new(alloc)),
+        Err(TokenFault::BadRow { row, why }) => format!(in alloc; "{row} {why:?}"),
+        Err(fault) => format!(in alloc; "{fault:?}"),
+    }
+}
+
 #[test]
 fn files_with_rows_that_are_refused(rt: HostRuntime) -> Result<(), Fail> {
-    let cases: [(&[u8], Option<u32>); 16] = [
-        (b"", None),
-        (b"t,u,1\n", None),
-        (b"t,u", Some(0)),
-        (b"t,u,1\nt", Some(1)),
-        (b"\n\nt,u,1\n\nt,u\n", Some(1)),
-        (b"\"\"", Some(0)),
-        (b",x,1", None),
-        (b",x", Some(0)),
-        (b"t2,,9,,x", None),
-        (b"t,u,1,g,\xff", None),
-        (b"t,u,1,\xff", Some(0)),
-        (b"\xff,u,1", Some(0)),
-        (b"t,u\x01,1", Some(0)),
-        (b"t,u,1,\"a,b\x7f\"", Some(0)),
-        (b"t\x01,u,1\x01", None),
-        (b"\xef\xbb\xbft,u,1\r\nt,u,\xc3\xa9\r", None),
+    let cases: [(&[u8], &str); 20] = [
+        (b"", ""),
+        (b"t,u,1\n", ""),
+        (b"t,u", "0 FewFields"),
+        (b"t,u,1\nt", "1 FewFields"),
+        (b"\n\nt,u,1\n\nt,u\n", "1 FewFields"),
+        (b"\"\"", "0 FewFields"),
+        (b"\xff,u\x01", "0 FewFields"),
+        (b",x,1", ""),
+        (b",x", "0 FewFields"),
+        (b"t2,,9,,x", ""),
+        (b"t,u,1,g,\xff", ""),
+        (b"t,u,1,\xff", "0 NotUtf8(Groups)"),
+        (b"t,u\x01,\xff", "0 NotUtf8(Uid)"),
+        (b"t,\xff,\xff", "0 NotUtf8(User)"),
+        (b"\xff,u,1", "0 NotUtf8(Token)"),
+        (b"t,u\x01,1", "0 Control(User)"),
+        (b"t,u,1,\"a,b\x7f\"", "0 Control(Groups)"),
+        (b"t,u\x00,1,\x00", "0 Control(User)"),
+        (b"t\x01,u,1\x01", ""),
+        (b"\xef\xbb\xbft,u,1\r\nt,u,\xc3\xa9\r", ""),
     ];
     for (file, refused) in cases {
-        let row = match read(rt.alloc(), file) {
-            Ok(_) => None,
-            Err(TokenFault::BadRow { row }) => Some(row),
-            Err(TokenFault::NoMemory) => return Err("no memory")?,
-        };
-        assert_eq!(rt; row, refused, "{file:?}");
+        assert_eq!(rt;
+            refusal(rt.alloc(), file)?.as_str(),
+            refused,
+            "{file:?}"
+        );
     }
     Ok(())
 }
