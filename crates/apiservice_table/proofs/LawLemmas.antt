@@ -80,7 +80,7 @@ distinct_rows : (rows : List Row) (u : Unit {0}) → distinct (names_of rows) �
 unfolding distinct
 distinct_rows rows u h = by_cases (repeated [] (names_of rows)) refl
   where
-    by_cases : (o : Option (List ℕ)) → repeated [] (names_of rows) ≡ o → HasDistinctNames rows
+    by_cases : (o : Option RowFault) → repeated [] (names_of rows) ≡ o → HasDistinctNames rows
     by_cases None e = each_once [] rows e
     by_cases (Some name) e = absurd (cc (rw e at h))
 
@@ -133,6 +133,6 @@ read_fits bytes rows h =
     (λ own. distinct (names_of own) >>= (λ each. few own)) rows e in
     listed read.0 rows read.1)
     (λ e.
-    let alone = after_first (row_of false found.0) (λ r. Ok (r ∷ [])) rows e in
+    let alone = after_first (row_of None found.0) (λ r. Ok (r ∷ [])) rows e in
     one_fits alone.0 rows (cc alone.1))
     found.1
