@@ -149,6 +149,11 @@ impl Edge {
         })
     }
 
+    /// How many bytes of the connection the requests so far took up, for messages: no clause says so.
+    pub fn used(&self) -> u64 {
+        self.intake.used()
+    }
+
     /// The next request of the connection, whose body has at most `MOST_BODY_BYTES`. Of the stops only `ReadFault` comes
     /// with another count of failed reads. After an `Err` the edge isn't used again.
     pub fn next_request<C: Source>(&mut self, alloc: Global, conn: &mut C) -> Result<Request, Stop>

@@ -28,6 +28,7 @@ pub enum ReadStop {
 pub struct Intake {
     bytes: Vec<u8>,
     at: usize,
+    used: u64,
 }
 
 impl Model for Intake {
@@ -88,6 +89,7 @@ impl Intake {
         Ok(Intake {
             bytes: Vec::with_capacity(alloc, MOST_READ_BYTES)?,
             at: 0,
+            used: 0,
         })
     }
 
@@ -99,12 +101,18 @@ impl Intake {
         &self.bytes[self.at..]
     }
 
+    /// How many bytes were used, for messages: no clause says so.
+    pub fn used(&self) -> u64 {
+        self.used
+    }
+
     /// Uses the first bytes.
     pub fn skip(&mut self, count: usize)
         requires { count ≤ length self.old }
         ensures { self.new ≡ drop count self.old }
     {
         self.at += count;
+        self.used = self.used.saturating_add(count as u64);
     }
 
     /// Reads once, and holds what came after what was held.
