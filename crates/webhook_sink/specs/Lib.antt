@@ -5,3 +5,4 @@ pub mod Lists
 pub mod Posts
 pub mod Replies
 pub mod Hooked
+pub mod Accounts

@@ -9,6 +9,7 @@
 
 mod buffer;
 mod hook_url;
+mod laws;
 mod link_exchange;
 mod list;
 mod post;
@@ -17,6 +18,7 @@ mod webhook;
 
 pub use buffer::MOST_BUFFERED_BYTES;
 pub use hook_url::{HookFault, HookUrl, check_url, read_url};
+pub use laws::{answers_are_exact, calls_join, one_answer};
 pub use list::{list_head, list_length, list_tail};
 pub use reply::{MOST_INTERIM, Reply};
 pub use webhook::WebhookSink;

@@ -199,11 +199,13 @@ impl<D: Dial + Drop, N: Notes + Drop> WebhookSink<D, N> {
 }
 
 impl<D: Dial + Drop, N: Notes + Drop> BatchSink for WebhookSink<D, N> {
-    ghost use Rattle.std.specs.Prelude.{◌≡◌, ◌<◌, ◌^◌, true, false, length};
+    ghost use Rattle.std.specs.Prelude.{◌≡◌, ◌<◌, ◌^◌, true, false, List, length};
     ghost use Rattle.front_ports.specs.Cause.{Rose};
     ghost use Rattle.truncate_backend.specs.Tries.{Tried};
     ghost use Rattle.webhook_sink.specs.Hooked as spec;
     ghost use Rattle.webhook_sink.specs.Hooked.{hook_dial, hook_notes, hook_tells};
+    ghost use Rattle.webhook_sink.specs.Accounts.{Accounts};
+    ghost use Rattle.front_ports.specs.declared.dial.Call.{Call};
 
     ghost tells = { λ hook. hook_tells N.tries hook };
 
@@ -223,6 +225,11 @@ impl<D: Dial + Drop, N: Notes + Drop> BatchSink for WebhookSink<D, N> {
             (hook_tells N.tries self.new) }
         ensures url { spec.hook_url self.new ≡ spec.hook_url self.old }
         ensures room { N.room (hook_notes self.new) ≡ N.room (hook_notes self.old) }
+
+        // The calls of the dial stay those of the tries.
+        ensures accounts { (before : List Call)
+            → Accounts (spec.hook_url self.old) before (D.calls (hook_dial self.old)) (hook_tells N.tries self.old).tries
+            → Accounts (spec.hook_url self.new) before (D.calls (hook_dial self.new)) (hook_tells N.tries self.new).tries }
     {
         self.try_lines(lines)
     }
