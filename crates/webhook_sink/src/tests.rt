@@ -5,9 +5,10 @@ ghost use Rattle.front_ports.specs.Memory.{IsUnused};
 use crate::{HookFault, WebhookSink, check_url, list_length, read_url};
 use front_base::{Bytes, Line, NoMemory};
 use front_ports::{MemDial, MemLink, Script};
+use serde_json::Value;
 use std::alloc::Global;
 use std::test::Fail;
-use truncate_backend::{BatchSink, MemNotes, SinkFault, TryAnswer, TryNote};
+use truncate_backend::{BatchSink, MemNotes, NoNotes, SinkFault, TryAnswer, TryNote};
 
 const POST: &str =
     "POST /audit?x=1 HTTP/1.1\r\nHost: 127.0.0.1:9400\r\nContent-Type: application/json\r\nContent-Length: 81\r\nConnection: close\r\n\r\n{\"kind\":\"EventList\",\"apiVersion\":\"audit.k8s.io/v1\",\"metadata\":{},\"items\":[{},{}]}";
@@ -24,8 +25,8 @@ fn line(alloc: Global, text: &str) -> Result<Line, NoMemory> {
     })
 }
 
-// A link that answers this, in reads of so many bytes.
-fn link(alloc: Global, input: &str, size: u32) -> Result<MemLink, NoMemory>
+// A link that answers this, in reads of so many bytes, and takes so many in one write: a second one fails.
+fn link_of(alloc: Global, input: &str, size: u32, room: u64) -> Result<MemLink, NoMemory>
     ensures { IfOk result IsUnused }
 {
     let mut sizes = Vec::new(alloc);
@@ -36,12 +37,18 @@ fn link(alloc: Global, input: &str, size: u32) -> Result<MemLink, NoMemory>
         alloc,
         Script {
             input: Bytes::new(input.as_bytes().to_vec(alloc)?),
-            room: 4096,
+            room,
             sizes,
             read_fails: Vec::new(alloc),
-            write_fails: Vec::new(alloc),
+            write_fails: vec![in alloc; 2]?,
         },
     )
+}
+
+fn link(alloc: Global, input: &str, size: u32) -> Result<MemLink, NoMemory>
+    ensures { IfOk result IsUnused }
+{
+    link_of(alloc, input, size, 4096)
 }
 
 fn hook(alloc: Global, links: Vec<MemLink>) -> Result<WebhookSink<MemDial, MemNotes>, HookFault>
@@ -133,6 +140,56 @@ fn interim_heads(rt: HostRuntime) -> Result<(), Fail> {
             Err(SinkFault::BadAnswer)
         };
         assert_eq!(rt; hook.put(&lines), wanted);
+    }
+    Ok(())
+}
+
+// So many lines, each of a value of its own.
+fn numbered(alloc: Global, count: u32) -> Result<Vec<Line>, NoMemory> {
+    let mut lines = Vec::new(alloc);
+    for number in 0..count {
+        let text = format!(in alloc; "{{\"n\":{number},\"text\":\"],\\u00e9\"}}")?;
+        lines.push(line(alloc, text.as_str())?)?;
+    }
+    Ok(lines)
+}
+
+// The body of the one post of these lines.
+fn body_of(alloc: Global, lines: &[Line]) -> Result<String, Fail> {
+    let mut links = Vec::new(alloc);
+    links.push(link_of(alloc, "HTTP/1.1 200 OK\r\n\r\n", 4096, 65_536)?)?;
+    let dial = MemDial::new(alloc, links, Vec::new(alloc))?;
+    let mut hook = WebhookSink::start(alloc, "http://127.0.0.1/", dial, NoNotes)?;
+    if lines.is_empty() || lines.len() > 400 || hook.put(lines).is_err() {
+        return Ok(String::new(alloc));
+    }
+    let mut body = String::new(alloc);
+    for call in hook.dial().calls().unwrap_or(&[]) {
+        let text = str::from_utf8(call.sent.as_slice()).unwrap_or("");
+        body.push_str(text.split_once("\r\n\r\n").unwrap_or(("", "")).1)?;
+    }
+    Ok(body)
+}
+
+// A body of one line and one of 400, read back by `serde_json`.
+#[test]
+fn bodies_are_lists_of_events(rt: HostRuntime) -> Result<(), Fail> {
+    let alloc = rt.alloc();
+    for count in [1, 400] {
+        let lines = numbered(alloc, count)?;
+        let list = Value::from_str(alloc, body_of(alloc, lines.as_slice())?.as_str())?;
+        assert_eq!(rt; list.get("kind").and_then(Value::as_str), Some("EventList"));
+        assert_eq!(rt;
+            list.get("apiVersion").and_then(Value::as_str),
+            Some("audit.k8s.io/v1")
+        );
+        let none = Vec::new(alloc);
+        let items = list.get("items").and_then(Value::as_array).unwrap_or(&none);
+        assert_eq!(rt; items.len(), count as usize);
+        for (item, line) in items.iter().zip(lines.iter()) {
+            let value = Value::from_slice(alloc, line.bytes.as_slice())?;
+            assert!(rt; *item == value);
+        }
     }
     Ok(())
 }
