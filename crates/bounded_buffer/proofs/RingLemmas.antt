@@ -1,10 +1,10 @@
 -- What a ring accepted, in two parts.
-use Rattle.std.proofs.Common.{◌≡◌, ◌+◌, ◌-◌, ◌<◌, ◌≤◌, ℕ, List, [], ◌∷◌, ◌++◌, length, take, drop, refl, sym, ap, ◌∙◌, arith, add-one, drop-cons, get_or, Bool, true, false, Some, None, Option, option_map, IfSome}
+use Rattle.std.proofs.Common.{◌≡◌, ◌+◌, ◌-◌, ◌<◌, ◌≤◌, ℕ, List, [], ◌∷◌, ◌++◌, length, take, drop, refl, sym, ap, ◌∙◌, arith, add-one, drop-cons, get_or, Bool, true, false, Some, option_map, IfSome}
 use Rattle.std.proofs.Math.Seq.{take-suc}
 use Rattle.std.proofs.lemmas.List.{take-append-drop, length-take}
 use Rattle.front_base.specs.Line.{Line}
 use Rattle.truncate_backend.specs.Told.{Joined}
-use Rattle.bounded_buffer.specs.Ring.{told_of, RingParts, ring_taken, ring_contents, ring_capacity}
+use Rattle.bounded_buffer.specs.Ring.{told_of, RingParts}
 use Rattle.bounded_buffer.specs.declared.ring_lane.RingLane.{RingLane}
 
 next_taken : (cs q n : List Line) (x : Line) → q ≡ x ∷ n → length q ≤ length cs → drop (length cs - length q) cs ≡ q

@@ -1,0 +1,164 @@
+-- Pumps one after another.
+use Rattle.std.proofs.Common.{◌≡◌, ◌+◌, ◌-◌, ◌<◌, ◌^◌, min, ℕ, List, [], ◌∷◌, ◌++◌, length, append-nil, refl, sym, ap, subst, arith, true, false, is_some}
+use Rattle.std.proofs.lemmas.List.Elements.{All-cons, All-nil}
+use Rattle.front_base.specs.Line.{Line}
+use Rattle.truncate_backend.specs.Tries.{Try, SinkTells}
+use Rattle.truncate_backend.specs.Outlets.{OutletTells}
+use Rattle.batch_backend.specs.declared.limits.Limits.{Limits}
+use Rattle.batch_backend.specs.declared.pumped.Pumped.{Pumped}
+use Rattle.batch_backend.specs.Batches.{Drained, WithinLimits, PendsWithin}
+use Rattle.batch_backend.specs.Pumps.{PumpedAs, Put, Moved, wrote, lost, is_rest}
+use Rattle.batch_backend.specs.Flushes.{Pumps, PutRest, FlushedAs, FlushMoved, PumpedOn, PumpedOut, written_of, lost_of}
+use Rattle.batch_backend.proofs.TryLaws.{TryLaws, JoinLaws}
+use Rattle.batch_backend.proofs.PumpLemmas.{joined-none, moved-put, moved-from, moved-then, told-kept, rest-none, less-work}
+use Rattle.batch_backend.proofs.PartLemmas.{pends-on, none-pends}
+
+-- ---- so far
+
+pub none-yet : (d : Drained) (now : ℕ) (o : OutletTells) (s : SinkTells) → is_some o.left ≡ true → PumpedOn d now o s 0 0 d o s
+none-yet d now o s h =
+    record {
+      answers = [];
+      pumps = (refl, refl, refl);
+      went_on = All-nil (λ (a : Pumped). is_rest a ≡ false);
+      few = omega arith;
+      told = h;
+      written_is = omega arith;
+      lost_is = omega arith;
+    }
+
+-- one pump more
+pub pump-more : (d e f : Drained) (now : ℕ) (o n m : OutletTells) (s t u : SinkTells) (w l x y : ℕ) (answer : Pumped)
+    → PumpedOn d now o s w l e n t → PumpedAs e now n t answer f m u → is_rest answer ≡ false
+    → x ≡ min (w + wrote answer) (2 ^ 64 - 1) → y ≡ min (l + lost answer) (2 ^ 64 - 1) → PumpedOn d now o s x y f m u
+pump-more d e f now o n m s t u w l x y answer p a r g h =
+    let c = less-work e f now n m t u answer a p.told r in
+    let k = p.few in
+    let i = p.written_is in
+    let j = p.lost_is in
+    record {
+      answers = answer ∷ p.answers;
+      pumps = (e, (n, (t, (p.pumps, a))));
+      went_on = All-cons (λ (a : Pumped). is_rest a ≡ false) answer p.answers r p.went_on;
+      few = omega arith;
+      told = told-kept e f now n m t u answer a p.told;
+      written_is = omega arith;
+      lost_is = omega arith;
+    }
+
+-- the last pump
+pub pump-last : (d e f : Drained) (now : ℕ) (o n m : OutletTells) (s t u : SinkTells) (w l x y : ℕ) (answer : Pumped)
+    → PumpedOn d now o s w l e n t → PumpedAs e now n t answer f m u → is_rest answer ≡ true
+    → x ≡ min (w + wrote answer) (2 ^ 64 - 1) → y ≡ min (l + lost answer) (2 ^ 64 - 1) → PumpedOut d now o s x y f m u
+pump-last d e f now o n m s t u w l x y answer p a r g h =
+    let k = p.few in
+    let i = p.written_is in
+    let j = p.lost_is in
+    record {
+      before = p.answers;
+      last = answer;
+      pumps = (e, (n, (t, (p.pumps, a))));
+      rested = r;
+      went_on = p.went_on;
+      few = omega arith;
+      left = (told-kept e f now n m t u answer a p.told, rest-none e f now n m t u answer a r);
+      written_is = omega arith;
+      lost_is = omega arith;
+    }
+
+-- ---- what the pumps moved
+
+stayed : (d e : Drained) (o n : OutletTells) (s t : SinkTells) → e ≡ d → n ≡ o → t ≡ s → Moved d o s 0 0 e n t
+stayed d e o n s t f g h =
+    rw (f, g, h) (record {
+      limits = refl;
+      tries = [];
+      popped = [];
+      joined = joined-none s.tries;
+      taken = joined-none o.taken;
+      all = sym (append-nil d.pending.lines);
+      within = All-nil (λ (t : Try). WithinLimits d.limits t.lines);
+      were_written = refl;
+      were_lost = refl;
+    })
+
+pub pumps-move : TryLaws → JoinLaws → (answers : List Pumped) (d e : Drained) (now : ℕ) (o n : OutletTells) (s t : SinkTells)
+    → Pumps answers d now o s e n t → Moved d o s (written_of answers) (lost_of answers) e n t
+pumps-move law joins [] d e now o n s t p = stayed d e o n s t p.0 p.1 p.2
+pumps-move law joins (answer ∷ before) d e now o n s t (f, (m, (u, (p, a)))) =
+    moved-then law joins d f e o m n s u t (written_of before) (lost_of before) (wrote answer) (lost answer)
+    (pumps-move law joins before d f now o m s u p) (moved-from law f e now m n u t answer a)
+
+pub pumps-pend : (answers : List Pumped) (d e : Drained) (now : ℕ) (o n : OutletTells) (s t : SinkTells)
+    → Pumps answers d now o s e n t → PendsWithin d.limits d.pending.lines → PendsWithin e.limits e.pending.lines
+pumps-pend [] d e now o n s t p h = subst (λ (z : Drained). PendsWithin z.limits z.pending.lines) (sym p.0) h
+pumps-pend (answer ∷ before) d e now o n s t (f, (m, (u, (p, a)))) h =
+    pends-on f e now m n u t answer a (pumps-pend before d f now o m s u p h)
+
+-- ---- the put of what waits
+
+no_put : (lines : List Line) (s : SinkTells) → length lines ≡ 0 → PutRest lines s s
+no_put [] s h = refl
+no_put (l ∷ ls) s h = absurd (omega arith)
+
+one_put : (lines : List Line) (s t : SinkTells) (answer : Pumped) → 0 < length lines → Put s lines answer t → PutRest lines s t
+one_put [] s t answer h p = absurd (omega arith)
+one_put (l ∷ ls) s t answer h p = (answer, p)
+
+module _ (d e : Drained) (now : ℕ) (o n : OutletTells) (s t : SinkTells) (w l : ℕ) (p : PumpedOut d now o s w l e n t) where
+  flushed_by : (u : SinkTells) → PutRest e.pending.lines t u → FlushedAs d now o s n u
+  flushed_by u put =
+      record {
+        before = p.before;
+        last = p.last;
+        between = e;
+        tells = t;
+        pumps = p.pumps;
+        rested = p.rested;
+        went_on = p.went_on;
+        few = p.few;
+        put = put;
+      }
+
+  pub flushed-none : length e.pending.lines ≡ 0 → FlushedAs d now o s n t
+  flushed-none h = flushed_by t (no_put e.pending.lines t h)
+
+  pub flushed-put : (u : SinkTells) (answer : Pumped) → 0 < length e.pending.lines → Put t e.pending.lines answer u
+      → FlushedAs d now o s n u
+  flushed-put u answer h q = flushed_by u (one_put e.pending.lines t u answer h q)
+
+  pub flush-moved : TryLaws → JoinLaws → FlushMoved d o s (w, l) e n t
+  flush-moved law joins =
+      record {
+        written = written_of (p.last ∷ p.before);
+        lost = lost_of (p.last ∷ p.before);
+        moved = pumps-move law joins (p.last ∷ p.before) d e now o n s t p.pumps;
+        written_is = p.written_is;
+        lost_is = p.lost_is;
+      }
+
+  pub flush-moved-put : TryLaws → JoinLaws → (f : Drained) (u : SinkTells) (answer : Pumped) (x y : ℕ)
+      → f.limits ≡ e.limits → f.pending.lines ≡ [] → WithinLimits e.limits e.pending.lines → Put t e.pending.lines answer u
+      → x ≡ min (w + wrote answer) (2 ^ 64 - 1) → y ≡ min (l + lost answer) (2 ^ 64 - 1) → FlushMoved d o s (x, y) f n u
+  flush-moved-put law joins f u answer x y g h within put i j =
+      let a = p.written_is in
+      let b = p.lost_is in
+      let m = moved-put law e f e.pending.lines [] n n t u answer g within
+      (ap (λ z. e.pending.lines ++ z) h) put (joined-none n.taken) in
+      record {
+        written = written_of (p.last ∷ p.before) + wrote answer;
+        lost = lost_of (p.last ∷ p.before) + lost answer;
+        moved = moved-then law joins d e f o n n s t u (written_of (p.last ∷ p.before)) (lost_of (p.last ∷ p.before))
+            (wrote answer) (lost answer) (pumps-move law joins (p.last ∷ p.before) d e now o n s t p.pumps) m;
+        written_is = omega arith;
+        lost_is = omega arith;
+      }
+
+  pub flush-pends : PendsWithin d.limits d.pending.lines → PendsWithin e.limits e.pending.lines
+  flush-pends = pumps-pend (p.last ∷ p.before) d e now o n s t p.pumps
+
+  pub flush-pends-put : (f : Drained) → f.limits ≡ e.limits → f.pending.lines ≡ []
+      → PendsWithin d.limits d.pending.lines → PendsWithin f.limits f.pending.lines
+  flush-pends-put f g h k =
+      subst (λ (z : Limits). PendsWithin z f.pending.lines) (sym g)
+      (subst (λ (z : List Line). PendsWithin e.limits z) (sym h) (none-pends e.limits e.pending.lines (flush-pends k)))

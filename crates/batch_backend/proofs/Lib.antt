@@ -1,0 +1,5 @@
+pub mod TryLaws
+pub mod AddLemmas
+pub mod PumpLemmas
+pub mod PartLemmas
+pub mod FlushLemmas
