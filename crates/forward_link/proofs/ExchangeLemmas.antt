@@ -87,8 +87,7 @@ notes_open : (calls0 calls1 : Option (List Call)) (to : Address) (m : ℕ) (left
     → NotesOpen calls0 calls1 to text (taken ++ rest_of link.left) link
 notes_open None calls1 to m left0 written0 text taken link c e p k = c
 notes_open (Some calls) calls1 to m left0 written0 text taken link c e p k =
-    let same : taken ++ rest_of link.left ≡ c.0 = told_held left0 (taken ++ rest_of link.left) c.0 (all_taken left0 link.left taken k) c.1 in
-    (
+    let same : taken ++ rest_of link.left ≡ c.0 = told_held left0 (taken ++ rest_of link.left) c.0 (all_taken left0 link.left taken k) c.1 in (
       c.4 ∙ ap (λ b. let x : Call = record { to = to; sent = []; held = b } in Some (calls ++ x ∷ [])) (sym same),
       e ∙ c.3,
       told_written written0 link.written text c.2 p,

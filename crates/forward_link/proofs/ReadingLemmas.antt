@@ -144,8 +144,7 @@ seen_join a b c x y z p q = record {
 pub not_enough : (a b c : Option (List ℕ)) (x y z : List ℕ) (size : ℕ) (rose0 rose : Type 0) (stop : ReadStop) → (rose0 → rose) → Seen a b x y
     → length y < size → NotRead b c y z rose0 stop → NoBytes a c x size rose stop
 not_enough a b c x y z size rose0 rose read_stop.AtEnd f s few k =
-    let t = seen_join a b c x y z s k.0.seen in
-    (
+    let t = seen_join a b c x y z s k.0.seen in (
       t.taken,
       t.consumed,
       subst (λ l. length l < size) t.all (subst (λ l. length l < size) (sym k.0.same) few),

@@ -57,9 +57,10 @@ front_of_first w0 w head body p =
 -- the first text and a front of the second are a front of both
 pub front_of_second : (w0 w v : Option (List ℕ)) (head body : List ℕ) → Appends w0 w head → AppendsFront w v body
     → AppendsFront w0 v (head ++ body)
-front_of_second w0 w v head body p q =
-    (length head + q.0,
-    subst (λ l. Appends w0 v l) (sym (take-append-add head body q.0)) (Appends-trans w0 w v head (take q.0 body) p q.1))
+front_of_second w0 w v head body p q = (
+  length head + q.0,
+  subst (λ l. Appends w0 v l) (sym (take-append-add head body q.0)) (Appends-trans w0 w v head (take q.0 body) p q.1),
+)
 
 -- a whole text is a front of it
 pub front_of_all : (w0 w : Option (List ℕ)) (text : List ℕ) → Appends w0 w text → AppendsFront w0 w text

@@ -14,7 +14,10 @@ use std::alloc::Global;
 #[derive(Debug)]
 pub enum LinkAnswer<K> {
     /// A whole reply, which nobody has seen a byte of yet.
-    Whole { head: ReplyHead, body: Bytes },
+    Whole {
+        head: ReplyHead,
+        body: Bytes,
+    },
     /// The head of a reply whose body in that frame is read as it comes: first `rest`, and then what the link gives. The link
     /// is still open.
     Streamed {
@@ -48,10 +51,10 @@ pub fn exchange<D: Dial>(
 ) -> Result<LinkAnswer<D::K>, NoMemory>
     ensures ok { IfOk result (λ answer.
         spec.Exchanged (λ link. record {
-            left = D.K.left link;
-            written = D.K.written link;
-            number = D.K.number link;
-            faults = D.K.read_faults link + D.K.write_faults link
+          left = D.K.left link;
+          written = D.K.written link;
+          number = D.K.number link;
+          faults = D.K.read_faults link + D.K.write_faults link;
         }) is_head streamed (D.calls dial.old) (D.calls dial.new) to (head.now ++ body.now)
         (Rose (D.faults dial.old) (D.faults dial.new)) (Rose (D.link_faults dial.old) (D.link_faults dial.new)) answer) }
     ensures err { OnErr result (spec.HandedBack (D.calls dial.old) (D.calls dial.new) to (head.now ++ body.now)) }
