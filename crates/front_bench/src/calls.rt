@@ -1,7 +1,13 @@
 // The calls, each made so often.
+use crate::sinks::{LoopDial, WriterSink};
 use apiservice_rows::{Row, Rows, read_rows};
 use apiservice_table::{Change, RouteTable};
+use front_base::{Bytes, Line};
+use log_sink::LogSink;
 use std::alloc::Global;
+use std::io::Write;
+use truncate_backend::{BatchSink, NoNotes};
+use webhook_sink::WebhookSink;
 
 /// Whether the text is JSON, as so many checks say.
 pub fn check(text: &[u8], times: u32) -> bool {
@@ -64,4 +70,61 @@ pub fn find(alloc: Global, text: &[u8], times: u32, most: usize) -> Option<bool>
         turn = if turn + 1 < keys.len() { turn + 1 } else { 0 };
     }
     Some(found)
+}
+
+// The most bytes of a line, and the most lines of a try.
+const MOST_LINE_BYTES: usize = 4_194_304;
+
+const MOST_LINES: usize = 100_000;
+
+// The text as a line, so many times.
+fn lines_of(alloc: Global, text: &[u8], count: usize) -> Option<Vec<Line>> {
+    let mut lines = Vec::new(alloc);
+    for _ in 0..count {
+        let bytes = text.to_vec(alloc).ok()?;
+        if bytes.len() > MOST_LINE_BYTES {
+            return None;
+        }
+        let line = Line {
+            bay: 0,
+            number: 0,
+            bytes: Bytes::new(bytes),
+        };
+        lines.push(line).ok()?;
+    }
+    Some(lines)
+}
+
+// Whether the sink took the lines so often. None at all are no try.
+fn put<S: BatchSink>(sink: &mut S, lines: &[Line], times: u32) -> Option<bool> {
+    if lines.is_empty() || lines.len() > MOST_LINES {
+        return None;
+    }
+    let mut good = true;
+    for _ in 0..times {
+        good = good && sink.put(lines).is_ok();
+    }
+    Some(good)
+}
+
+/// Whether a log took a try of so many lines so often, each of them the text.
+pub fn log<W: Write + Drop>(
+    alloc: Global,
+    text: &[u8],
+    times: u32,
+    count: usize,
+    writer: W,
+) -> Option<bool> {
+    let lines = lines_of(alloc, text, count)?;
+    let out = WriterSink { writer, faults: 0 };
+    let mut log = LogSink::start(alloc, out, NoNotes).ok()?;
+    put(&mut log, lines.as_slice(), times)
+}
+
+/// Whether a webhook over links in memory took them.
+pub fn post(alloc: Global, text: &[u8], times: u32, count: usize) -> Option<bool> {
+    let lines = lines_of(alloc, text, count)?;
+    let url = "http://127.0.0.1:9400/audit";
+    let mut hook = WebhookSink::start(alloc, url, LoopDial::new(alloc), NoNotes).ok()?;
+    put(&mut hook, lines.as_slice(), times)
 }

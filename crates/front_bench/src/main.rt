@@ -1,16 +1,23 @@
 //! `front_bench` makes one call again and again on its standard input, so that the scripts in `bench/` can time it.
 //!
-//! Words: the call, and how often. `check` and `compact` take a JSON text, `rows` and `find` a list of APIServices; a
-//! third word says how many of its rows `find` looks up in turn. The status is 0 where every call succeeded, and 1
-//! otherwise.
+//! Words: the call, how often, and others by the call. The status is 0 where every call succeeded, and 1 otherwise.
+//!
+//! | call | input | other words |
+//! |---|---|---|
+//! | `check`, `compact` | a JSON text | |
+//! | `rows` | a list of APIServices | |
+//! | `find` | a list of APIServices | how many of its rows are looked up in turn |
+//! | `log` | a line | how many lines a try has, and the file, which is made anew |
+//! | `post` | a line | how many lines a try has |
 #![tactic(auto)]
 
 mod calls;
+mod sinks;
 
-use calls::{check, compact, find, rows};
-use std::env;
+use calls::{check, compact, find, log, post, rows};
 use std::io::Read;
 use std::process::ExitCode;
+use std::{env, fs};
 
 fn words(rt: &HostRuntime) -> Option<Vec<String>> {
     env::args(rt).ok()?.skip(1).collect(rt.alloc()).ok()
@@ -30,6 +37,11 @@ fn run(rt: &HostRuntime) -> Option<bool> {
         ("compact", []) => Some(compact(rt.alloc(), text, times)),
         ("rows", []) => Some(rows(rt.alloc(), text, times)),
         ("find", [most]) => find(rt.alloc(), text, times, most.as_str().parse().ok()?),
+        ("log", [count, path]) => {
+            let file = fs::create(rt, path.as_str()).ok()?;
+            log(rt.alloc(), text, times, count.as_str().parse().ok()?, file)
+        }
+        ("post", [count]) => post(rt.alloc(), text, times, count.as_str().parse().ok()?),
         _ => None,
     }
 }
