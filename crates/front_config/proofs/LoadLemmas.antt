@@ -38,42 +38,43 @@ cause_of_bytes names before after failed now due (Err (ReadFault which)) none e 
 tokens_answered : (answer : Result (List Record) TokenFault) (which : Which)
     → fault_of (token_answer answer) ≡ Some (ReadFault which) → ⊥
 tokens_answered (Ok records) which e = cc e
-tokens_answered (Err (token.BadRow row)) which e = cc e
+tokens_answered (Err (token.BadRow row why)) which e = cc e
+tokens_answered (Err token.Input) which e = cc e
 tokens_answered (Err token.NoMemory) which e = cc e
 
 pub tokens_are_read : (bytes : Option (List ℕ)) (which : Which) → fault_of (tokens_in bytes) ≡ Some (ReadFault which) → ⊥
 tokens_are_read None which e = cc e
 tokens_are_read (Some bytes) which e = tokens_answered (file_records bytes) which e
 
-policy_answered : (answer : Result Policy PolicyFault) (which : Which)
-    → fault_of (policy_answer answer) ≡ Some (ReadFault which) → ⊥
-policy_answered (Ok rules) which e = cc e
-policy_answered (Err policy.NoMemory) which e = cc e
-policy_answered (Err policy.NotJson) which e = cc e
-policy_answered (Err policy.NoRules) which e = cc e
-policy_answered (Err (policy.BadField rule name)) which e = cc e
-policy_answered (Err (policy.BothKinds rule)) which e = cc e
-policy_answered (Err (policy.BadUrl rule)) which e = cc e
-policy_answered (Err (policy.NamesWithoutResources rule)) which e = cc e
+policy_answered : (bytes : List ℕ) (answer : Result Policy PolicyFault) (which : Which)
+    → fault_of (policy_answer bytes answer) ≡ Some (ReadFault which) → ⊥
+policy_answered bytes (Ok rules) which e = cc e
+policy_answered bytes (Err policy.NoMemory) which e = cc e
+policy_answered bytes (Err policy.NotJson) which e = cc e
+policy_answered bytes (Err policy.NoRules) which e = cc e
+policy_answered bytes (Err (policy.BadField rule name)) which e = cc e
+policy_answered bytes (Err (policy.BothKinds rule)) which e = cc e
+policy_answered bytes (Err (policy.BadUrl rule)) which e = cc e
+policy_answered bytes (Err (policy.NamesWithoutResources rule)) which e = cc e
 
 pub policy_is_read : (bytes : Option (List ℕ)) (which : Which) → fault_of (policy_in bytes) ≡ Some (ReadFault which) → ⊥
 policy_is_read None which e = cc e
-policy_is_read (Some bytes) which e = policy_answered (read_policy bytes) which e
+policy_is_read (Some bytes) which e = policy_answered bytes (read_policy bytes) which e
 
-rows_answered : (answer : Result (List Row) RowFault) (which : Which)
-    → fault_of (rows_answer answer >>= (λ rows. Ok (opened rows))) ≡ Some (ReadFault which) → ⊥
-rows_answered (Ok rows) which e = cc e
-rows_answered (Err row.NoMemory) which e = cc e
-rows_answered (Err row.NotJson) which e = cc e
-rows_answered (Err (row.BadField name)) which e = cc e
-rows_answered (Err row.NameMismatch) which e = cc e
-rows_answered (Err (row.Range name)) which e = cc e
-rows_answered (Err (row.Repeated name)) which e = cc e
-rows_answered (Err row.Full) which e = cc e
+rows_answered : (bytes : List ℕ) (answer : Result (List Row) RowFault) (which : Which)
+    → fault_of (rows_answer bytes answer >>= (λ rows. Ok (opened rows))) ≡ Some (ReadFault which) → ⊥
+rows_answered bytes (Ok rows) which e = cc e
+rows_answered bytes (Err row.NoMemory) which e = cc e
+rows_answered bytes (Err row.NotJson) which e = cc e
+rows_answered bytes (Err (row.BadField item member)) which e = cc e
+rows_answered bytes (Err (row.NameMismatch item)) which e = cc e
+rows_answered bytes (Err (row.Range item member)) which e = cc e
+rows_answered bytes (Err (row.Repeated item name)) which e = cc e
+rows_answered bytes (Err row.Full) which e = cc e
 
 pub table_is_read : (bytes : Option (List ℕ)) (which : Which) → fault_of (table_in bytes) ≡ Some (ReadFault which) → ⊥
 table_is_read None which e = cc e
-table_is_read (Some bytes) which e = rows_answered (read_rows bytes) which e
+table_is_read (Some bytes) which e = rows_answered bytes (read_rows bytes) which e
 
 -- a read may always fail
 pub fault_may_be_read : (told : Option (List (List ℕ × List ℕ))) (name : Option (List ℕ)) → IsRead told name (Err fail.Fault)

@@ -23,7 +23,7 @@ use Rattle.policy_rules.specs.declared.fault.PolicyFault.{PolicyFault}
 use Rattle.policy_rules.specs.declared.fault.PolicyFault.TheVariants as policy
 use Rattle.front_config.specs.declared.command.FileNames.{FileNames}
 use Rattle.front_config.specs.declared.files.Loaded.{Loaded}
-use Rattle.front_config.specs.declared.fault.FileFault.TheVariants.{TooLong, Token, PolicyFile, RowsFile}
+use Rattle.front_config.specs.declared.fault.FileFault.TheVariants.{TooLong, NotJson, Token, PolicyFile, RowsFile}
 use Rattle.front_config.specs.declared.fault.LoadFault.{LoadFault}
 use Rattle.front_config.specs.declared.fault.LoadFault.TheVariants.{ReadFault, BadFile, NoMemory}
 use Rattle.front_config.specs.declared.fault.Which.{Which}
@@ -51,7 +51,8 @@ bytes_in which (Some name) (Err fail.NoMemory) = Err NoMemory
 
 abbrev pub token_answer : Result (List Record) TokenFault → Result (List Record) LoadFault
 token_answer (Ok records) = Ok records
-token_answer (Err (token.BadRow row)) = Err (BadFile file.Tokens (Token row))
+token_answer (Err (token.BadRow row why)) = Err (BadFile file.Tokens (Token row why))
+token_answer (Err token.Input) = Err NoMemory
 token_answer (Err token.NoMemory) = Err NoMemory
 
 -- the records of a token file, none where no file is named
@@ -62,23 +63,25 @@ tokens_in (Some bytes) = token_answer (file_records bytes)
 abbrev pub tokens_of : Option (List ℕ) → Read → Result (List Record) LoadFault
 tokens_of name read = bytes_in file.Tokens name read >>= tokens_in
 
-abbrev pub policy_answer : Result Policy PolicyFault → Result Policy LoadFault
-policy_answer (Ok rules) = Ok rules
-policy_answer (Err policy.NoMemory) = Err NoMemory
-policy_answer (Err fault) = Err (BadFile file.Policy (PolicyFile fault))
+abbrev pub policy_answer : List ℕ → Result Policy PolicyFault → Result Policy LoadFault
+policy_answer bytes (Ok rules) = Ok rules
+policy_answer bytes (Err policy.NoMemory) = Err NoMemory
+policy_answer bytes (Err policy.NotJson) = Err (BadFile file.Policy (NotJson bytes))
+policy_answer bytes (Err fault) = Err (BadFile file.Policy (PolicyFile fault))
 
 -- the policy of a policy file; every request at level Metadata where no file is named
 abbrev pub policy_in : Option (List ℕ) → Result Policy LoadFault
 policy_in None = Ok all_metadata
-policy_in (Some bytes) = policy_answer (read_policy bytes)
+policy_in (Some bytes) = policy_answer bytes (read_policy bytes)
 
 abbrev pub policy_of : Option (List ℕ) → Read → Result Policy LoadFault
 policy_of name read = bytes_in file.Policy name read >>= policy_in
 
-abbrev pub rows_answer : Result (List Row) RowFault → Result (List Row) LoadFault
-rows_answer (Ok rows) = Ok rows
-rows_answer (Err row.NoMemory) = Err NoMemory
-rows_answer (Err fault) = Err (BadFile file.Services (RowsFile fault))
+abbrev pub rows_answer : List ℕ → Result (List Row) RowFault → Result (List Row) LoadFault
+rows_answer bytes (Ok rows) = Ok rows
+rows_answer bytes (Err row.NoMemory) = Err NoMemory
+rows_answer bytes (Err row.NotJson) = Err (BadFile file.Services (NotJson bytes))
+rows_answer bytes (Err fault) = Err (BadFile file.Services (RowsFile fault))
 
 -- the table of these rows, before any change
 abbrev pub opened : List Row → Table
@@ -87,7 +90,7 @@ opened rows = record { rows = with_rows rows []; changes = 0 }
 -- the table of a file of APIService objects; of no rows where no file is named
 abbrev pub table_in : Option (List ℕ) → Result Table LoadFault
 table_in None = Ok (opened [])
-table_in (Some bytes) = rows_answer (read_rows bytes) >>= (λ rows. Ok (opened rows))
+table_in (Some bytes) = rows_answer bytes (read_rows bytes) >>= (λ rows. Ok (opened rows))
 
 abbrev pub table_of : Option (List ℕ) → Read → Result Table LoadFault
 table_of name read = bytes_in file.Services name read >>= table_in

@@ -1,5 +1,5 @@
 -- The command lines of the program.
-use Rattle.std.specs.Prelude.{ℕ, ◌&&◌, not, nat_lt, Bool, true, false, if◌then◌else◌, List, [], ◌∷◌, length, Option, Some, None, Result, Ok, Err, codes}
+use Rattle.std.specs.Prelude.{ℕ, ◌&&◌, ◌||◌, not, nat_lt, Bool, true, false, if◌then◌else◌, List, [], ◌∷◌, length, Option, Some, None, Result, Ok, Err, codes}
 use Rattle.std.specs.List.{list_any}
 use Rattle.std.specs.Str.{bytes_eq}
 use Rattle.json_value.specs.Results.{◌>>=◌, found_or}
@@ -11,6 +11,8 @@ use Rattle.front_config.specs.declared.command.Command.{Command}
 use Rattle.front_config.specs.declared.command.Command.TheVariants.{Explain}
 use Rattle.front_config.specs.declared.command.ExplainWords.{ExplainWords}
 use Rattle.front_config.specs.declared.command.FileNames.{FileNames}
+use Rattle.front_config.specs.declared.fault.Ranged.{Ranged}
+use Rattle.front_config.specs.declared.fault.Ranged.TheVariants.{MaxEventSize, Moment}
 use Rattle.front_config.specs.declared.fault.WordsFault.{WordsFault}
 use Rattle.front_config.specs.declared.fault.WordsFault.TheVariants.{Usage, Limits, NoMemory}
 
@@ -49,7 +51,8 @@ number_or default (Some text) = found_or Usage (number_of text)
 
 -- the options of `explain`
 abbrev pub explain_names : List (List ℕ)
-explain_names = codes "token-auth-file" ∷ codes "audit-policy-file" ∷ codes "apiservices" ∷ codes "moment" ∷ []
+explain_names =
+    codes "token-auth-file" ∷ codes "audit-policy-file" ∷ codes "apiservices" ∷ codes "max-event-size" ∷ codes "moment" ∷ []
 
 abbrev pub file_names : List Named → FileNames
 file_names given = record {
@@ -58,16 +61,35 @@ file_names given = record {
   services = value_of (codes "apiservices") given;
 }
 
+abbrev pub ranged_name : Ranged → List ℕ
+ranged_name MaxEventSize = codes "max-event-size"
+ranged_name Moment = codes "moment"
+
+-- the ends of an option's range
+abbrev pub least : Ranged → ℕ
+least MaxEventSize = 256
+least Moment = 0
+
+abbrev pub most : Ranged → ℕ
+most MaxEventSize = 4194304
+most Moment = 253370764799999999
+
+-- the most bytes that a line may have, where they are in their range
+abbrev pub max_event_of : ℕ → Result ℕ WordsFault
+max_event_of size = if nat_lt size 256 || nat_lt 4194304 size then Err (Limits MaxEventSize size) else Ok size
+
 -- a moment is below the year 9999 in UTC
 abbrev pub moment_of : ℕ → Result ℕ WordsFault
-moment_of micros = if nat_lt micros MOMENT_END then Ok micros else Err (Limits (codes "moment"))
+moment_of micros = if nat_lt micros MOMENT_END then Ok micros else Err (Limits Moment micros)
 
 -- what `explain` is told by its options; numbers are read before their ranges are looked at
 unfoldable pub explain_by : List Named → Result ExplainWords WordsFault
 explain_by given = do
+  size ← number_or 102400 (value_of (codes "max-event-size") given)
   micros ← number_or 0 (value_of (codes "moment") given)
+  max_event ← max_event_of size
   moment ← moment_of micros
-  Ok (record { files = file_names given; moment = moment })
+  Ok (record { files = file_names given; max_event = max_event; moment = moment })
 
 unfoldable pub explain_of : List (List ℕ) → Result ExplainWords WordsFault
 explain_of words = given_of explain_names words >>= explain_by
@@ -85,7 +107,7 @@ command_of (word ∷ words) = if bytes_eq word (codes "explain") then explained 
 
 abbrev pub is_memory : WordsFault → Bool
 is_memory Usage = false
-is_memory (Limits name) = false
+is_memory (Limits option number) = false
 is_memory NoMemory = true
 
 -- a fault that is answered is the one that is due, unless memory ran out

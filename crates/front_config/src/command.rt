@@ -13,6 +13,8 @@ pub struct FileNames {
 #[derive(Debug, Drop)]
 pub struct ExplainWords {
     pub files: FileNames,
+    /// The most bytes that the line of an event may have, from 256 to 4194304.
+    pub max_event: u64,
     /// What the clock shows, for all of the run.
     pub moment: Moment,
 }

@@ -1,10 +1,51 @@
 ghost use Rattle.std.specs.Prelude.{◌≡◌};
+ghost use Rattle.front_config.specs.Words as spec;
 ghost use Rattle.front_config.specs.declared.fault.LoadFault.TheVariants as load_fault;
 ghost use Rattle.front_config.specs.declared.fault.WordsFault.TheVariants as words_fault;
 
 use apiservice_rows::RowFault;
-use front_base::{NoMemory as OutOfMemory, Text};
+use front_base::{Bytes, NoMemory as OutOfMemory};
 use policy_rules::PolicyFault;
+use token_users::BadRecord;
+
+/// The options whose numbers have a range.
+#[derive(Clone, Copy, Debug, PartialEq, Eq)]
+pub enum Ranged {
+    MaxEventSize,
+    Moment,
+}
+
+impl Ranged {
+    /// The option's name, without its dashes.
+    pub fn name(self) -> &'static str
+        ensures { result.now ≡ spec.ranged_name self }
+    {
+        match self {
+            Ranged::MaxEventSize => "max-event-size",
+            Ranged::Moment => "moment",
+        }
+    }
+
+    /// The least number that it may have.
+    pub fn least(self) -> u64
+        ensures { result ≡ spec.least self }
+    {
+        match self {
+            Ranged::MaxEventSize => 256,
+            Ranged::Moment => 0,
+        }
+    }
+
+    /// The greatest number that it may have.
+    pub fn most(self) -> u64
+        ensures { result ≡ spec.most self }
+    {
+        match self {
+            Ranged::MaxEventSize => 4_194_304,
+            Ranged::Moment => 253_370_764_799_999_999,
+        }
+    }
+}
 
 /// Why words are no command that can be run.
 #[derive(Debug, Drop)]
@@ -12,10 +53,7 @@ pub enum WordsFault {
     /// They are no command line.
     Usage,
     /// The number of an option is out of its range.
-    Limits {
-        /// The option's name without its dashes.
-        name: Text,
-    },
+    Limits { option: Ranged, number: u64 },
     /// Memory ran out.
     NoMemory,
 }
@@ -41,11 +79,13 @@ pub enum Which {
 pub enum FileFault {
     /// It has more than `front_base::MOST_FILE_BYTES` bytes.
     TooLong,
+    /// A file of JSON is refused as none. These are its bytes.
+    NotJson(Bytes),
     /// The row of a token file with this number is no record. Rows are counted from 0, without blank lines.
-    Token(u32),
-    /// A policy file states no policy.
+    Token { row: u32, why: BadRecord },
+    /// A policy file states no policy, and is JSON.
     PolicyFile(PolicyFault),
-    /// A file of APIService objects is refused.
+    /// A file of APIService objects is refused, and is JSON.
     RowsFile(RowFault),
 }
 

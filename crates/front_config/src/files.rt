@@ -74,11 +74,11 @@ fn tokens_in(alloc: Global, bytes: Option<Bytes>) -> Result<Tokens, LoadFault>
     };
     match read_tokens(alloc, bytes.as_slice()) {
         Ok(tokens) => Ok(tokens),
-        Err(TokenFault::BadRow { row }) => Err(LoadFault::BadFile {
+        Err(TokenFault::BadRow { row, why }) => Err(LoadFault::BadFile {
             which: Which::Tokens,
-            fault: FileFault::Token(row),
+            fault: FileFault::Token { row, why },
         }),
-        Err(TokenFault::NoMemory) => Err(LoadFault::NoMemory),
+        Err(TokenFault::Input | TokenFault::NoMemory) => Err(LoadFault::NoMemory),
     }
 }
 
@@ -106,6 +106,10 @@ fn policy_in(alloc: Global, bytes: Option<Bytes>) -> Result<Policy, LoadFault>
     match read_policy(alloc, bytes.as_slice()) {
         Ok(policy) => Ok(policy),
         Err(PolicyFault::NoMemory) => Err(LoadFault::NoMemory),
+        Err(PolicyFault::NotJson) => Err(LoadFault::BadFile {
+            which: Which::Policy,
+            fault: FileFault::NotJson(bytes),
+        }),
         Err(fault) => Err(LoadFault::BadFile {
             which: Which::Policy,
             fault: FileFault::PolicyFile(fault),
@@ -137,6 +141,10 @@ fn table_in(alloc: Global, bytes: Option<Bytes>) -> Result<RouteTable, LoadFault
     match read_rows(alloc, bytes.as_slice()) {
         Ok(rows) => Ok(RouteTable::from_rows(alloc, rows)?),
         Err(RowFault::NoMemory) => Err(LoadFault::NoMemory),
+        Err(RowFault::NotJson) => Err(LoadFault::BadFile {
+            which: Which::Services,
+            fault: FileFault::NotJson(bytes),
+        }),
         Err(fault) => Err(LoadFault::BadFile {
             which: Which::Services,
             fault: FileFault::RowsFile(fault),

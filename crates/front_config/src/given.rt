@@ -119,7 +119,7 @@ pub fn text_of(alloc: Global, name: &str, options: &Options) -> Result<Option<Te
 }
 
 #[tactic(auto, unfolding(crate::specs::Words::number_of))]
-fn short_number(text: &str) -> Option<u64>
+pub fn short_number(text: &str) -> Option<u64>
     ensures { result ≡ spec.number_of text.now }
 {
     if text.len() > 20 {

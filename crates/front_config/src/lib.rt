@@ -2,12 +2,14 @@
 //!
 //! The main contracts are those of `read_words`, whose answer is the one that the definition `command_of` states for the
 //! words, and of `load`, whose answer is the one that `load_of` states for what the reads of the files gave, one after
-//! the other. A file that can't be read is reported only where the files' own count of faults rose.
+//! the other. A file that can't be read is reported only where the files' own count of faults rose. `bad_word` says which
+//! word makes words no command line.
 //!
-//! Nothing is promised of what a real file holds, nor of files that the words don't name.
+//! Nothing is promised of what `bad_word` answers but that its word is there, nor of what a real file holds, nor of files that the words don't name.
 #![tactic(auto)]
 
 mod command;
+mod diagnosis;
 mod fault;
 mod files;
 mod given;
@@ -16,7 +18,8 @@ mod spelling;
 mod words;
 
 pub use command::{Command, ExplainWords, FileNames};
-pub use fault::{FileFault, LoadFault, Which, WordsFault};
+pub use diagnosis::{BadWord, OPTIONS, WordFault, bad_word};
+pub use fault::{FileFault, LoadFault, Ranged, Which, WordsFault};
 pub use files::{Loaded, load};
 pub use laws::{both_spellings, clap_agrees};
 pub use words::read_words;

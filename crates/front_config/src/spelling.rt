@@ -7,7 +7,7 @@ ghost use Rattle.front_config.specs.Spelling as spec;
 use front_base::cut_at;
 
 // The text after two dashes.
-fn behind_dashes(word: &str) -> Option<&str>
+pub fn behind_dashes(word: &str) -> Option<&str>
     ensures { option_map (λ text. text.now) result ≡ spec.behind_dashes word.now }
 {
     word.strip_prefix("--")

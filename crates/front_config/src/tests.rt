@@ -1,4 +1,6 @@
-use crate::{Command, FileNames, Loaded, WordsFault, load, read_words};
+use crate::{
+    BadWord, Command, FileNames, Loaded, WordFault, WordsFault, bad_word, load, read_words,
+};
 use apiservice_rows::MOST_ROWS;
 use front_base::{Bytes, MOST_FILE_BYTES, NoMemory, Text};
 use front_ports::MemFiles;
@@ -88,7 +90,7 @@ const LINES: [(&str, &str); 58] = [
     ("explain|--mom=1", "usage"),
     ("explain|--Moment=1", "usage"),
     ("explain|--=1", "usage"),
-    ("explain|--max-event-size=512", "usage"),
+    ("explain|--max-event-size=x", "usage"),
     ("explain|--help", "usage"),
 ];
 
@@ -116,8 +118,8 @@ fn asked(alloc: Global, words: &Vec<String>) -> Result<String, Fail> {
             Ok(format!(in alloc; "explain {tokens} {policy} {moment}")?)
         }
         Err(WordsFault::Usage) => Ok(String::from_str(alloc, "usage")?),
-        Err(WordsFault::Limits { name }) => {
-            let name = name.as_str();
+        Err(WordsFault::Limits { option, .. }) => {
+            let name = option.name();
             Ok(format!(in alloc; "limits {name}")?)
         }
         Err(WordsFault::NoMemory) => Err("no memory")?,
@@ -168,6 +170,67 @@ fn the_file_of_services_is_named_by_an_option(rt: HostRuntime) -> Result<(), Fai
         let words = words_of(alloc, line)?;
         assert_eq!(rt; services_named(alloc, &words)?.as_str(), answer, "{row}");
     }
+    Ok(())
+}
+
+// Command lines whose words stand between bars, and the most bytes of a line that they ask for.
+const SIZES: &str = "explain 102400
+explain|--max-event-size=256 256
+explain|--max-event-size|4194304|--moment=1 4194304
+explain|--max-event-size=255 Limits { option: MaxEventSize, number: 255 }
+explain|--moment=253370764800000000|--max-event-size|0 Limits { option: MaxEventSize, number: 0 }
+explain|--max-event-size=4194305 Limits { option: MaxEventSize, number: 4194305 }
+explain|--max-event-size=256|--moment=253370764800000000 Limits { option: Moment, number: 253370764800000000 }";
+
+fn size_asked(alloc: Global, words: &Vec<String>) -> Result<String, AllocError> {
+    match read_words(alloc, words) {
+        Ok(Command::Explain(told)) => format!(in alloc; "{}", told.max_event),
+        Err(fault) => format!(in alloc; "{fault:?}"),
+    }
+}
+
+#[test]
+fn lines_have_a_greatest_length(rt: HostRuntime) -> Result<(), Fail> {
+    let alloc = rt.alloc();
+    for row in SIZES.lines() {
+        let (line, answer) = row.split_once(' ').ok_or("two words")?;
+        let words = words_of(alloc, line)?;
+        assert_eq!(rt; size_asked(alloc, &words)?.as_str(), answer, "{row}");
+    }
+    Ok(())
+}
+
+// Command lines that are none, the place of the first bad word, and what is wrong with it.
+const BAD_WORDS: &str = "serve 0 UnknownCommand
+explains|--moment=1 0 UnknownCommand
+explain|x 1 NotOption
+explain|-moment=1 1 NotOption
+explain| 1 NotOption
+explain|--policy=p 1 UnknownOption
+explain|--moment=1|--mom 2 UnknownOption
+explain|-- 1 UnknownOption
+explain|--moment=1|--apiservices|s|--moment|2 4 Twice
+explain|--moment=1|--moment=x 2 Twice
+explain|--apiservices|--moment=1 1 NoValue
+explain|--moment|1|--apiservices= 3 NoValue
+explain|--moment=1|--apiservices 2 NoValue
+explain|--moment| 1 NoValue
+explain|--max-event-size|1x|y 1 NotNumber
+explain|--apiservices=x|--moment=18446744073709551616 2 NotNumber";
+
+#[test]
+fn the_first_bad_word_is_told(rt: HostRuntime) -> Result<(), Fail> {
+    let alloc = rt.alloc();
+    for row in BAD_WORDS.lines() {
+        let (line, answer) = row.split_once(' ').ok_or("two words")?;
+        let words = words_of(alloc, line)?;
+        let BadWord { place, fault } = bad_word(words.as_slice());
+        let own = format!(in alloc; "{place} {fault:?}")?;
+        assert_eq!(rt; own.as_str(), answer, "{row}");
+    }
+    let none: [String; 0] = [];
+    let bad = bad_word(none.as_slice());
+    assert_eq!(rt; bad.fault, WordFault::NoCommand);
     Ok(())
 }
 
@@ -289,19 +352,19 @@ const FILES: &str = r#"|||1|- 1
 a,ann,1|||2|ann 1
 |TWO RULES||0|- 2
 ||v1.g/g/100|0|- 1 v1.g
-||{"kind":"List"}|0|BadFile { which: Services, fault: RowsFile(BadField { name: Text("items") }) }
+||{"kind":"List"}|0|BadFile { which: Services, fault: RowsFile(BadField { item: None, member: Text("items") }) }
 a,ann,1|TWO RULES||3|ann 2
 a,ann,1|TWO RULES|v1.h/h/100 v1.g/g/100 v1.//100|4|ann 2 v1. v1.g v1.h
 EMPTY|TWO RULES|v1.//1|0|- 2 v1.
-TWO ROWS|x|x|2|BadFile { which: Tokens, fault: Token(1) }
-a,ann,1|{|x|0|BadFile { which: Policy, fault: PolicyFile(NotJson) }
+TWO ROWS|x|x|2|BadFile { which: Tokens, fault: Token { row: 1, why: FewFields } }
+a,ann,1|{|x|0|BadFile { which: Policy, fault: NotJson(Bytes([123])) }
 a,ann,1|{"kind":"Policy","apiVersion":"audit.k8s.io/v1"}|{|0|BadFile { which: Policy, fault: PolicyFile(NoRules) }
-a,ann,1|TWO RULES|{|0|BadFile { which: Services, fault: RowsFile(NotJson) }
-||{}|0|BadFile { which: Services, fault: RowsFile(BadField { name: Text("kind") }) }
-||v1.g/G/100|0|BadFile { which: Services, fault: RowsFile(BadField { name: Text("group") }) }
-||v1.h/g/100|0|BadFile { which: Services, fault: RowsFile(NameMismatch) }
-||v1.g/g/0|0|BadFile { which: Services, fault: RowsFile(Range { name: Text("groupPriorityMinimum") }) }
-||v1.g/g/100 v1.h/h/100 v1.g/g/1|0|BadFile { which: Services, fault: RowsFile(Repeated { name: Text("v1.g") }) }
+a,ann,1|TWO RULES|{|0|BadFile { which: Services, fault: NotJson(Bytes([123])) }
+||{}|0|BadFile { which: Services, fault: RowsFile(BadField { item: None, member: Text("kind") }) }
+||v1.g/G/100|0|BadFile { which: Services, fault: RowsFile(BadField { item: Some(0), member: Text("spec.group") }) }
+||v1.h/g/100|0|BadFile { which: Services, fault: RowsFile(NameMismatch { item: Some(0) }) }
+||v1.g/g/0|0|BadFile { which: Services, fault: RowsFile(Range { item: Some(0), member: Text("spec.groupPriorityMinimum") }) }
+||v1.g/g/100 v1.h/h/100 v1.g/g/1|0|BadFile { which: Services, fault: RowsFile(Repeated { item: 2, name: Text("v1.g") }) }
 ||FULL|0|BadFile { which: Services, fault: RowsFile(Full) }
 ?|{|{|0|ReadFault { which: Tokens }
 a,ann,1|?|{|0|ReadFault { which: Policy }
@@ -310,8 +373,8 @@ x|{|{|1|ReadFault { which: Tokens }
 a,ann,1|TWO RULES|{|2|ReadFault { which: Policy }
 a,ann,1|TWO RULES|v1.g/g/100|3|ReadFault { which: Services }
 |TWO RULES|v1.g/g/100|2|ReadFault { which: Services }
-x|?|?|0|BadFile { which: Tokens, fault: Token(0) }
-|{|?|0|BadFile { which: Policy, fault: PolicyFile(NotJson) }
+x|?|?|0|BadFile { which: Tokens, fault: Token { row: 0, why: FewFields } }
+|{|?|0|BadFile { which: Policy, fault: NotJson(Bytes([123])) }
 LONG|?||0|BadFile { which: Tokens, fault: TooLong }
 |LONG|?|0|BadFile { which: Policy, fault: TooLong }
 ||LONG|0|BadFile { which: Services, fault: TooLong }"#;

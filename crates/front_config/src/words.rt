@@ -1,37 +1,45 @@
 // The commands of the program.
-ghost use Rattle.std.specs.Prelude.{◌≡◌, IfOk, Some, map, string_bytes};
+ghost use Rattle.std.specs.Prelude.{◌≡◌, IfOk, map, string_bytes};
 ghost use Rattle.front_config.specs.Words as spec;
-ghost use Rattle.front_config.specs.declared.fault.WordsFault.TheVariants.{Limits};
 
 use crate::command::{Command, ExplainWords, FileNames};
-use crate::fault::WordsFault;
+use crate::fault::{Ranged, WordsFault};
 use crate::given::{Options, given_of, number_or, text_of};
-use front_base::{Moment, NoMemory, Text};
+use front_base::{Moment, NoMemory};
 use std::alloc::Global;
 
-const TOKENS: &str = "token-auth-file";
+pub const TOKENS: &str = "token-auth-file";
 
-const POLICY: &str = "audit-policy-file";
+pub const POLICY: &str = "audit-policy-file";
 
-const SERVICES: &str = "apiservices";
+pub const SERVICES: &str = "apiservices";
 
-const MOMENT: &str = "moment";
+pub const MAX_EVENT_SIZE: &str = "max-event-size";
 
-fn out_of_range(alloc: Global, name: &str) -> WordsFault
-    ensures { spec.Fails result (Some (Limits name.now)) }
+pub const MOMENT: &str = "moment";
+
+fn max_event_of(size: u64) -> Result<u64, WordsFault>
+    ensures { spec.Gives (λ v. v) result (spec.max_event_of size) }
 {
-    match Text::copy_of(alloc, name) {
-        Ok(name) => WordsFault::Limits { name },
-        Err(_) => WordsFault::NoMemory,
+    let option = Ranged::MaxEventSize;
+    if size < option.least() || option.most() < size {
+        return Err(WordsFault::Limits {
+            option,
+            number: size,
+        });
     }
+    Ok(size)
 }
 
-fn moment_of(alloc: Global, micros: u64) -> Result<Moment, WordsFault>
+fn moment_of(micros: u64) -> Result<Moment, WordsFault>
     ensures { spec.Gives (λ v. v) result (spec.moment_of micros) }
 {
     match Moment::new(micros) {
         Some(moment) => Ok(moment),
-        None => Err(out_of_range(alloc, MOMENT)),
+        None => Err(WordsFault::Limits {
+            option: Ranged::Moment,
+            number: micros,
+        }),
     }
 }
 
@@ -49,17 +57,27 @@ fn file_names(alloc: Global, options: &Options) -> Result<FileNames, NoMemory>
 fn explain_by(alloc: Global, options: &Options) -> Result<ExplainWords, WordsFault>
     ensures { spec.Gives (λ v. v) result (spec.explain_by options.now) }
 {
+    let size = number_or(102_400, MAX_EVENT_SIZE, options)?;
     let micros = number_or(0, MOMENT, options)?;
-    let moment = moment_of(alloc, micros)?;
+    let max_event = max_event_of(size)?;
+    let moment = moment_of(micros)?;
     let files = file_names(alloc, options)?;
-    Ok(ExplainWords { files, moment })
+    Ok(ExplainWords {
+        files,
+        max_event,
+        moment,
+    })
 }
 
 #[tactic(auto, unfolding(crate::specs::Words::explain_of))]
 fn explain_of(alloc: Global, words: &[String]) -> Result<ExplainWords, WordsFault>
     ensures { spec.Gives (λ v. v) result (spec.explain_of (map string_bytes words.now)) }
 {
-    match given_of(alloc, &[TOKENS, POLICY, SERVICES, MOMENT], words) {
+    match given_of(
+        alloc,
+        &[TOKENS, POLICY, SERVICES, MAX_EVENT_SIZE, MOMENT],
+        words,
+    ) {
         Ok(options) => explain_by(alloc, &options),
         Err(fault) => Err(fault),
     }
