@@ -1,0 +1,98 @@
+// The line for a file that wasn't loaded.
+ghost use Rattle.std.specs.Prelude.{◌≡◌, ◌++◌, IfOk, string_bytes};
+ghost use Rattle.front_config.specs.Load.{name_for};
+ghost use Rattle.refusal_text.specs.Place.{place_of};
+ghost use Rattle.refusal_text.specs.Text as spec;
+
+use crate::json_place::json_reason;
+use crate::place::place_of;
+use crate::reason::{policy_reason, record_reason, row_reason};
+use front_config::{FileFault, FileNames, LoadFault, Which};
+use std::alloc::{AllocError, Global};
+
+fn option_of(which: Which) -> &'static str
+    ensures { result.now ≡ spec.option_of which }
+{
+    match which {
+        Which::Tokens => "--token-auth-file",
+        Which::Policy => "--audit-policy-file",
+        Which::Services => "--apiservices",
+    }
+}
+
+fn name_of(names: &FileNames, which: Which) -> &str
+    ensures { result.now ≡ spec.name_or_none (name_for names.now which) }
+{
+    let name = match which {
+        Which::Tokens => names.tokens.as_ref(),
+        Which::Policy => names.policy.as_ref(),
+        Which::Services => names.services.as_ref(),
+    };
+    match name {
+        Some(name) => name.as_str(),
+        None => "",
+    }
+}
+
+fn file_head(alloc: Global, names: &FileNames, which: Which) -> Result<String, AllocError>
+    ensures { IfOk result (λ head. string_bytes head ≡ spec.file_head names.now which) }
+{
+    let option = option_of(which);
+    let name = name_of(names, which);
+    format!(in alloc; "{option}={name}: ")
+}
+
+// Why a file's bytes are refused.
+fn reason_of(alloc: Global, fault: &FileFault) -> Result<String, AllocError> {
+    match fault {
+        FileFault::TooLong => String::from_str(alloc, "larger than 16 MiB"),
+        FileFault::NotJson(bytes) => json_reason(alloc, bytes.as_slice()),
+        FileFault::Token { why, .. } => String::from_str(alloc, record_reason(*why)),
+        FileFault::PolicyFile(fault) => String::from_str(alloc, policy_reason(fault)),
+        FileFault::RowsFile(fault) => String::from_str(alloc, row_reason(fault)),
+    }
+}
+
+// The reason after a colon, where a place stands before it.
+fn after_place(alloc: Global, place: &str, reason: &str) -> Result<String, AllocError> {
+    if place.is_empty() {
+        return String::from_str(alloc, reason);
+    }
+    format!(in alloc; ": {reason}")
+}
+
+fn bad_file(
+    alloc: Global,
+    names: &FileNames,
+    which: Which,
+    fault: &FileFault,
+) -> Result<String, AllocError>
+    ensures { IfOk result (λ line. spec.Begins (string_bytes line) (spec.file_head names.now which ++ place_of fault.now)) }
+{
+    let mut line = file_head(alloc, names, which)?;
+    let place = place_of(alloc, fault)?;
+    let reason = reason_of(alloc, fault)?;
+    let rest = after_place(alloc, place.as_str(), reason.as_str())?;
+    line.push_str(place.as_str())?;
+    line.push_str(rest.as_str())?;
+    Ok(line)
+}
+
+fn unread(alloc: Global, names: &FileNames, which: Which) -> Result<String, AllocError>
+    ensures { IfOk result (λ line. spec.Begins (string_bytes line) (spec.file_head names.now which)) }
+{
+    let mut line = file_head(alloc, names, which)?;
+    line.push_str("could not be read")?;
+    Ok(line)
+}
+
+/// The line for files that weren't loaded.
+pub fn file_line(alloc: Global, names: &FileNames, fault: &LoadFault) -> Result<String, AllocError>
+    ensures { IfOk result (λ line. spec.SaysFile names.now fault.now (string_bytes line)) }
+{
+    match fault {
+        LoadFault::ReadFault { which } => unread(alloc, names, *which),
+        LoadFault::BadFile { which, fault } => bad_file(alloc, names, *which, fault),
+        LoadFault::NoMemory => String::from_str(alloc, "out of memory"),
+    }
+}

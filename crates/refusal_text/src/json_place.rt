@@ -1,0 +1,62 @@
+// Where bytes stop being JSON.
+ghost use Rattle.std.specs.Prelude.{◌≡◌, ◌≤◌, None, IfSome, length};
+ghost use Rattle.json_span.specs.Fault.{FaultAt};
+ghost use Rattle.json_span.specs.Value.{IsText};
+
+use json_span::check;
+use std::alloc::{AllocError, Global};
+
+/// A line of a file, and a byte of that line, both counted from 1.
+#[derive(Clone, Copy, Debug, PartialEq, Eq)]
+pub struct Position {
+    pub line: u64,
+    pub column: u64,
+}
+
+/// How many bytes at the start still begin some JSON text, or None for a JSON text.
+pub fn json_stop(bytes: &[u8]) -> Option<usize>
+    ensures stop { IfSome result (FaultAt IsText bytes.now) }
+    ensures none { result ≡ None → IsText bytes.now }
+{
+    match check(bytes) {
+        Ok(()) => None,
+        Err(fault) => Some(fault.at),
+    }
+}
+
+/// Where the byte after these bytes stands.
+pub fn position_of(before: &[u8]) -> Position {
+    let mut place = Position { line: 1, column: 1 };
+    for byte in before {
+        if *byte == b'\n' {
+            place.line = place.line.saturating_add(1);
+            place.column = 1;
+        } else {
+            place.column = place.column.saturating_add(1);
+        }
+    }
+    place
+}
+
+// What is JSON by its grammar and still refused.
+const BEYOND: &str =
+    "JSON with a number too great, an escape of half a surrogate pair, or more than 127 arrays and objects \
+inside one another";
+
+/// Why bytes were refused as no JSON: the first byte that no JSON text has there, counted from 1, and its line and column
+/// where the file has several lines.
+pub fn json_reason(alloc: Global, bytes: &[u8]) -> Result<String, AllocError> {
+    let Some(stop) = json_stop(bytes) else {
+        return String::from_str(alloc, BEYOND);
+    };
+    if stop >= bytes.len() {
+        return String::from_str(alloc, "no JSON: the file ends too early");
+    }
+    let byte = (stop as u64).saturating_add(1);
+    let (before, _) = bytes.split_at(stop);
+    let Position { line, column } = position_of(before);
+    if !bytes.contains(&b'\n') {
+        return format!(in alloc; "no JSON at byte {byte}");
+    }
+    format!(in alloc; "no JSON at byte {byte}: line {line}, column {column}")
+}

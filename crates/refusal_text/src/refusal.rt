@@ -1,0 +1,22 @@
+use front_config::{BadWord, FileNames, LoadFault, Ranged};
+use http_edge::End;
+
+/// Why a run ended, where there is more to tell than its status.
+#[derive(Debug, Drop)]
+pub enum Refusal {
+    /// The words are no command line.
+    Words(BadWord),
+    /// A word isn't UTF-8.
+    NotUtf8,
+    /// The number of an option is out of its range.
+    Limits { option: Ranged, number: u64 },
+    /// The files that these names name weren't loaded.
+    Files { names: FileNames, fault: LoadFault },
+    /// A request of the input is refused or cut short: its number, and the number of its first byte in the input, both
+    /// counted from 1.
+    Request { number: u64, byte: u64, end: End },
+    /// The input could not be read.
+    Input,
+    /// The output could not be written.
+    Output,
+}

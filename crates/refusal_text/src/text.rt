@@ -1,0 +1,65 @@
+ghost use Rattle.std.specs.Prelude.{◌≡◌, IfOk, string_bytes};
+ghost use Rattle.refusal_text.specs.Text as spec;
+
+use crate::file_line::file_line;
+use crate::refusal::Refusal;
+use crate::usage::usage_line;
+use front_config::Ranged;
+use http_edge::End;
+use std::alloc::{AllocError, Global};
+
+fn range_line(alloc: Global, option: Ranged, number: u64) -> Result<String, AllocError>
+    ensures { IfOk result (λ line. string_bytes line ≡ spec.range_line option number) }
+{
+    let name = option.name();
+    let least = option.least();
+    let most = option.most();
+    format!(in alloc; "--{name}={number}: not in {least}..{most}")
+}
+
+// The name of a refusal, and the status that it would be answered with over a connection.
+fn end_reason(end: End) -> &'static str {
+    match end {
+        End::Ended => "no request",
+        End::Asked => "the last request of its connection",
+        End::BadHead => "bad head: 400",
+        End::HeadTooLarge => "head too large: 431",
+        End::BadFraming => "bad framing: 400",
+        End::BodyTooLarge => "body too large: 413",
+        End::CutShort => "the input is cut short",
+    }
+}
+
+fn request_head(alloc: Global, number: u64, byte: u64) -> Result<String, AllocError>
+    ensures { IfOk result (λ head. string_bytes head ≡ spec.request_head number byte) }
+{
+    format!(in alloc; "request {number}, at byte {byte}: ")
+}
+
+fn request_line(alloc: Global, number: u64, byte: u64, end: End) -> Result<String, AllocError>
+    ensures { IfOk result (λ line. spec.Begins (string_bytes line) (spec.request_head number byte)) }
+{
+    let mut line = request_head(alloc, number, byte)?;
+    line.push_str(end_reason(end))?;
+    Ok(line)
+}
+
+/// The line that tells a person of a refusal, without a line feed. These are the words after the program's name. Bytes,
+/// lines, columns, records and requests are counted from 1, and places in a list of JSON from 0.
+pub fn refusal_text(
+    alloc: Global,
+    words: &[String],
+    refusal: &Refusal,
+) -> Result<String, AllocError>
+    ensures { IfOk result (λ line. spec.Says refusal.now (string_bytes line)) }
+{
+    match refusal {
+        Refusal::Words(bad) => usage_line(alloc, words, bad),
+        Refusal::NotUtf8 => String::from_str(alloc, "a word is not UTF-8. Try 'apiaggd --help'."),
+        Refusal::Limits { option, number } => range_line(alloc, *option, *number),
+        Refusal::Files { names, fault } => file_line(alloc, names, fault),
+        Refusal::Request { number, byte, end } => request_line(alloc, *number, *byte, *end),
+        Refusal::Input => String::from_str(alloc, "standard input: could not be read"),
+        Refusal::Output => String::from_str(alloc, "standard output: could not be written"),
+    }
+}

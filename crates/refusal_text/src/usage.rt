@@ -1,0 +1,65 @@
+// What is wrong with words that are no command line.
+ghost use Rattle.std.specs.Prelude.{IfOk};
+
+use front_config::{BadWord, OPTIONS, WordFault};
+use std::alloc::{AllocError, Global};
+use strsim::levenshtein;
+
+const HINT: &str = "Try 'apiaggd --help'.";
+
+// Whether a name is near a known one: the start of it, or at most a third of it away in edits.
+fn is_near(alloc: Global, name: &str, known: &str) -> Result<bool, AllocError> {
+    if name.len() > 2 && known.starts_with(name) {
+        return Ok(true);
+    }
+    if name.len() > 64 {
+        return Ok(false);
+    }
+    Ok(levenshtein(alloc, name, known)? <= known.len() / 3)
+}
+
+// A known option near that name.
+fn near_option(alloc: Global, name: &str) -> Result<Option<&'static str>, AllocError> {
+    for known in OPTIONS {
+        if is_near(alloc, name, known)? {
+            return Ok(Some(known));
+        }
+    }
+    Ok(None)
+}
+
+// The option of a word, with its dashes and without a value.
+fn option_in(word: &str) -> &str {
+    match word.split_once('=') {
+        Some((option, _)) => option,
+        None => word,
+    }
+}
+
+fn unknown_option(alloc: Global, option: &str) -> Result<String, AllocError> {
+    let name = option.trim_start_matches('-');
+    match near_option(alloc, name)? {
+        Some(known) => {
+            format!(in alloc; "{option}: unknown option; did you mean --{known}? {HINT}")
+        }
+        None => format!(in alloc; "{option}: unknown option. {HINT}"),
+    }
+}
+
+/// The line for a bad word of these.
+pub fn usage_line(alloc: Global, words: &[String], bad: &BadWord) -> Result<String, AllocError> {
+    let word = match words.get(bad.place) {
+        Some(word) => word.as_str(),
+        None => "",
+    };
+    let option = option_in(word);
+    match bad.fault {
+        WordFault::NoCommand => format!(in alloc; "no command. {HINT}"),
+        WordFault::UnknownCommand => format!(in alloc; "{word:?}: unknown command. {HINT}"),
+        WordFault::NotOption => format!(in alloc; "{word:?}: not an option. {HINT}"),
+        WordFault::UnknownOption => unknown_option(alloc, option),
+        WordFault::NoValue => format!(in alloc; "{option}: no value. {HINT}"),
+        WordFault::Twice => format!(in alloc; "{option}: given twice. {HINT}"),
+        WordFault::NotNumber => format!(in alloc; "{option}: not a number of 64 bits. {HINT}"),
+    }
+}
