@@ -103,7 +103,8 @@ fn reads_a_list_as_kubectl_prints_it(rt: HostRuntime) -> Result<(), Fail> {
 }
 
 // What `metadata` and `spec` hold and what stands after them, and the row or its fault.
-const ANSWERS: &str = r#""name":""|"group":"g","version":"v1"||BadField { item: None, member: Text("metadata.name") }
+const ANSWERS: &str =
+    r#""name":""|"group":"g","version":"v1"||BadField { item: None, member: Text("metadata.name") }
 "name":7|"group":"g","version":"v1"||BadField { item: None, member: Text("metadata.name") }
 "name":"v1.g"|"group":"g","version":"v1","caBundle":1.0||BadField { item: None, member: Text("number") }
 "name":"v1.g"|"group":"g","version":"v1","x":[{"y":-0}]||BadField { item: None, member: Text("number") }

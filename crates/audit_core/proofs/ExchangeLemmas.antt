@@ -1,16 +1,11 @@
--- At level Metadata lines don't depend on bodies.
+-- At level Metadata events don't depend on bodies.
 use Rattle.std.proofs.Common.{◌≡◌, ℕ, List, [], ◌∷◌, map, refl, sym, ap, ◌∙◌}
-use Rattle.event_text.specs.Line.{line_text}
-use Rattle.front_base.specs.declared.info.Info.{Info}
 use Rattle.front_base.specs.declared.level.Level.TheVariants as level
 use Rattle.front_base.specs.declared.stage.Stage.{Stage}
-use Rattle.front_base.specs.declared.user.User.{User}
 use Rattle.http_edge.specs.declared.request.Request.{Request}
 use Rattle.http_head.specs.declared.request.Head.{Head}
-use Rattle.local_replies.specs.declared.reply.LocalReply.{LocalReply}
 use Rattle.policy_rules.specs.Policy.{first}
 use Rattle.policy_rules.specs.declared.decision.Decision.{Decision}
-use Rattle.policy_rules.specs.declared.omit.Omit.{Omit}
 use Rattle.request_info.specs.Request.{audit_info}
 use Rattle.stage_event.specs.Events.{event}
 use Rattle.stage_event.specs.Views.{with_bodies}
@@ -18,9 +13,12 @@ use Rattle.stage_event.specs.declared.facts.Facts.{Facts}
 use Rattle.stage_event.specs.declared.facts.Kept.{Kept}
 use Rattle.token_users.specs.Who.{who, user_of}
 use Rattle.audit_core.specs.Errand.{user_in, info_in}
-use Rattle.audit_core.specs.Exchange.{IsExchange, AreFacts, facts_by, agent_in, decision_in}
-use Rattle.audit_core.specs.Owed.{line_at, lines_at, stages_due, owed_at, owed}
-use Rattle.audit_core.specs.declared.exchange.Exchange.{Exchange}
+use Rattle.audit_core.specs.Exchange.{IsAnswered, facts_by, decision_in}
+use Rattle.audit_core.specs.Owed.{events_at, stages_due, owed_at, owed}
+use Rattle.audit_core.specs.Answer.{status_of}
+use Rattle.audit_core.specs.declared.answered.Answered.{Answered}
+use Rattle.audit_core.specs.declared.link_note.LinkNote.{LinkNote}
+use Rattle.audit_core.specs.declared.routed.Handling.{Handling}
 use Rattle.audit_core.specs.declared.settings.Settings.{Settings}
 use Rattle.audit_core.specs.declared.stamp.Stamp.{Stamp}
 
@@ -52,29 +50,29 @@ abbrev pub HidesBodies : Type 0
 HidesBodies = (stage : Stage) (facts : Facts) (request reply : Kept)
     → event stage level.Metadata (with_bodies request reply facts) ≡ event stage level.Metadata facts
 
-same_lines : HidesBodies → (facts : Facts) (a b : Kept) (ss : List Stage)
-    → map (line_at level.Metadata (with_bodies a b facts)) ss ≡ map (line_at level.Metadata facts) ss
-same_lines law facts a b [] = refl
-same_lines law facts a b (s ∷ ss) =
-    ap (λ e. line_text e ∷ map (line_at level.Metadata (with_bodies a b facts)) ss) (law s facts a b)
-    ∙ ap (λ l. line_at level.Metadata facts s ∷ l) (same_lines law facts a b ss)
+same_events : HidesBodies → (facts : Facts) (a b : Kept) (ss : List Stage)
+    → map (λ s. event s level.Metadata (with_bodies a b facts)) ss ≡ map (λ s. event s level.Metadata facts) ss
+same_events law facts a b [] = refl
+same_events law facts a b (s ∷ ss) =
+    ap (λ e. e ∷ map (λ t. event t level.Metadata (with_bodies a b facts)) ss) (law s facts a b)
+    ∙ ap (λ l. event s level.Metadata facts ∷ l) (same_events law facts a b ss)
 
--- the lines of an exchange of that decision
-owed_as : (x : Exchange) (d : Decision) → x.decision ≡ d → d.level ≡ level.Metadata → owed x ≡ lines_at level.Metadata d.omit x.facts
-owed_as x d e l =
-    ap (λ (k : Decision). owed_at k.level k.omit x.facts) e ∙ ap (λ v. owed_at v d.omit x.facts) l
+-- the events of a request that is recorded so
+owed_as : (own d : Decision) (facts : Facts) → own ≡ d → d.level ≡ level.Metadata → owed own facts ≡ events_at level.Metadata d.omit facts
+owed_as own d facts e l = ap (λ (k : Decision). owed k facts) e ∙ ap (λ v. owed_at v d.omit facts) l
 
-pub metadata_owed : HidesBodies → (set : Settings) (stamp : Stamp) (r q : Request) (reply other : LocalReply) (x y : Exchange)
-    → IsExchange set stamp r reply x → IsExchange set stamp q other y → r.head ≡ q.head → reply.status ≡ other.status
-    → (decision_in set r).level ≡ level.Metadata → owed x ≡ owed y
-metadata_owed law set stamp r q reply other x y h k e s l =
+pub metadata_owed : HidesBodies → (set : Settings) (stamp : Stamp) (r q : Request) (handling other : Handling) (note noted : LinkNote)
+    (body text : List ℕ) (x y : Answered) → IsAnswered set stamp r handling note body x → IsAnswered set stamp q other noted text y
+    → r.head ≡ q.head → status_of handling note ≡ status_of other noted → (decision_in set r).level ≡ level.Metadata
+    → owed x.decision x.facts ≡ owed y.decision y.facts
+metadata_owed law set stamp r q handling other note noted body text x y h k e s l =
     let d = decision_in set r in
     let a = x.facts.request in
     let b = x.facts.reply in
     let facts : x.facts ≡ with_bodies a b y.facts =
-    h.facts_are.facts_are ∙ same_facts set stamp r q reply.status other.status a b e s
+    h.facts_are.facts_are ∙ same_facts set stamp r q (status_of handling note) (status_of other noted) a b e s
     ∙ sym (ap (with_bodies a b) k.facts_are.facts_are) in
-    owed_as x d h.decision_is l
-    ∙ ap (λ f. lines_at level.Metadata d.omit f) facts
-    ∙ same_lines law y.facts a b (stages_due d.omit y.facts.info)
-    ∙ sym (owed_as y d (k.decision_is ∙ sym (same_decision set r q e)) l)
+    owed_as x.decision d x.facts h.decision_is l
+    ∙ ap (λ f. events_at level.Metadata d.omit f) facts
+    ∙ same_events law y.facts a b (stages_due d.omit y.facts.info)
+    ∙ sym (owed_as y.decision d y.facts (k.decision_is ∙ sym (same_decision set r q e)) l)

@@ -1,5 +1,5 @@
 -- What a request wants, from what was learnt of it.
-use Rattle.std.proofs.Common.{◌≡◌, ℕ, Bool, true, false, List, Option, Result, Ok, Err, sym, ap, ◌∙◌}
+use Rattle.std.proofs.Common.{◌≡◌, ℕ, Bool, true, false, List, Option, Ok, Err, ap, ◌∙◌}
 use Rattle.std.specs.List.{list_any, slice_split}
 use Rattle.std.specs.Prelude.{◌==◌}
 use Rattle.front_base.specs.declared.info.Info.{Info}

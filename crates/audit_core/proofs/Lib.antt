@@ -1,4 +1,5 @@
-mod AnswerLemmas
 mod ExchangeLemmas
 mod JudgedLemmas
+mod OwedLemmas
+mod RoutingLemmas
 mod StoryLemmas

@@ -1,11 +1,12 @@
 -- Routes on one thread see their own changes and no others, so each errand is answered by the rows as they stood.
-use Rattle.std.proofs.Common.{◌≡◌, ℕ, ◌+◌, List, [], ◌∷◌, ◌++◌, length, refl, sym, ap, ◌∙◌, subst, append-nil, length-append, arith}
+use Rattle.std.proofs.Common.{◌≡◌, ℕ, ◌+◌, List, [], ◌∷◌, ◌++◌, length, refl, ap, ◌∙◌, append-nil, length-append, arith}
 use Rattle.apiservice_rows.specs.Row.{Row}
 use Rattle.apiservice_table.specs.Changes.{Story, after, changed, placed, rows_of, IsLater}
 use Rattle.apiservice_table.specs.declared.change.Change.{Change}
-use Rattle.local_replies.specs.declared.reply.LocalReply.{LocalReply}
-use Rattle.audit_core.specs.Answer.{Answers, reply_by, rows_by, made}
+use Rattle.service_endpoints.specs.declared.endpoint.Endpoint.{Endpoint}
+use Rattle.audit_core.specs.Routing.{Decides, routed_by, rows_by, changes_in, made}
 use Rattle.audit_core.specs.declared.errand.Errand.{Errand}
+use Rattle.audit_core.specs.declared.routed.Routed.{Routed}
 
 placed_length : (at : ℕ) (cs : List Change) → length (placed at cs) ≡ length cs
 placed_length at [] = refl
@@ -38,17 +39,17 @@ decided_is old new before next later seen own =
     let d = placed_length (length before) next in
     later_by_length old.seen before later (omega (arith, all, owned, a, b, d))
 
-module _ (own : Errand) (old new : Story) (reply : LocalReply)
-    (h : Answers own old.opening old.seen (placed 0 old.seen) new.seen (placed 0 new.seen) reply) where
+module _ (ends : List Endpoint) (own : Errand) (old new : Story) (routed : Routed)
+    (h : Decides ends own old.opening old.seen (placed 0 old.seen) new.seen (placed 0 new.seen) routed) where
   same : h.decided ≡ old.seen
   same =
-      decided_is old new h.decided (made (after old.opening h.decided) own) h.later h.seen_is h.own_is
+      decided_is old new h.decided (changes_in (made (after old.opening h.decided) own)) h.later h.seen_is h.own_is
 
-  pub reply_here : reply ≡ reply_by (rows_of old) own
-  reply_here = h.reply_is ∙ ap (λ l. reply_by (after old.opening l) own) same
+  pub routed_here : routed ≡ routed_by ends (rows_of old) own
+  routed_here = h.routed_is ∙ ap (λ l. routed_by ends (after old.opening l) own) same
 
   pub rows_here : new.opening ≡ old.opening → rows_of new ≡ rows_by (rows_of old) own
   rows_here fixed =
       ap (λ o. after o new.seen) fixed ∙ ap (after old.opening) h.seen_is
-      ∙ after_append old.opening h.decided (made (after old.opening h.decided) own)
+      ∙ after_append old.opening h.decided (changes_in (made (after old.opening h.decided) own))
       ∙ ap (λ l. rows_by (after old.opening l) own) same

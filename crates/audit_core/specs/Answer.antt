@@ -1,70 +1,44 @@
--- What an errand is answered by the rows of a table, and what it changes of them (Kubernetes, "API Aggregation Layer").
-use Rattle.std.specs.Prelude.{◌≡◌, ℕ, ◌+◌, if◌then◌else◌, is_some, List, [], ◌∷◌, ◌++◌, length, Option, Some, None, codes, bytes_eq}
-use Rattle.apiservice_rows.specs.Row.{Row}
-use Rattle.apiservice_table.specs.Changes as table
-use Rattle.apiservice_table.specs.Changes.{after, placed, IsLater}
-use Rattle.apiservice_table.specs.Table.{row}
-use Rattle.apiservice_table.specs.declared.change.Change.{Change}
-use Rattle.apiservice_table.specs.declared.change.ChangeFault.{ChangeFault}
-use Rattle.local_replies.specs.Serve.{local_reply}
+-- What a request is answered (Kubernetes, "API Aggregation Layer").
+use Rattle.std.specs.Prelude.{ℕ, List}
 use Rattle.local_replies.specs.Status.{refusal}
-use Rattle.local_replies.specs.declared.errand.LocalErrand.{LocalErrand}
-use Rattle.local_replies.specs.declared.errand.LocalErrand.TheVariants.{Deny, Look, Write}
-use Rattle.local_replies.specs.declared.local.Local.{Local}
-use Rattle.local_replies.specs.declared.reply.LocalReply.{LocalReply}
-use Rattle.audit_core.specs.declared.reply.Reply.{Reply}
-use Rattle.audit_core.specs.declared.reply.Reply.TheVariants.{Refused, Served}
-use Rattle.audit_core.specs.declared.errand.Errand.{Errand}
-use Rattle.audit_core.specs.declared.errand.Errand.TheVariants as errand
+use Rattle.audit_core.specs.declared.link_note.LinkNote.{LinkNote}
+use Rattle.audit_core.specs.declared.link_note.LinkNote.TheVariants.{NotUsed, Whole, Streamed, DialFailed, BadReply, Cut, LinkFault}
+use Rattle.audit_core.specs.declared.routed.Handling.{Handling}
+use Rattle.audit_core.specs.declared.routed.Handling.TheVariants.{Refused, Served, Proxied}
 
--- ---- the reply
+-- ---- the status
 
--- the code for a request to an API: no row has an endpoint yet that could answer
-abbrev pub route_code : List Row → List ℕ → List ℕ → ℕ
-route_code rows group version = if is_some (row group version rows) then 503 else 404
+-- that of a request that is sent on: what the backend replied, 503 where it could not be dialed, and 502 where no whole
+-- reply came. A link that was never used counts as one that could not be dialed
+abbrev pub link_status : LinkNote → ℕ
+link_status NotUsed = 503
+link_status (Whole status) = status
+link_status (Streamed status) = status
+link_status DialFailed = 503
+link_status BadReply = 502
+link_status Cut = 502
+link_status LinkFault = 502
 
--- what an errand is answered by these rows
-abbrev pub reply_by : List Row → Errand → LocalReply
-reply_by rows (errand.Refuse code) = refusal code
-reply_by rows (errand.Serve local own) = local_reply rows local own
-reply_by rows (errand.Route group version) = refusal (route_code rows group version)
+abbrev pub status_of : Handling → LinkNote → ℕ
+status_of (Refused code) note = code
+status_of (Served local reply change) note = reply.status
+status_of (Proxied target) note = link_status note
 
--- ---- the change
+-- ---- the body, where a link gave this
 
--- a change that is made unless a refusal is due
-abbrev pub made_by : Change → Option ChangeFault → List Change
-made_by change None = change ∷ []
-made_by change (Some fault) = []
+abbrev pub refused_body : ℕ → List ℕ
+refused_body code = (refusal code).body
 
-abbrev pub local_made : List Row → LocalErrand → List Change
-local_made rows (Deny code) = []
-local_made rows Look = []
-local_made rows (Write change) = made_by change (table.refusal rows change)
+abbrev pub link_body : LinkNote → List ℕ → List ℕ
+link_body NotUsed body = refused_body 503
+link_body (Whole status) body = body
+link_body (Streamed status) body = body
+link_body DialFailed body = refused_body 503
+link_body BadReply body = refused_body 502
+link_body Cut body = refused_body 502
+link_body LinkFault body = refused_body 502
 
--- the change that an errand makes of these rows, if it makes one
-abbrev pub made : List Row → Errand → List Change
-made rows (errand.Refuse code) = []
-made rows (errand.Serve local own) = local_made rows own
-made rows (errand.Route group version) = []
-
--- the rows after an errand
-abbrev pub rows_by : List Row → Errand → List Row
-rows_by rows own = after rows (made rows own)
-
--- ---- what a call does
-
--- an errand was answered over routes that others may change too: it was decided on the changes that were seen then, by the
--- rows after them, and the change that it made, if it made one, stands next. `seen` and `own` are the changes that the
--- routes had seen and their own ones before, and `new_seen` and `new_own` those after
-pub record Answers (own_errand : Errand) (opening : List Row) (seen : List Change) (own : List (ℕ × Change))
-    (new_seen : List Change) (new_own : List (ℕ × Change)) (reply : LocalReply) : Type 0 where
-  pub decided : List Change
-  pub later : IsLater seen decided
-  pub reply_is : reply ≡ reply_by (after opening decided) own_errand
-  pub seen_is : new_seen ≡ decided ++ made (after opening decided) own_errand
-  pub own_is : new_own ≡ own ++ placed (length decided) (made (after opening decided) own_errand)
-
--- the reply that an answer stands for
-abbrev pub reply_of : Reply → LocalReply
-reply_of (Refused code) = refusal code
-reply_of (Served reply) = reply
+abbrev pub body_of : Handling → LinkNote → List ℕ → List ℕ
+body_of (Refused code) note body = refused_body code
+body_of (Served local reply change) note body = reply.body
+body_of (Proxied target) note body = link_body note body

@@ -9,7 +9,6 @@ use Rattle.front_base.specs.declared.user.User.{User}
 use Rattle.http_edge.specs.declared.request.Request.{Request}
 use Rattle.http_head.specs.Name.{first_value}
 use Rattle.http_head.specs.declared.header.Header.{Header}
-use Rattle.local_replies.specs.declared.reply.LocalReply.{LocalReply}
 use Rattle.policy_rules.specs.Policy.{first}
 use Rattle.policy_rules.specs.declared.decision.Decision.{Decision}
 use Rattle.request_info.specs.Request.{info_of}
@@ -18,11 +17,15 @@ use Rattle.stage_event.specs.Kept.{IsKept}
 use Rattle.stage_event.specs.declared.facts.Facts.{Facts}
 use Rattle.stage_event.specs.declared.facts.Kept.{Kept}
 use Rattle.stage_event.specs.declared.facts.Kept.TheVariants.{NotAsked}
-use Rattle.audit_core.specs.Answer.{Answers}
+use Rattle.audit_core.specs.Answer.{status_of, body_of}
 use Rattle.audit_core.specs.Errand.{user_in, info_in, is_refused, errand_in}
-use Rattle.audit_core.specs.declared.exchange.Exchange.{Exchange}
+use Rattle.audit_core.specs.Routing.{Decides}
+use Rattle.audit_core.specs.declared.answered.Answered.{Answered}
 use Rattle.audit_core.specs.declared.judged.Asked.{Asked}
 use Rattle.audit_core.specs.declared.judged.Judged.{Judged}
+use Rattle.audit_core.specs.declared.link_note.LinkNote.{LinkNote}
+use Rattle.audit_core.specs.declared.routed.Handling.{Handling}
+use Rattle.audit_core.specs.declared.routed.Routed.{Routed}
 use Rattle.audit_core.specs.declared.settings.Settings.{Settings}
 use Rattle.audit_core.specs.declared.stamp.Stamp.{Stamp}
 
@@ -39,8 +42,8 @@ abbrev pub agent_in : List Header → List ℕ
 agent_in headers = agent_by (first_value (codes "user-agent") headers)
 
 -- the body that a client is sent: HEAD requests get none
-abbrev pub reply_body : List ℕ → LocalReply → List ℕ
-reply_body method reply = if bytes_eq method (codes "HEAD") then [] else reply.body
+abbrev pub sent_body : List ℕ → List ℕ → List ℕ
+sent_body method body = if bytes_eq method (codes "HEAD") then [] else body
 
 -- the facts of a request with that stamp, that asks for this and counts as that user, was answered with that status, and of
 -- whose bodies this is kept
@@ -65,22 +68,29 @@ abbrev pub IsKeptIf : Bool → List ℕ → Kept → Type 0
 IsKeptIf false body kept = kept ≡ NotAsked
 IsKeptIf true body kept = IsKept body kept
 
--- these are the facts of a request that was answered so, whose bodies are looked at where the level shows them
-pub record AreFacts (stamp : Stamp) (r : Request) (info : Info) (user : User) (level : Level) (answer : LocalReply) (facts : Facts) : Type 0 where
+-- these are the facts of a request that was answered with that status and that body. Bodies are looked at where the level
+-- shows them
+pub record AreFacts (stamp : Stamp) (r : Request) (info : Info) (user : User) (level : Level) (status : ℕ) (body : List ℕ)
+    (facts : Facts) : Type 0 where
   pub request_is : IsKeptIf (request_due level info) r.body facts.request
-  pub reply_is : IsKeptIf (reply_due level info) (reply_body r.head.method answer) facts.reply
-  pub facts_are : facts ≡ facts_by stamp r info user answer.status facts.request facts.reply
+  pub reply_is : IsKeptIf (reply_due level info) (sent_body r.head.method body) facts.reply
+  pub facts_are : facts ≡ facts_by stamp r info user status facts.request facts.reply
 
--- this is known of a request with that stamp that was answered so
-pub record IsExchange (set : Settings) (stamp : Stamp) (r : Request) (answer : LocalReply) (x : Exchange) : Type 0 where
+-- this is known of a request with that stamp that was handled so, and whose link came to that, with that body
+pub record IsAnswered (set : Settings) (stamp : Stamp) (r : Request) (handling : Handling) (note : LinkNote) (body : List ℕ)
+    (x : Answered) : Type 0 where
+  pub handling_is : x.handling ≡ handling
   pub decision_is : x.decision ≡ decision_in set r
-  pub facts_are : AreFacts stamp r (info_in r) (user_in set r) (decision_in set r).level answer x.facts
+  pub facts_are : AreFacts stamp r (info_in r) (user_in set r) (decision_in set r).level (status_of handling note)
+      (body_of handling note body) x.facts
 
--- a request was answered as it wants, over routes that others may change too, and this is known of it
-abbrev pub Settles : Settings → Stamp → Request → List Row → List Change → List (ℕ × Change) → List Change → List (ℕ × Change)
-    → Exchange → Type 0
-Settles set stamp r opening seen own new_seen new_own x =
-    (reply : LocalReply) × Answers (errand_in set r) opening seen own new_seen new_own reply × IsExchange set stamp r reply x
+-- a request was handled as it wants, over routes that others may change too, its link came to that, with that body, and
+-- this is known of it
+abbrev pub Settles : Settings → Stamp → Request → LinkNote → List ℕ → List Row → List Change → List (ℕ × Change)
+    → List Change → List (ℕ × Change) → Answered → Type 0
+Settles set stamp r note body opening seen own new_seen new_own x =
+    (routed : Routed) × Decides set.endpoints (errand_in set r) opening seen own new_seen new_own routed
+    × IsAnswered set stamp r routed.handling note body x
 
 -- ---- what the code learns on the way
 

@@ -1,17 +1,20 @@
 -- The audit lines that an exchange owes (Kubernetes, "Auditing").
 use Rattle.std.specs.Prelude.{◌≡◌, ℕ, Bool, true, not, if◌then◌else◌, List, [], ◌∷◌, ◌++◌, filter, flat_map, map}
-use Rattle.event_text.specs.Line.{line_text}
 use Rattle.front_base.specs.Info.{is_long_running}
 use Rattle.front_base.specs.declared.info.Info.{Info}
 use Rattle.front_base.specs.declared.level.Level.{Level}
 use Rattle.front_base.specs.declared.level.Level.TheVariants as level
 use Rattle.front_base.specs.declared.stage.Stage.{Stage}
 use Rattle.front_base.specs.declared.stage.Stage.TheVariants.{RequestReceived, ResponseStarted, ResponseComplete, Panic}
+use Rattle.policy_rules.specs.declared.decision.Decision.{Decision}
 use Rattle.policy_rules.specs.declared.omit.Omit.{Omit}
 use Rattle.stage_event.specs.Due.{stages}
 use Rattle.stage_event.specs.Events.{event}
+use Rattle.stage_event.specs.declared.event.Event.{Event}
 use Rattle.stage_event.specs.declared.facts.Facts.{Facts}
-use Rattle.audit_core.specs.declared.exchange.Exchange.{Exchange}
+use Rattle.truncate_backend.specs.Fits.{fitted}
+use Rattle.truncate_backend.specs.declared.fitted.Fit.{Fit}
+use Rattle.truncate_backend.specs.declared.fitted.Fit.TheVariants.{Whole, Stripped, TooLarge}
 
 -- the stage is left out
 abbrev pub omits : Omit → Stage → Bool
@@ -24,24 +27,32 @@ omits omit Panic = true
 abbrev pub stages_due : Omit → Info → List Stage
 stages_due omit info = filter (λ stage. not (omits omit stage)) (stages info)
 
--- the event of a stage as one line, without a line feed
-abbrev pub line_at : Level → Facts → Stage → List ℕ
-line_at own facts stage = line_text (event stage own facts)
-
--- the lines of all events that are due
-abbrev pub lines_at : Level → Omit → Facts → List (List ℕ)
-lines_at own omit facts = map (line_at own facts) (stages_due omit facts.info)
+-- all events that are due
+abbrev pub events_at : Level → Omit → Facts → List Event
+events_at own omit facts = map (λ stage. event stage own facts) (stages_due omit facts.info)
 
 -- none at level None
-abbrev pub owed_at : Level → Omit → Facts → List (List ℕ)
+abbrev pub owed_at : Level → Omit → Facts → List Event
 owed_at level.None omit facts = []
-owed_at level.Metadata omit facts = lines_at level.Metadata omit facts
-owed_at level.Request omit facts = lines_at level.Request omit facts
-owed_at level.RequestResponse omit facts = lines_at level.RequestResponse omit facts
+owed_at level.Metadata omit facts = events_at level.Metadata omit facts
+owed_at level.Request omit facts = events_at level.Request omit facts
+owed_at level.RequestResponse omit facts = events_at level.RequestResponse omit facts
 
--- the lines that an exchange owes, in the order of stages, without line feeds
-abbrev pub owed : Exchange → List (List ℕ)
-owed x = owed_at x.decision.level x.decision.omit x.facts
+-- the events that a request owes that is recorded so, in the order of stages
+abbrev pub owed : Decision → Facts → List Event
+owed d facts = owed_at d.level d.omit facts
+
+-- ---- their lines, without line feeds
+
+-- what is written of an event: one line, or none where even the stripped line is too long
+abbrev pub lines_in : Fit → List (List ℕ)
+lines_in (Whole line) = line ∷ []
+lines_in (Stripped line) = line ∷ []
+lines_in (TooLarge size) = []
+
+-- the lines of events where one may have at most so many bytes
+abbrev pub fitted_lines : ℕ → List Event → List (List ℕ)
+fitted_lines max events = flat_map (λ own. lines_in (fitted own max)) events
 
 -- lines one after another, each with that byte after it
 abbrev pub ended : ℕ → List (List ℕ) → List ℕ
@@ -49,14 +60,15 @@ ended end lines = flat_map (λ line. line ++ end ∷ []) lines
 
 -- ---- what the calls on the way write
 
--- the line of a stage, unless the stage is left out
-abbrev pub stage_text : ℕ → Level → Omit → Facts → Stage → List ℕ
-stage_text end own omit facts stage = if omits omit stage then [] else line_at own facts stage ++ end ∷ []
+-- the text of a stage's line, unless the stage is left out
+abbrev pub stage_text : ℕ → ℕ → Level → Omit → Facts → Stage → List ℕ
+stage_text max end own omit facts stage =
+    if omits omit stage then [] else ended end (lines_in (fitted (event stage own facts) max))
 
--- a line that only long-running requests owe
-abbrev pub started_text : ℕ → Level → Omit → Facts → List ℕ
-started_text end own omit facts =
-    if is_long_running facts.info then stage_text end own omit facts ResponseStarted else []
+-- the line of a stage that only long-running requests have
+abbrev pub started_text : ℕ → ℕ → Level → Omit → Facts → List ℕ
+started_text max end own omit facts =
+    if is_long_running facts.info then stage_text max end own omit facts ResponseStarted else []
 
 -- something may stand after what was there
 abbrev pub Extends : List ℕ → List ℕ → Type 0

@@ -1,14 +1,16 @@
 // What is known of a request that was answered.
 ghost use Rattle.std.specs.Prelude.{◌≡◌, IfOk};
-ghost use Rattle.audit_core.specs.Answer.{reply_of};
+ghost use Rattle.stage_event.specs.Kept.{IsKept};
+ghost use Rattle.audit_core.specs.Answer as answer;
 ghost use Rattle.audit_core.specs.Exchange as spec;
 
-use crate::reply::Reply;
+use crate::answer::{kept_answer, status_of};
+use crate::link_note::LinkNote;
+use crate::routed::Handling;
 use crate::stamp::Stamp;
 use front_base::{Info, Level, NoMemory, Text, User};
 use http_edge::Request;
 use http_head::Headers;
-use local_replies::refusal;
 use stage_event::{Facts, Kept, kept, reply_due, request_due};
 use std::alloc::Global;
 
@@ -34,22 +36,42 @@ fn kept_if(alloc: Global, due: bool, body: &[u8]) -> Result<Kept, NoMemory>
 }
 
 // What is kept of the reply's body, where it is asked for.
-fn reply_kept_if(alloc: Global, due: bool, method: &str, reply: &Reply) -> Result<Kept, NoMemory>
-    ensures { IfOk result (λ kept. spec.IsKeptIf due (spec.reply_body method.now (reply_of reply.now)) kept) }
+/// What is kept of the answer that the client is sent, where the link gave that body.
+pub fn kept_sent(
+    alloc: Global,
+    method: &str,
+    handling: &Handling,
+    note: LinkNote,
+    body: &[u8],
+) -> Result<Kept, NoMemory>
+    ensures { IfOk result (IsKept (spec.sent_body method.now (answer.body_of handling.now note body.now))) }
+{
+    if method == "HEAD" {
+        kept(alloc, b"".as_slice())
+    } else {
+        kept_answer(alloc, handling, note, body)
+    }
+}
+
+fn answer_kept_if(
+    alloc: Global,
+    due: bool,
+    method: &str,
+    handling: &Handling,
+    note: LinkNote,
+    body: &[u8],
+) -> Result<Kept, NoMemory>
+    ensures { IfOk result (λ kept.
+        spec.IsKeptIf due (spec.sent_body method.now (answer.body_of handling.now note body.now)) kept) }
 {
     if !due {
         return Ok(Kept::NotAsked);
     }
-    if method == "HEAD" {
-        return kept(alloc, b"".as_slice());
-    }
-    match reply {
-        Reply::Refused(code) => kept(alloc, refusal(alloc, *code)?.body.as_slice()),
-        Reply::Served(reply) => kept(alloc, reply.body.as_slice()),
-    }
+    kept_sent(alloc, method, handling, note, body)
 }
 
-/// The facts of a request that was answered, its bodies looked at where the level shows them.
+/// The facts of a request that was handled so, whose link came to that, with that body. Bodies are looked at where the
+/// level shows them.
 pub fn facts_of(
     alloc: Global,
     stamp: &Stamp,
@@ -57,14 +79,16 @@ pub fn facts_of(
     info: Info,
     user: User,
     level: Level,
-    reply: &Reply,
+    handling: &Handling,
+    note: LinkNote,
+    body: &[u8],
 ) -> Result<Facts, NoMemory>
-    ensures { IfOk result (spec.AreFacts stamp.now request.now info user level (reply_of reply.now)) }
+    ensures { IfOk result (spec.AreFacts stamp.now request.now info user level
+        (answer.status_of handling.now note) (answer.body_of handling.now note body.now)) }
 {
     let method = request.head.method.as_str();
-    let body = request.body.as_slice();
-    let request_kept = kept_if(alloc, request_due(level, &info), body)?;
-    let reply_kept = reply_kept_if(alloc, reply_due(level, &info), method, reply)?;
+    let request_kept = kept_if(alloc, request_due(level, &info), request.body.as_slice())?;
+    let reply_kept = answer_kept_if(alloc, reply_due(level, &info), method, handling, note, body)?;
     Ok(Facts {
         id: stamp.id,
         target: request.head.target.copy(alloc)?,
@@ -72,7 +96,7 @@ pub fn facts_of(
         user,
         peer: stamp.peer,
         agent: agent_in(alloc, &request.head.headers)?,
-        status: reply.status(),
+        status: status_of(handling, note),
         request: request_kept,
         reply: reply_kept,
         received: stamp.received,

@@ -1,13 +1,23 @@
 // The audit lines that an exchange owes.
 ghost use Rattle.std.specs.Prelude.{◌≡◌, ◌≢◌, ◌++◌, OnErr, OnOk};
+ghost use Rattle.truncate_backend.specs.Fits.{fitted, fitted_stripped};
 ghost use Rattle.audit_core.specs.Owed as spec;
 
-use crate::exchange::Exchange;
-use event_text::push_line;
+use crate::answered::Answered;
+use event_text::{objects_exceed, push_line, stripped_line};
 use front_base::{Level, NoMemory, Stage};
 use policy_rules::Omit;
-use stage_event::event_at;
+use stage_event::{Event, event_at};
 use std::alloc::Global;
+
+/// How lines are written.
+#[derive(Clone, Copy, Debug)]
+pub struct LineForm {
+    /// How many bytes a line may have.
+    pub most: u64,
+    /// The byte after each line.
+    pub end: u8,
+}
 
 fn omits(omit: Omit, stage: Stage) -> bool
     ensures { result ≡ spec.omits omit stage }
@@ -20,89 +30,139 @@ fn omits(omit: Omit, stage: Stage) -> bool
     }
 }
 
+// Adds the line of the event without its objects, if it fits.
+fn push_stripped(
+    alloc: Global,
+    event: &Event,
+    form: LineForm,
+    out: &mut Vec<u8>,
+) -> Result<(), NoMemory>
+    ensures ok { OnOk result (out.new.items
+        ≡ out.old.items ++ spec.ended form.end (spec.lines_in (fitted_stripped event.now form.most))) }
+    ensures err { OnErr result (spec.Extends out.old.items out.new.items) }
+{
+    let line = stripped_line(alloc, event)?;
+    if line.as_slice().len() as u64 > form.most {
+        return Ok(());
+    }
+    out.extend_from_slice(line.as_slice())?;
+    out.push(form.end)?;
+    Ok(())
+}
+
+// Adds the line of an event as it fits. An event whose objects alone are too long isn't written with them first.
+fn push_fitted(
+    alloc: Global,
+    event: &Event,
+    form: LineForm,
+    out: &mut Vec<u8>,
+) -> Result<(), NoMemory>
+    ensures ok { OnOk result (out.new.items
+        ≡ out.old.items ++ spec.ended form.end (spec.lines_in (fitted event.now form.most))) }
+    ensures err { OnErr result (spec.Extends out.old.items out.new.items) }
+{
+    if objects_exceed(event, form.most) {
+        return push_stripped(alloc, event, form, out);
+    }
+    let start = out.len();
+    push_line(out, event)?;
+    if (out.len() - start) as u64 <= form.most {
+        out.push(form.end)?;
+        return Ok(());
+    }
+    out.truncate(start);
+    push_stripped(alloc, event, form, out)
+}
+
 // Adds the line of a stage, unless it is left out.
 fn push_stage(
     alloc: Global,
     stage: Stage,
     level: Level,
-    exchange: &Exchange,
-    end: u8,
+    answered: &Answered,
+    form: LineForm,
     out: &mut Vec<u8>,
 ) -> Result<(), NoMemory>
     requires level { level ≢ Level.None }
     ensures ok { OnOk result (out.new.items ≡ out.old.items
-        ++ spec.stage_text end level exchange.now.decision.omit exchange.now.facts stage) }
+        ++ spec.stage_text form.most form.end level answered.now.decision.omit answered.now.facts stage) }
     ensures err { OnErr result (spec.Extends out.old.items out.new.items) }
 {
-    if omits(exchange.decision.omit, stage) {
+    if omits(answered.decision.omit, stage) {
         return Ok(());
     }
-    let event = event_at(alloc, stage, level, &exchange.facts)?;
-    push_line(out, &event)?;
-    out.push(end)?;
-    Ok(())
+    let event = event_at(alloc, stage, level, &answered.facts)?;
+    push_fitted(alloc, &event, form, out)
 }
 
 // Adds the line of the reply's start, where the request is long-running.
 fn push_started(
     alloc: Global,
     level: Level,
-    exchange: &Exchange,
-    end: u8,
+    answered: &Answered,
+    form: LineForm,
     out: &mut Vec<u8>,
 ) -> Result<(), NoMemory>
     requires level { level ≢ Level.None }
     ensures ok { OnOk result (out.new.items ≡ out.old.items
-        ++ spec.started_text end level exchange.now.decision.omit exchange.now.facts) }
+        ++ spec.started_text form.most form.end level answered.now.decision.omit answered.now.facts) }
     ensures err { OnErr result (spec.Extends out.old.items out.new.items) }
 {
-    if !exchange.facts.info.is_long_running() {
+    if !answered.facts.info.is_long_running() {
         return Ok(());
     }
-    push_stage(alloc, Stage::ResponseStarted, level, exchange, end, out)
+    push_stage(alloc, Stage::ResponseStarted, level, answered, form, out)
 }
 
 // Adds the lines of all stages.
 fn push_stages(
     alloc: Global,
     level: Level,
-    exchange: &Exchange,
-    end: u8,
+    answered: &Answered,
+    form: LineForm,
     out: &mut Vec<u8>,
 ) -> Result<(), NoMemory>
     requires level { level ≢ Level.None }
     ensures ok { OnOk result (out.new.items ≡ out.old.items
-        ++ spec.ended end (spec.lines_at level exchange.now.decision.omit exchange.now.facts)) }
+        ++ spec.ended form.end
+        (spec.fitted_lines form.most (spec.events_at level answered.now.decision.omit answered.now.facts))) }
     ensures err { OnErr result (spec.Extends out.old.items out.new.items) }
 {
-    push_stage(alloc, Stage::RequestReceived, level, exchange, end, out)?;
-    push_started(alloc, level, exchange, end, out)?;
-    push_stage(alloc, Stage::ResponseComplete, level, exchange, end, out)
+    push_stage(alloc, Stage::RequestReceived, level, answered, form, out)?;
+    push_started(alloc, level, answered, form, out)?;
+    push_stage(alloc, Stage::ResponseComplete, level, answered, form, out)
 }
 
-fn push_all(alloc: Global, exchange: &Exchange, end: u8, out: &mut Vec<u8>) -> Result<(), NoMemory>
-    ensures ok { OnOk result (out.new.items ≡ out.old.items ++ spec.ended end (spec.owed exchange.now)) }
+fn push_all(
+    alloc: Global,
+    answered: &Answered,
+    form: LineForm,
+    out: &mut Vec<u8>,
+) -> Result<(), NoMemory>
+    ensures ok { OnOk result (out.new.items ≡ out.old.items
+        ++ spec.ended form.end (spec.fitted_lines form.most (spec.owed answered.now.decision answered.now.facts))) }
     ensures err { OnErr result (spec.Extends out.old.items out.new.items) }
 {
-    match exchange.decision.level {
+    match answered.decision.level {
         Level::None => Ok(()),
-        level => push_stages(alloc, level, exchange, end, out),
+        level => push_stages(alloc, level, answered, form, out),
     }
 }
 
-/// Writes the lines that an exchange owes after what is there, each with that byte after it. Where memory runs out, what
-/// is there stays as it was.
+/// Writes the lines of the events that a request owes after what is there, each fitted to the most bytes of
+/// the form and with its end. Where memory runs out, what is there stays as it was.
 pub fn push_owed(
     alloc: Global,
-    exchange: &Exchange,
-    end: u8,
+    answered: &Answered,
+    form: LineForm,
     out: &mut Vec<u8>,
 ) -> Result<(), NoMemory>
-    ensures ok { OnOk result (out.new.items ≡ out.old.items ++ spec.ended end (spec.owed exchange.now)) }
+    ensures ok { OnOk result (out.new.items ≡ out.old.items
+        ++ spec.ended form.end (spec.fitted_lines form.most (spec.owed answered.now.decision answered.now.facts))) }
     ensures kept { OnErr result (out.new.items ≡ out.old.items) }
 {
     let len = out.len();
-    match push_all(alloc, exchange, end, out) {
+    match push_all(alloc, answered, form, out) {
         Ok(()) => Ok(()),
         Err(fault) => {
             out.truncate(len);

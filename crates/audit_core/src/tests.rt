@@ -1,4 +1,4 @@
-use crate::{Exchange, Settings, Stamp, push_owed, settle};
+use crate::{Answered, LineForm, LinkNote, Settings, SinkMode, Stamp, push_owed, settle};
 use apiservice_rows::read_rows;
 use apiservice_table::{RouteTable, TableRoutes, read_rows_fit};
 use front_base::{AuditId, Bytes, Moment};
@@ -6,6 +6,7 @@ use http_edge::Request;
 use http_head::{Head, HeadAnswer, read_request};
 use local_replies::LocalPaths;
 use policy_rules::read_policy;
+use service_endpoints::Endpoints;
 use std::alloc::Global;
 use std::test::Fail;
 use token_users::read_tokens;
@@ -26,7 +27,14 @@ const SERVICES: &str =
 fn settings_of(alloc: Global) -> Result<Settings, Fail> {
     let tokens = read_tokens(alloc, TOKENS.as_bytes())?;
     let policy = read_policy(alloc, POLICY.as_bytes())?;
-    Ok(Settings { tokens, policy })
+    Ok(Settings {
+        tokens,
+        policy,
+        endpoints: Endpoints::none(alloc),
+        max_event: 4_096,
+        log: SinkMode::Off,
+        hook: SinkMode::Off,
+    })
 }
 
 // The head of a request by its method and target, a token or `-`, and a further header or `-`.
@@ -97,7 +105,7 @@ fn routes_of(alloc: Global) -> Result<TableRoutes, Fail> {
     Ok(TableRoutes::new(alloc, RouteTable::from_rows(alloc, rows)?)?)
 }
 
-fn exchange_of(alloc: Global, front: &Front, told: &str) -> Result<Exchange, Fail> {
+fn answered_of(alloc: Global, front: &Front, told: &str) -> Result<Answered, Fail> {
     let stamp = three_moments()?;
     let mut routes = routes_of(alloc)?;
     let request = request_of(alloc, told)?;
@@ -108,14 +116,20 @@ fn exchange_of(alloc: Global, front: &Front, told: &str) -> Result<Exchange, Fai
         &mut routes,
         &stamp,
         &request,
+        LinkNote::Whole(200),
+        b"".as_slice(),
     )?)
 }
 
 // The lines that a request owes, after what was there.
 fn lines_of(alloc: Global, front: &Front, told: &str) -> Result<Vec<u8>, Fail> {
     let mut out = b"before\n".to_vec(alloc)?;
-    let exchange = exchange_of(alloc, front, told)?;
-    push_owed(alloc, &exchange, b'\n', &mut out)?;
+    let answered = answered_of(alloc, front, told)?;
+    let form = LineForm {
+        most: front.settings.max_event,
+        end: b'\n',
+    };
+    push_owed(alloc, &answered, form, &mut out)?;
     Ok(out)
 }
 

@@ -1,7 +1,6 @@
 -- How a run ends by its words and files.
-use Rattle.std.proofs.Common.{◌≡◌, ℕ, ◌⊎◌, List, Option, Some, Result, Ok, Err, refl, inl, inr, ⊎_elim}
+use Rattle.std.proofs.Common.{◌≡◌, ℕ, ◌⊎◌, List, Option, Result, Ok, Err, refl, inl, inr, ⊎_elim}
 use Rattle.apiservice_rows.specs.Row.{Row}
-use Rattle.front_ports.specs.Cause.{Rose}
 use Rattle.front_config.specs.Load as load
 use Rattle.front_config.specs.Load.{Read, IsRead, load_of}
 use Rattle.front_config.specs.Words as words
@@ -12,14 +11,17 @@ use Rattle.front_config.specs.declared.command.ExplainWords.{ExplainWords}
 use Rattle.front_config.specs.declared.fault.FileFault.{FileFault}
 use Rattle.front_config.specs.declared.fault.LoadFault.{LoadFault}
 use Rattle.front_config.specs.declared.fault.LoadFault.TheVariants as load_fault
+use Rattle.front_config.specs.declared.fault.Ranged.{Ranged}
 use Rattle.front_config.specs.declared.fault.Which.{Which}
 use Rattle.front_config.specs.declared.fault.WordsFault.{WordsFault}
 use Rattle.front_config.specs.declared.fault.WordsFault.TheVariants as words_fault
 use Rattle.front_config.specs.declared.files.Loaded.{Loaded}
 use Rattle.proxy_server.specs.Ports.{Told, Port, FilesPort, AreSound, IsUntouched}
-use Rattle.proxy_server.specs.Desk.{Loads, IsRefused, Configures, Run, status_of_words, status_of_load}
+use Rattle.proxy_server.specs.Desk.{Loads, IsRefused, Configures, Run}
 use Rattle.proxy_server.specs.Serving.{Serves}
 use Rattle.proxy_server.specs.Status.{code_of}
+use Rattle.proxy_server.specs.Why.{TellsServing, TellsWords, status_of_load, status_of_words, why_of_load}
+use Rattle.refusal_text.specs.declared.refusal.Refusal.{Refusal}
 use Rattle.proxy_server.specs.declared.setup.Setup.{Setup}
 use Rattle.proxy_server.specs.declared.status.Status.{Status}
 use Rattle.proxy_server.specs.declared.status.Status.TheVariants.{Done, Usage, Configuration, ReadFault, PortFault, NoMemory, WriteFault, NumbersSpent, Input}
@@ -28,10 +30,10 @@ usage_due : (r : Result Command WordsFault) → words.Gives {A = ExplainWords} E
 usage_due (Ok a) e = absurd (cc e)
 usage_due (Err own) e = cc
 
-limits_due : (r : Result Command WordsFault) (name : List ℕ) → words.Gives {A = ExplainWords} Explain (Err (words_fault.Limits name)) r
-    → r ≡ Err (words_fault.Limits name)
-limits_due (Ok a) name e = absurd (cc e)
-limits_due (Err own) name e = cc
+limits_due : (r : Result Command WordsFault) (option : Ranged) (n : ℕ) → words.Gives {A = ExplainWords} Explain (Err (words_fault.Limits option n)) r
+    → r ≡ Err (words_fault.Limits option n)
+limits_due (Ok a) option n e = absurd (cc e)
+limits_due (Err own) option n e = cc
 
 read_due : (r : Result Loaded LoadFault) (which : Which) → load.Gives (Err (load_fault.ReadFault which)) r → r ≡ Err (load_fault.ReadFault which)
 read_due (Ok a) which e = absurd (cc e)
@@ -43,11 +45,12 @@ file_due (Ok a) which fault e = absurd (cc e)
 file_due (Err own) which fault e = cc
 
 -- words that are no command are refused so
-pub words_refused : (line : List (List ℕ)) (files : FilesPort) (fault : WordsFault)
-    → words.Gives {A = ExplainWords} Explain (Err fault) (command_of line) → IsRefused line files (status_of_words fault)
-words_refused line files words_fault.Usage h = usage_due (command_of line) h
-words_refused line files (words_fault.Limits name) h = inl (name, limits_due (command_of line) name h)
-words_refused line files words_fault.NoMemory h = tt
+pub words_refused : (line : List (List ℕ)) (files : FilesPort) (fault : WordsFault) (why : Option Refusal)
+    → words.Gives {A = ExplainWords} Explain (Err fault) (command_of line) → TellsWords fault why
+    → IsRefused line files (status_of_words fault) why
+words_refused line files words_fault.Usage why h t = (usage_due (command_of line) h, t)
+words_refused line files (words_fault.Limits option n) why h t = inl (option, n, limits_due (command_of line) option n h, t)
+words_refused line files words_fault.NoMemory why h t = tt
 
 -- what the reads of files gave
 abbrev pub loads_of : (line : List (List ℕ)) (told : Told) (explain : ExplainWords) (tokens policy services : Read) (loaded : Result Loaded LoadFault)
@@ -72,22 +75,22 @@ pub load_refused : (line : List (List ℕ)) (files : FilesPort) (explain : Expla
     → IsRead files.before.told explain.files.policy policy → IsRead files.before.told explain.files.services services
     → load.Gives (Err fault) (load_of explain.files tokens policy services)
     → load.HasCause {A = Loaded} explain.files files.before.faults files.after.faults files.before.failed files.after.failed (Err fault)
-    → IsRefused line files (status_of_load fault)
+    → IsRefused line files (status_of_load fault) (why_of_load explain.files fault)
 load_refused line files explain tokens policy services (load_fault.ReadFault which) c t p s h cause =
     let e : load_of explain.files tokens policy services ≡ Err (load_fault.ReadFault which) = read_due _ which h in (
       cause.0,
-      (which, loads_of line files.before.told explain tokens policy services (Err (load_fault.ReadFault which)) c t p s e, cause.1),
+      (which, loads_of line files.before.told explain tokens policy services (Err (load_fault.ReadFault which)) c t p s e, cause.1, refl),
     )
 load_refused line files explain tokens policy services (load_fault.BadFile which fault) c t p s h cause =
     let e : load_of explain.files tokens policy services ≡ Err (load_fault.BadFile which fault) = file_due _ which fault h in
-    inr (which, fault, loads_of line files.before.told explain tokens policy services (Err (load_fault.BadFile which fault)) c t p s e)
+    inr (which, fault, loads_of line files.before.told explain tokens policy services (Err (load_fault.BadFile which fault)) c t p s e, refl)
 load_refused line files explain tokens policy services load_fault.NoMemory c t p s h cause = tt
 
 -- ---- what the words alone decide
 
-module _ (line : List (List ℕ)) (files : FilesPort) (input output : Port) where
-  usage_by : (status : Status) → code_of status ≡ 2 → IsRefused line files status → command_of line ≡ Err words_fault.Usage
-  usage_by Usage e h = h
+module _ (line : List (List ℕ)) (files : FilesPort) (input output : Port) (why : Option Refusal) where
+  usage_by : (status : Status) → code_of status ≡ 2 → IsRefused line files status why → command_of line ≡ Err words_fault.Usage
+  usage_by Usage e h = h.0
   usage_by Done e h = absurd h
   usage_by Configuration e h = absurd (cc e)
   usage_by ReadFault e h = absurd (cc e)
@@ -108,22 +111,23 @@ module _ (line : List (List ℕ)) (files : FilesPort) (input output : Port) wher
   served_not set rows NumbersSpent e h = absurd (cc e)
   served_not set rows Input e h = absurd (cc e)
 
-  pub usage_is : (status : Status) → code_of status ≡ 2 → Run line files input output status
+  pub usage_is : (status : Status) → code_of status ≡ 2 → Run line files input output status why
       → command_of line ≡ Err words_fault.Usage
   usage_is status e run =
       ⊎_elim
-      (λ (q : IsRefused line files status × IsUntouched input × IsUntouched output). usage_by status e q.0)
-      (λ (q : (set : Setup) × (rows : List Row) × Configures line files.before.told set rows × AreSound files × Serves set rows input output status).
+      (λ (q : IsRefused line files status why × IsUntouched input × IsUntouched output). usage_by status e q.0)
+      (λ (q : (set : Setup) × (rows : List Row) × Configures line files.before.told set rows × AreSound files × Serves set rows input output status × TellsServing status why).
       served_not q.0 q.1 status e q.4)
       run
 
-  misused_by : (status : Status) → command_of line ≡ Err words_fault.Usage → IsRefused line files status
+  misused_by : (status : Status) → command_of line ≡ Err words_fault.Usage → IsRefused line files status why
       → (code_of status ≡ 2) ⊎ (code_of status ≡ 6)
   misused_by Usage e h = inl refl
   misused_by Done e h = absurd h
   misused_by Configuration e h =
       ⊎_elim
-      (λ (q : (name : List ℕ) × (command_of line ≡ Err (words_fault.Limits name))). absurd (cc (e, q.1)))
+      (λ (q : (option : Ranged) × (n : ℕ) × (command_of line ≡ Err (words_fault.Limits option n)) × TellsWords (words_fault.Limits option n) why).
+      absurd (cc (e, q.2)))
       (λ q. absurd (cc (e, q.2.command)))
       h
   misused_by ReadFault e h = absurd (cc (e, h.1.1.command))
@@ -133,11 +137,11 @@ module _ (line : List (List ℕ)) (files : FilesPort) (input output : Port) wher
   misused_by NumbersSpent e h = absurd h
   misused_by Input e h = absurd h
 
-  pub misused_is : (status : Status) → command_of line ≡ Err words_fault.Usage → Run line files input output status
+  pub misused_is : (status : Status) → command_of line ≡ Err words_fault.Usage → Run line files input output status why
       → (code_of status ≡ 2) ⊎ (code_of status ≡ 6)
   misused_is status e run =
       ⊎_elim
-      (λ (q : IsRefused line files status × IsUntouched input × IsUntouched output). misused_by status e q.0)
-      (λ (q : (set : Setup) × (rows : List Row) × Configures line files.before.told set rows × AreSound files × Serves set rows input output status).
+      (λ (q : IsRefused line files status why × IsUntouched input × IsUntouched output). misused_by status e q.0)
+      (λ (q : (set : Setup) × (rows : List Row) × Configures line files.before.told set rows × AreSound files × Serves set rows input output status × TellsServing status why).
       absurd (cc (e, q.2.loads.command)))
       run

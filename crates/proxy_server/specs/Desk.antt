@@ -1,5 +1,5 @@
 -- A run of the command `explain`: its words, the files that they name, and the requests of its input.
-use Rattle.std.specs.Prelude.{◌≡◌, ℕ, ◌⊎◌, List, Result, Ok, Err}
+use Rattle.std.specs.Prelude.{◌≡◌, ℕ, ◌⊎◌, List, [], Option, Result, Ok, Err}
 use Rattle.apiservice_rows.specs.Row.{Row}
 use Rattle.front_ports.specs.Cause.{Rose}
 use Rattle.front_ports.specs.FileMap.{Notes}
@@ -10,12 +10,15 @@ use Rattle.front_config.specs.declared.command.ExplainWords.{ExplainWords}
 use Rattle.front_config.specs.declared.fault.FileFault.{FileFault}
 use Rattle.front_config.specs.declared.fault.LoadFault.{LoadFault}
 use Rattle.front_config.specs.declared.fault.LoadFault.TheVariants as load_fault
+use Rattle.front_config.specs.declared.fault.Ranged.{Ranged}
 use Rattle.front_config.specs.declared.fault.Which.{Which}
-use Rattle.front_config.specs.declared.fault.WordsFault.{WordsFault}
 use Rattle.front_config.specs.declared.fault.WordsFault.TheVariants as words_fault
 use Rattle.front_config.specs.declared.files.Loaded.{Loaded}
+use Rattle.audit_core.specs.declared.sinks.SinkMode.TheVariants.{Off}
 use Rattle.proxy_server.specs.Ports.{Port, FilesPort, Told, AreSound, IsUntouched}
 use Rattle.proxy_server.specs.Serving.{Serves}
+use Rattle.proxy_server.specs.Why.{TellsWords, why_of_load, TellsServing}
+use Rattle.refusal_text.specs.declared.refusal.Refusal.{Refusal}
 use Rattle.proxy_server.specs.declared.setup.Setup.{Setup}
 use Rattle.proxy_server.specs.declared.status.Status.{Status}
 use Rattle.proxy_server.specs.declared.status.Status.TheVariants.{Usage, Configuration, ReadFault, NoMemory}
@@ -35,7 +38,14 @@ pub record Loads (words : List (List ℕ)) (told : Told) (loaded : Result Loaded
 -- what words and files tell a run
 abbrev pub setup_of : ExplainWords → Loaded → Setup
 setup_of explain loaded = record {
-  settings = record { tokens = loaded.tokens; policy = loaded.policy };
+  settings = record {
+    tokens = loaded.tokens;
+    policy = loaded.policy;
+    endpoints = [];
+    max_event = explain.max_event;
+    log = Off;
+    hook = Off;
+  };
   moment = explain.moment;
 }
 
@@ -46,35 +56,25 @@ pub record Configures (words : List (List ℕ)) (told : Told) (set : Setup) (row
   pub are : set ≡ setup_of loads.explain loaded
   pub rows_are : rows ≡ loaded.table.rows
 
--- why a run ends before its input is read, by its status
-abbrev pub IsRefused : List (List ℕ) → FilesPort → Status → Type 0
-IsRefused words files Usage = command_of words ≡ Err words_fault.Usage
-IsRefused words files Configuration =
-    ((name : List ℕ) × (command_of words ≡ Err (words_fault.Limits name)))
-    ⊎ ((which : Which) × (fault : FileFault) × Loads words files.before.told (Err (load_fault.BadFile which fault)))
-IsRefused words files ReadFault =
+-- why a run ends before its input is read, by its status, and what is told of it
+abbrev pub IsRefused : List (List ℕ) → FilesPort → Status → Option Refusal → Type 0
+IsRefused words files Usage why = (command_of words ≡ Err words_fault.Usage) × TellsWords words_fault.Usage why
+IsRefused words files Configuration why =
+    ((option : Ranged) × (n : ℕ) × (command_of words ≡ Err (words_fault.Limits option n)) × TellsWords (words_fault.Limits option n) why)
+    ⊎ ((which : Which) × (fault : FileFault) × (loads : Loads words files.before.told (Err (load_fault.BadFile which fault)))
+    × (why ≡ why_of_load loads.explain.files (load_fault.BadFile which fault)))
+IsRefused words files ReadFault why =
     Rose files.before.faults files.after.faults
     × ((which : Which) × (loads : Loads words files.before.told (Err (load_fault.ReadFault which)))
-    × Notes files.before.failed files.after.failed (name_for loads.explain.files which))
-IsRefused words files NoMemory = Unit {0}
-IsRefused words files _ = ⊥
+    × Notes files.before.failed files.after.failed (name_for loads.explain.files which)
+    × (why ≡ why_of_load loads.explain.files (load_fault.ReadFault which)))
+IsRefused words files NoMemory why = Unit {0}
+IsRefused words files _ why = ⊥
 
 -- a run: it is refused before it reads or writes anything, or all its files were read and the requests of its input are
--- served
-abbrev pub Run : List (List ℕ) → FilesPort → Port → Port → Status → Type 0
-Run words files input output status =
-    (IsRefused words files status × IsUntouched input × IsUntouched output)
+-- served. What is told says why it ended
+abbrev pub Run : List (List ℕ) → FilesPort → Port → Port → Status → Option Refusal → Type 0
+Run words files input output status why =
+    (IsRefused words files status why × IsUntouched input × IsUntouched output)
     ⊎ ((set : Setup) × (rows : List Row) × Configures words files.before.told set rows × AreSound files
-    × Serves set rows input output status)
-
--- ---- the statuses of faults
-
-abbrev pub status_of_words : WordsFault → Status
-status_of_words words_fault.Usage = Usage
-status_of_words (words_fault.Limits name) = Configuration
-status_of_words words_fault.NoMemory = NoMemory
-
-abbrev pub status_of_load : LoadFault → Status
-status_of_load (load_fault.ReadFault which) = ReadFault
-status_of_load (load_fault.BadFile which fault) = Configuration
-status_of_load load_fault.NoMemory = NoMemory
+    × Serves set rows input output status × TellsServing status why)

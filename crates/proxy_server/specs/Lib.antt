@@ -4,3 +4,4 @@ pub mod Lines
 pub mod Ports
 pub mod Serving
 pub mod Status
+pub mod Why

@@ -1,11 +1,13 @@
 -- The audit lines of the requests of a run.
 use Rattle.std.specs.Prelude.{◌≡◌, ℕ, ◌+◌, List, [], ◌∷◌, ◌++◌}
 use Rattle.apiservice_rows.specs.Row.{Row}
-use Rattle.audit_core.specs.Answer.{reply_by, rows_by}
 use Rattle.audit_core.specs.Errand.{errand_in}
-use Rattle.audit_core.specs.Exchange.{IsExchange}
-use Rattle.audit_core.specs.Owed.{owed, ended}
-use Rattle.audit_core.specs.declared.exchange.Exchange.{Exchange}
+use Rattle.audit_core.specs.Exchange.{IsAnswered}
+use Rattle.audit_core.specs.Owed.{owed, fitted_lines, ended}
+use Rattle.audit_core.specs.Routing.{handling_of, rows_by}
+use Rattle.audit_core.specs.declared.answered.Answered.{Answered}
+use Rattle.audit_core.specs.declared.link_note.LinkNote.{LinkNote}
+use Rattle.audit_core.specs.declared.link_note.LinkNote.TheVariants.{Whole}
 use Rattle.audit_core.specs.declared.stamp.Stamp.{Stamp}
 use Rattle.front_base.specs.AuditId.{AuditId}
 use Rattle.http_edge.specs.declared.request.Request.{Request}
@@ -37,11 +39,20 @@ abbrev pub rows_after_all : Setup → List Row → List Request → List Row
 rows_after_all set rows [] = rows
 rows_after_all set rows (r ∷ rs) = rows_after_all set (rows_after set rows r) rs
 
--- this is the text of the lines that the request with that number owes, which these rows answer: each with a line feed
+-- a request that would be sent on counts as answered by an empty reply with status 200
+abbrev pub empty_reply : LinkNote
+empty_reply = Whole 200
+
+-- what is written of a request: the lines of its events, each with a line feed
+abbrev pub text_of : Setup → Answered → List ℕ
+text_of set x = ended 10 (fitted_lines set.settings.max_event (owed x.decision x.facts))
+
+-- this is what is written of the request with that number, which is handled by these rows
 pub record IsLines (set : Setup) (rows : List Row) (number : ℕ) (r : Request) (text : List ℕ) : Type 0 where
-  pub exchange : Exchange
-  pub is : IsExchange set.settings (stamp_of set.moment number) r (reply_by rows (errand_in set.settings r)) exchange
-  pub text_is : text ≡ ended 10 (owed exchange)
+  pub answered : Answered
+  pub is : IsAnswered set.settings (stamp_of set.moment number) r
+      (handling_of set.settings.endpoints rows (errand_in set.settings r)) empty_reply [] answered
+  pub text_is : text ≡ text_of set answered
 
 -- the text of the lines of these requests, the first of which has this number and is answered by these rows
 abbrev pub AreLines : Setup → ℕ → List Row → List Request → List ℕ → Type 0

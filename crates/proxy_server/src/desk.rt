@@ -9,35 +9,17 @@ ghost use Rattle.proxy_server.specs.Ports.{files_port, port};
 ghost use Rattle.proxy_server.specs.Status.{code_of};
 ghost use Rattle.proxy_server.specs.declared.status.Status.{Status};
 
-use crate::serving::serve_requests;
+use crate::ended::{Ended, Outcome, load_outcome, served_outcome, words_outcome};
+use crate::serving::{Progress, serve_requests};
 use crate::setup::Setup;
 use crate::status::Status;
 use apiservice_table::{RouteTable, TableRoutes};
-use audit_core::Settings;
-use front_config::{Command, ExplainWords, LoadFault, Loaded, WordsFault, load, read_words};
+use audit_core::{Settings, SinkMode};
+use front_config::{Command, ExplainWords, Loaded, WordsFault, load, read_words};
 use front_ports::{ByteSink, Files, Source};
 use local_replies::LocalPaths;
+use service_endpoints::Endpoints;
 use std::alloc::Global;
-
-fn status_of_words(fault: &WordsFault) -> Status
-    ensures { result ≡ spec.status_of_words fault.now }
-{
-    match fault {
-        WordsFault::Usage => Status::Usage,
-        WordsFault::Limits { .. } => Status::Configuration,
-        WordsFault::NoMemory => Status::NoMemory,
-    }
-}
-
-fn status_of_load(fault: &LoadFault) -> Status
-    ensures { result ≡ spec.status_of_load fault.now }
-{
-    match fault {
-        LoadFault::ReadFault { .. } => Status::ReadFault,
-        LoadFault::BadFile { .. } => Status::Configuration,
-        LoadFault::NoMemory => Status::NoMemory,
-    }
-}
 
 // What the command is told, which is the only one that a command line can have here.
 fn explain_words(alloc: Global, words: &Vec<String>) -> Result<ExplainWords, WordsFault>
@@ -56,7 +38,7 @@ struct Start {
     table: RouteTable,
 }
 
-fn start_of(explain: ExplainWords, loaded: Loaded) -> Start
+fn start_of(alloc: Global, explain: ExplainWords, loaded: Loaded) -> Start
     ensures setup { result.setup ≡ spec.setup_of explain loaded }
     ensures table { result.table ≡ loaded.table }
 {
@@ -65,6 +47,10 @@ fn start_of(explain: ExplainWords, loaded: Loaded) -> Start
             settings: Settings {
                 tokens: loaded.tokens,
                 policy: loaded.policy,
+                endpoints: Endpoints::none(alloc),
+                max_event: explain.max_event,
+                log: SinkMode::Off,
+                hook: SinkMode::Off,
             },
             moment: explain.moment,
         },
@@ -73,23 +59,23 @@ fn start_of(explain: ExplainWords, loaded: Loaded) -> Start
 }
 
 // What words and files tell a run, and the table that it begins with, or why it is refused.
-fn configure<F: Files>(alloc: Global, words: &Vec<String>, files: &mut F) -> Result<Start, Status>
+fn configure<F: Files>(alloc: Global, words: &Vec<String>, files: &mut F) -> Result<Start, Outcome>
     ensures ok { IfOk result (λ told.
         spec.Configures (map string_bytes words.now.items) (F.files files.old) told.setup told.table.rows) }
-    ensures err { IfErr result (spec.IsRefused (map string_bytes words.now.items)
+    ensures err { IfErr result (λ outcome. spec.IsRefused (map string_bytes words.now.items)
         (files_port (F.files files.old) (F.failed files.old) (F.faults files.old)
-        (F.files files.new) (F.failed files.new) (F.faults files.new))) }
+        (F.files files.new) (F.failed files.new) (F.faults files.new)) outcome.status outcome.why) }
     ensures sound { OnOk result (F.faults files.new ≡ F.faults files.old) }
     ensures kept { KeepsFiles (F.files files.old) (F.files files.new) }
     ensures later { F.faults files.old ≤ F.faults files.new }
 {
     let explain = match explain_words(alloc, words) {
         Ok(explain) => explain,
-        Err(fault) => return Err(status_of_words(&fault)),
+        Err(fault) => return Err(words_outcome(words, &fault)),
     };
     match load(alloc, &explain.files, files) {
-        Ok(loaded) => Ok(start_of(explain, loaded)),
-        Err(fault) => Err(status_of_load(&fault)),
+        Ok(loaded) => Ok(start_of(alloc, explain, loaded)),
+        Err(fault) => Err(load_outcome(explain.files, fault)),
     }
 }
 
@@ -100,13 +86,13 @@ fn desk<F: Files, S: Source, O: ByteSink>(
     files: &mut F,
     input: &mut S,
     out: &mut O,
-) -> Status
+) -> Outcome
     ensures run { spec.Run (map string_bytes words.now.items)
         (files_port (F.files files.old) (F.failed files.old) (F.faults files.old)
         (F.files files.new) (F.failed files.new) (F.faults files.new))
         (port (S.left input.old) (S.read_faults input.old) (S.left input.new) (S.read_faults input.new))
         (port (O.written out.old) (O.write_faults out.old) (O.written out.new) (O.write_faults out.new))
-        result }
+        result.status result.why }
     ensures kept { KeepsFiles (F.files files.old) (F.files files.new) }
     ensures files_later { F.faults files.old ≤ F.faults files.new }
     ensures read_later { S.read_faults input.old ≤ S.read_faults input.new }
@@ -114,28 +100,46 @@ fn desk<F: Files, S: Source, O: ByteSink>(
 {
     let told = match configure(alloc, words, files) {
         Ok(told) => told,
-        Err(status) => return status,
+        Err(outcome) => return outcome,
     };
     let Ok(paths) = LocalPaths::new(alloc) else {
-        return Status::NoMemory;
+        return Outcome {
+            status: Status::NoMemory,
+            why: None,
+        };
     };
     let Ok(mut routes) = TableRoutes::new(alloc, told.table) else {
-        return Status::NoMemory;
+        return Outcome {
+            status: Status::NoMemory,
+            why: None,
+        };
     };
-    serve_requests(alloc, &told.setup, &paths, &mut routes, input, out)
+    let mut progress = Progress::NONE;
+    let status = serve_requests(
+        alloc,
+        &told.setup,
+        &paths,
+        &mut routes,
+        input,
+        out,
+        &mut progress,
+    );
+    served_outcome(status, &progress)
 }
 
 /// The command `explain`: reads the requests of an input and writes the audit lines that each of them owes, each with a
 /// line feed, under the policy and the tokens of the files that the words name, and by the APIServices of the third one,
 /// which the requests may change.
 ///
-/// It answers the code of a `Status`: `Done` where the input was read to its end, or to the last request of its
-/// connection; `Usage` where the words, which are those after the program's name, are no command line; `Configuration`
-/// where an option is out of its range or a file is invalid; `ReadFault` where a file or the input could not be read;
-/// `WriteFault`; `Input` where a request is refused or cut short; `NumbersSpent` where 2^48 requests were served and one
+/// It answers the code of a `Status`, and what was refused: the fault of the words, or that of a file by its name. Which
+/// word is bad, and a refused request's number and first byte, are told too, and no clause speaks of them.
+///
+/// The status is `Done` where the input was read to its end, or to the last request of its connection; `Usage` where the
+/// words, which are those after the program's name, are no command line; `Configuration` where an option is out of its
+/// range or a file is invalid; `ReadFault` where a file or the input could not be read; `WriteFault`; `Input` where a request is refused or cut short; `NumbersSpent` where 2^48 requests were served and one
 /// more stands next; `NoMemory`. After `Done` and `Input` nothing failed: no count of faults of files, input and output
-/// rose. After `WriteFault` and `NoMemory` a prefix of the lines was written. Memory is bounded by one request, the lines that wait to be written, the files, and the changes
-/// of the table that were made.
+/// rose. After `WriteFault` and `NoMemory` a prefix of the lines was written. Memory is bounded by one request, the lines
+/// that wait to be written, the files, and the changes of the table that were made.
 ///
 /// What the clause says of bytes holds where a port tells them, as those in memory do. Of an input that tells nothing it
 /// says that some bytes were read which have these requests, and of an output that tells nothing it says nothing.
@@ -145,20 +149,20 @@ pub fn run_desk<F: Files, S: Source, O: ByteSink>(
     files: &mut F,
     input: &mut S,
     out: &mut O,
-) -> u8
-    ensures run { (status : Status) × (result ≡ code_of status)
+) -> Ended
+    ensures run { (status : Status) × (result.status ≡ code_of status)
         × spec.Run (map string_bytes words.now.items)
         (files_port (F.files files.old) (F.failed files.old) (F.faults files.old)
         (F.files files.new) (F.failed files.new) (F.faults files.new))
         (port (S.left input.old) (S.read_faults input.old) (S.left input.new) (S.read_faults input.new))
         (port (O.written out.old) (O.write_faults out.old) (O.written out.new) (O.write_faults out.new))
-        status }
+        status result.why }
 
     // The words alone decide on `Usage`.
-    ensures usage { result ≡ code_of Status.Usage
+    ensures usage { result.status ≡ code_of Status.Usage
         → command_of (map string_bytes words.now.items) ≡ Err words_fault.Usage }
     ensures misused { command_of (map string_bytes words.now.items) ≡ Err words_fault.Usage
-        → (result ≡ code_of Status.Usage) ⊎ (result ≡ code_of Status.NoMemory) }
+        → (result.status ≡ code_of Status.Usage) ⊎ (result.status ≡ code_of Status.NoMemory) }
 
     // Told files stay, and the counts of faults don't fall.
     ensures kept { KeepsFiles (F.files files.old) (F.files files.new) }
@@ -166,5 +170,9 @@ pub fn run_desk<F: Files, S: Source, O: ByteSink>(
     ensures read_later { S.read_faults input.old ≤ S.read_faults input.new }
     ensures write_later { O.write_faults out.old ≤ O.write_faults out.new }
 {
-    desk(alloc, words, files, input, out).code()
+    let Outcome { status, why } = desk(alloc, words, files, input, out);
+    Ended {
+        status: status.code(),
+        why,
+    }
 }

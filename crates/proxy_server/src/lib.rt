@@ -1,6 +1,6 @@
 //! The top calls of `apiaggd`, over any files, any source and any sink.
 //!
-//! The main contract is that of `run_desk`, the command `explain`: how it ended, what it read, and what it wrote, which
+//! The main contract is that of `run_desk`, the command `explain`: how it ended and why, what it read, and what it wrote, which
 //! is the audit lines that the requests of its input owe, one after another, under the tokens and the policy of the files
 //! that its words name, and by the APIServices of a third one as the requests before left them. It takes no leave to wait,
 //! and always returns. What a request wants, is answered and owes is said in `audit_core`, and nothing of it here.
@@ -15,6 +15,7 @@
 
 mod adapters;
 mod desk;
+mod ended;
 mod lines;
 mod serving;
 mod setup;
@@ -23,6 +24,7 @@ mod system_files;
 
 pub use adapters::{ReaderSource, WriterSink};
 pub use desk::run_desk;
+pub use ended::Ended;
 pub use status::Status;
 pub use system_files::SystemFiles;
 

@@ -5,7 +5,7 @@ ghost use Rattle.proxy_server.specs.Lines as spec;
 
 use crate::setup::Setup;
 use apiservice_table::TableRoutes;
-use audit_core::{Stamp, one_thread_answers, push_owed, settle};
+use audit_core::{LineForm, LinkNote, Stamp, one_thread_decides, push_owed, settle};
 use front_base::{AuditId, MOST_REQUESTS, Moment, NoMemory};
 use http_edge::Request;
 use local_replies::LocalPaths;
@@ -31,7 +31,7 @@ fn stamp_of(moment: Moment, number: u64) -> Stamp
     }
 }
 
-/// Answers a request, which has that number and may change the table, and adds the lines that it owes.
+/// Answers a request, which has that number and may change the table, and adds what is written of it.
 pub fn add_lines(
     alloc: Global,
     setup: &Setup,
@@ -46,9 +46,21 @@ pub fn add_lines(
         (rows_of routes.old) (rows_of routes.new) lines.old.items lines.new.items) }
     ensures kept { OnErr result (lines.new.items ≡ lines.old.items) }
 {
-    one_thread_answers();
+    one_thread_decides();
     let stamp = stamp_of(setup.moment, number);
-    let exchange = settle(alloc, &setup.settings, paths, routes, &stamp, request)?;
-    push_owed(alloc, &exchange, b'\n', lines)?;
-    Ok(())
+    let answered = settle(
+        alloc,
+        &setup.settings,
+        paths,
+        routes,
+        &stamp,
+        request,
+        LinkNote::Whole(200),
+        b"".as_slice(),
+    )?;
+    let form = LineForm {
+        most: setup.settings.max_event,
+        end: b'\n',
+    };
+    push_owed(alloc, &answered, form, lines)
 }

@@ -57,6 +57,32 @@ fn spill<O: ByteSink>(out: &mut O, pending: &mut Vec<u8>) -> Result<(), PortFaul
     Ok(())
 }
 
+/// How far a run over an input came, for messages: no clause says so.
+#[derive(Clone, Copy, Debug, PartialEq, Eq)]
+pub struct Progress {
+    /// How many requests came before the one that is read.
+    pub served: u64,
+    /// How many bytes these took up.
+    pub used: u64,
+    /// Why no more requests come, once none come.
+    pub end: End,
+}
+
+impl Progress {
+    pub const NONE: Progress = Progress {
+        served: 0,
+        used: 0,
+        end: End::Ended,
+    };
+}
+
+// Notes why no more requests come.
+fn note_end(progress: &mut Progress, stop: Stop) {
+    if let Stop::Refused(end) = stop {
+        progress.end = end;
+    }
+}
+
 /// Writes the audit lines of each request of the input, up to the end of its list of requests. Requests have the numbers
 /// from 0 on, and each is answered by the table as those before it left it.
 pub fn serve_requests<S: Source, O: ByteSink>(
@@ -66,6 +92,7 @@ pub fn serve_requests<S: Source, O: ByteSink>(
     routes: &mut TableRoutes,
     input: &mut S,
     out: &mut O,
+    progress: &mut Progress,
 ) -> Status
     ensures run { spec.Serves setup.now (rows_of routes.old)
         (port (S.left input.old) (S.read_faults input.old) (S.left input.new) (S.read_faults input.new))
@@ -81,9 +108,14 @@ pub fn serve_requests<S: Source, O: ByteSink>(
     let mut pending = Vec::new(alloc);
     let mut number = 0;
     'serving: loop {
+        progress.served = number;
+        progress.used = edge.used();
         let request = match edge.next_request(alloc, input) {
             Ok(request) => request,
-            Err(stop) => return close(out, pending.as_slice(), status_of_stop(stop)),
+            Err(stop) => {
+                note_end(progress, stop);
+                return close(out, pending.as_slice(), status_of_stop(stop));
+            }
         };
         if number == MOST_REQUESTS {
             return close(out, pending.as_slice(), Status::NumbersSpent);

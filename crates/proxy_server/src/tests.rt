@@ -99,9 +99,9 @@ fn run_over_memory(
     let mut out = MemBytes::new(alloc, room, Vec::new(alloc))?;
     let mut files = Shelf { faults: 0 };
     let words = words_of(alloc, line)?;
-    let status = run_desk(alloc, &words, &mut files, &mut source, &mut out);
+    let ended = run_desk(alloc, &words, &mut files, &mut source, &mut out);
     Ok(Ran {
-        status,
+        status: ended.status,
         output: out.bytes().to_vec(alloc)?,
     })
 }
@@ -408,7 +408,7 @@ fn a_write_that_fails_in_the_middle_leaves_a_front(rt: HostRuntime) -> Result<()
         let mut files = Shelf { faults: 0 };
         let words = words_of(alloc, "explain")?;
         let answer = run_desk(alloc, &words, &mut files, &mut source, &mut out);
-        assert_eq!(rt; answer, status, "after {writes}");
+        assert_eq!(rt; answer.status, status, "after {writes}");
         assert_eq!(rt;
             out.bytes.len(),
             whole.output.len().min(7 * writes),
@@ -467,7 +467,7 @@ fn devices_are_ports(rt: HostRuntime) -> Result<(), Fail> {
         let mut source = ReaderSource::new(input.as_bytes());
         let mut out = WriterSink::new(File::options().write(true).open(&rt, "/dev/full")?);
         let own = run_desk(alloc, &words, &mut files, &mut source, &mut out);
-        assert_eq!(rt; own, status, "{input}");
+        assert_eq!(rt; own.status, status, "{input}");
     }
     let mut source = ReaderSource::new(fs::open(&rt, "/dev/null")?);
     let mut buf = [1u8; 2];

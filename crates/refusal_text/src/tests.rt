@@ -80,7 +80,7 @@ fn bytes_of(alloc: Global, told: &str) -> Result<Bytes, AllocError> {
             '¤' => bytes.extend_from_slice(LIST.as_bytes())?,
             'ÿ' => bytes.push(255)?,
             'µ' => bytes.push(1)?,
-            _ => bytes.push(c as u32 as u8)?,
+            _ => bytes.push((c as u32 % 128) as u8)?,
         }
     }
     Ok(Bytes::new(bytes))

@@ -89,11 +89,7 @@ fn files_with_rows_that_are_refused(rt: HostRuntime) -> Result<(), Fail> {
         (b"\xef\xbb\xbft,u,1\r\nt,u,\xc3\xa9\r", ""),
     ];
     for (file, refused) in cases {
-        assert_eq!(rt;
-            refusal(rt.alloc(), file)?.as_str(),
-            refused,
-            "{file:?}"
-        );
+        assert_eq!(rt; refusal(rt.alloc(), file)?.as_str(), refused, "{file:?}");
     }
     Ok(())
 }

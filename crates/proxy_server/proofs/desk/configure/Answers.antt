@@ -1,7 +1,8 @@
 use Rattle.std.proofs.Common.{Ok, ap, sym, subst, map, string_bytes}
 use Rattle.proxy_server.specs.Desk as spec
 use Rattle.proxy_server.specs.Ports.{FilesPort, files_port}
-use Rattle.proxy_server.proofs.DeskLemmas.{loads_of, load_refused}
+use Rattle.proxy_server.specs.Why.{status_of_load}
+use Rattle.proxy_server.proofs.DeskLemmas.{loads_of, load_refused, words_refused}
 use Rattle.proxy_server.proofs.desk.configure.Goals as goal
 
 pub returns-in-Ok-load-clause-ok : goal.returns-in-Ok-load-clause-ok
@@ -21,8 +22,23 @@ returns-in-Err-load-clause-err g c =
     let files : FilesPort =
     files_port (F.files c.args.files.now) (F.failed c.args.files.now) (F.faults c.args.files.now)
     (F.files c.load.new.files) (F.failed c.load.new.files) (F.faults c.load.new.files) in
+    let line = map string_bytes c.args.words.now.items in
+    let o = c.load_outcome.result in
     subst
-    (spec.IsRefused (map string_bytes c.args.words.now.items) files)
-    (sym c.status_of_load.ensures)
-    (load_refused (map string_bytes c.args.words.now.items) files c.in-Ok.explain l.0 l.1 l.2
-    c.in-Err-load.fault c.in-Ok.ensures l.3 l.4 l.5 l.6 c.in-Err-load.ensures.cause)
+    (λ s. spec.IsRefused line files s o.why)
+    (sym c.load_outcome.ensures.status)
+    (subst
+    (λ why. spec.IsRefused line files (status_of_load c.in-Err-load.fault) why)
+    (sym c.load_outcome.ensures.why)
+    (load_refused line files c.in-Ok.explain l.0 l.1 l.2 c.in-Err-load.fault c.in-Ok.ensures l.3 l.4 l.5 l.6 c.in-Err-load.ensures.cause))
+
+pub returns-in-Err-clause-err : goal.returns-in-Err-clause-err
+returns-in-Err-clause-err g c =
+    let F = g.F.Files in
+    let files : FilesPort =
+    files_port (F.files c.args.files.now) (F.failed c.args.files.now) (F.faults c.args.files.now)
+    (F.files c.args.files.now) (F.failed c.args.files.now) (F.faults c.args.files.now) in
+    let line = map string_bytes c.args.words.now.items in
+    let o = c.words_outcome.result in
+    subst (λ s. spec.IsRefused line files s o.why) (sym c.words_outcome.ensures.status)
+    (words_refused line files c.in-Err.fault o.why c.in-Err.ensures c.words_outcome.ensures.why)
