@@ -1,0 +1,4 @@
+pub mod Bytes
+pub mod Hands
+pub mod Ends
+pub mod Clients

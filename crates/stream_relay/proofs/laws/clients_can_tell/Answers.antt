@@ -1,0 +1,11 @@
+use Rattle.stream_relay.proofs.Clients.{none_at_cut, none_within_piece, none_within_end}
+use Rattle.stream_relay.proofs.laws.clients_can_tell.Goals as goal
+
+pub returns-clause-cut : goal.returns-clause-cut
+returns-clause-cut c = none_at_cut c.first_bodies.ensures.one c.written_chunks.ensures
+
+pub returns-clause-within : goal.returns-clause-within
+returns-clause-within c = none_within_piece c.first_bodies.ensures.one c.written_chunks.ensures
+
+pub returns-clause-last : goal.returns-clause-last
+returns-clause-last c = none_within_end c.first_bodies.ensures.one c.written_chunks.ensures

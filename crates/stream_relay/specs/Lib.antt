@@ -1,0 +1,4 @@
+pub mod Keep
+pub mod Stream
+pub mod Relay
+pub mod Hand
