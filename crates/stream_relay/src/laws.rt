@@ -1,5 +1,5 @@
 // What the answers of a relay say, and what a client can tell.
-ghost use Rattle.std.specs.Prelude.{◌≡◌, ◌≤◌, ◌++◌, ℕ, List, true, All, length};
+ghost use Rattle.std.specs.Prelude.{◌≡◌, ◌≤◌, ◌<◌, ◌++◌, ℕ, List, true, All, length};
 ghost use Rattle.body_frames.specs.Body.{StartsWithBody};
 ghost use Rattle.body_frames.specs.Chunks.{IsChunked, IsPiece};
 ghost use Rattle.body_frames.specs.declared.frame.Frame.{Frame};
@@ -20,18 +20,21 @@ pub fn bodies_end_one_way()
 }
 
 /// What is relayed of bytes in which a whole body stands first is that body. Of a body that ends with its input it is all of
-/// the input. What is relayed of a body that is cut is the first part of what is relayed when more bytes come.
+/// the input. What is relayed of a body that is cut is the first part of what is relayed when more bytes come. No more than
+/// `MOST_STREAMED_BYTES` bytes are relayed.
 pub fn bodies_are_relayed_whole()
     ensures whole { (frame : Frame) (input body after : List ℕ)
         → StartsWithBody frame MOST_STREAMED_BYTES input body after → body_in frame input ≡ body }
     ensures close { (input : List ℕ) → length input ≤ MOST_STREAMED_BYTES → body_in Frame.Close input ≡ input }
     ensures part { (frame : Frame) (input more : List ℕ) → (rest : List ℕ) × (body_in frame (input ++ more) ≡ body_in frame input ++ rest) }
+    ensures fits { (frame : Frame) (input : List ℕ) → length (body_in frame input) ≤ MOST_STREAMED_BYTES }
 {
     decoded_bodies();
 }
 
 /// What a client of version 1.1 gets of a whole body in chunks is a text of the grammar whose body is what was relayed. What it
-/// gets of a body that is cut is none, wherever the cut falls.
+/// gets of a body that is cut is none, wherever the cut falls. Of a body with a length any client gets so many bytes where it
+/// is whole, and fewer where it isn't.
 pub fn clients_can_tell()
     ensures whole { (pieces : List (List ℕ)) → All IsPiece pieces
         → IsChunked (pieces_text true pieces ++ last_of true) (joined pieces) }
@@ -40,7 +43,12 @@ pub fn clients_can_tell()
         → IsChunked (pieces_text true pieces ++ text) body → ⊥ }
     ensures last { (frame : Frame) (pieces : List (List ℕ)) (input more text body : List ℕ) → All IsPiece pieces
         → OfEnd frame true input more text → IsChunked (pieces_text true pieces ++ text) body → ⊥ }
+    ensures length { (size : ℕ) (input : List ℕ) → Says (Frame.Length size) input Relayed.Done
+        → length (body_in (Frame.Length size) input) ≡ size }
+    ensures short { (size : ℕ) (input : List ℕ) (end : Relayed) → Says (Frame.Length size) input end → (end ≡ Relayed.Done → ⊥)
+        → length (body_in (Frame.Length size) input) < size }
 {
     first_bodies();
     written_chunks();
+    bodies_are_relayed_whole();
 }

@@ -5,6 +5,7 @@ use Rattle.body_frames.specs.declared.frame.Frame.{Frame}
 use Rattle.stream_relay.specs.Stream.{body_in}
 use Rattle.stream_relay.specs.declared.stream.TheConstants.{MOST_STREAMED_BYTES}
 use Rattle.stream_relay.proofs.Bytes.{emitted_more, decoded_end, done_closed}
+use Rattle.stream_relay.proofs.Sizes.{body_fits}
 use Rattle.stream_relay.proofs.laws.bodies_are_relayed_whole.Goals as goal
 
 pub returns-clause-whole : goal.returns-clause-whole
@@ -26,3 +27,6 @@ pub returns-clause-part : goal.returns-clause-part
 returns-clause-part c = λ frame input more.
     let begin = start frame MOST_STREAMED_BYTES in
     (emitted (run begin input) more, emitted_more begin input more)
+
+pub returns-clause-fits : goal.returns-clause-fits
+returns-clause-fits c = body_fits
