@@ -442,3 +442,11 @@ read_cuts laws f c x rest a b d p r o q u rose0 conn_rose0 link_rose rose stop e
     answers_cut f c x rest a d o u link_rose rose z
     (subst (λ y. Ended f c rest a d o y relayed.BackendCut) (sym t.0.output)
     (cut_end laws f c rest a b d g.after p o q g.so_far none open_now (ap ends_here (sym t.0.place) ∙ h) t.1 t.2))
+
+-- ---- all bytes of a link
+
+pub told_input : (bytes rest seen : List ℕ) (left : Option (List ℕ)) → Seen (Some bytes) left rest seen
+    → seen ++ rest_of left ≡ rest ++ bytes
+told_input bytes rest seen None s = absurd s.consumed
+told_input bytes rest seen (Some x) s =
+    ap (λ l. l ++ x) s.all ∙ append_assoc rest s.taken x ∙ ap (λ l. rest ++ l) (sym s.consumed)

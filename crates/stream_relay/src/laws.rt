@@ -1,8 +1,10 @@
 // What the answers of a relay say, and what a client can tell.
-ghost use Rattle.std.specs.Prelude.{◌≡◌, ◌≤◌, ◌<◌, ◌++◌, ℕ, List, true, All, length};
+ghost use Rattle.std.specs.Prelude.{◌≡◌, ◌≤◌, ◌<◌, ◌++◌, ℕ, List, true, Option, Some, All, length};
 ghost use Rattle.body_frames.specs.Body.{StartsWithBody};
 ghost use Rattle.body_frames.specs.Chunks.{IsChunked, IsPiece};
 ghost use Rattle.body_frames.specs.declared.frame.Frame.{Frame};
+ghost use Rattle.forward_link.specs.Reading.{rest_of};
+ghost use Rattle.wire_intake.specs.Seen.{Seen};
 ghost use Rattle.stream_relay.specs.declared.stream.Relayed.{Relayed};
 ghost use Rattle.stream_relay.specs.declared.stream.TheConstants.{MOST_STREAMED_BYTES};
 ghost use Rattle.stream_relay.specs.Relay.{OfPiece, OfEnd};
@@ -18,6 +20,13 @@ pub fn bodies_end_one_way()
 {
     first_bodies();
 }
+
+/// Where a link tells what it has left to give, the bytes that a relay's answer speaks of are those that came with the head and
+/// then all that the link had, whether they were read or not.
+pub fn no_byte_is_left_out()
+    ensures { (bytes rest seen : List ℕ) (left : Option (List ℕ)) → Seen (Some bytes) left rest seen
+        → seen ++ rest_of left ≡ rest ++ bytes }
+{}
 
 /// What is relayed of bytes in which a whole body stands first is that body. Of a body that ends with its input it is all of
 /// the input. What is relayed of a body that is cut is the first part of what is relayed when more bytes come. No more than

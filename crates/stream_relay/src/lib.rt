@@ -16,7 +16,9 @@ mod laws;
 mod stream;
 
 pub use keep::{Keep, MOST_KEPT_BYTES};
-pub use laws::{bodies_are_relayed_whole, bodies_end_one_way, clients_can_tell};
+pub use laws::{
+    bodies_are_relayed_whole, bodies_end_one_way, clients_can_tell, no_byte_is_left_out,
+};
 pub use stream::{MOST_STREAMED_BYTES, Relayed, relay};
 
 #[cfg(test)]
