@@ -1,0 +1,224 @@
+ghost use Rattle.std.specs.Prelude.{◌≡◌, ◌<◌, None, IfOk, length, refl};
+ghost use Rattle.std.specs.Io.{ReadsAtMost, WritesAtMost};
+ghost use Rattle.std.specs.Io.KnownBytes.{ReadConsumes, WriteAppends};
+ghost use Rattle.front_ports.specs.Cause.{HasCause};
+ghost use Rattle.tcp_ports.specs.Counts.{conn_read_faults, conn_write_faults, conn_input, conn_output, conn_from};
+
+use crate::clock::{millis_now, timeout_of};
+use crate::idle::request_begins;
+use crate::linger::linger;
+use crate::listener::SharedListener;
+use crate::pace::Pace;
+use crate::poll::{INPUT, MOST_TURNS, read_some, wait_for};
+use crate::rate::RateFloor;
+use crate::send::send_some;
+use front_ports::{ByteSink, Conn, PortFault, Source};
+use std::io::ErrorKind;
+use std::net::TcpStream;
+use std::os::fd::{AsRawFd, RawFd};
+use std::{io, rt};
+
+/// A connection of a client. After a write its next byte begins a request.
+#[derive(Drop)]
+pub struct TcpConn<'b, R> {
+    rt: &'b R,
+    listener: &'b SharedListener,
+    stream: TcpStream,
+    peer: [u8; 4],
+    // Whether no byte came since the last write, or since it was accepted.
+    idle: bool,
+    answered: bool,
+    // How the request that is being read comes.
+    pace: Pace,
+    sending: RateFloor,
+    // Whether the input ended, or counts as ended.
+    ended: bool,
+    read_faults: u64,
+    write_faults: u64,
+}
+
+// Reads bytes of a request that has begun.
+fn read_request(
+    rt: &impl rt::Clock,
+    listener: &SharedListener,
+    stream: &mut TcpStream,
+    pace: &mut Pace,
+    buf: &mut [u8],
+) -> io::Result<usize>
+    ensures { ReadsAtMost result buf.new }
+{
+    let limits = listener.limits();
+    for _ in 0..MOST_TURNS {
+        let start = millis_now(rt);
+        let read = read_some(stream, buf)?;
+        if read.is_none() {
+            wait_for(stream.as_raw_fd(), INPUT, limits.wake_interval);
+        }
+        let count = read.unwrap_or(0);
+        let waited = millis_now(rt).saturating_sub(start);
+        let late = pace.is_late(&buf[..count], waited, limits.read_header_timeout, limits);
+        if late || listener.is_past_shutdown(rt) {
+            break;
+        }
+        if read.is_some() {
+            return Ok(count);
+        }
+    }
+    Err(io::Error::from(ErrorKind::TimedOut))
+}
+
+// Reads the first bytes of a request. No byte is the end of the connection, or it counts as ended.
+fn read_first(
+    rt: &impl rt::Clock,
+    listener: &SharedListener,
+    stream: &mut TcpStream,
+    answered: bool,
+    pace: &mut Pace,
+    buf: &mut [u8],
+) -> io::Result<usize>
+    ensures { ReadsAtMost result buf.new }
+{
+    let limits = listener.limits();
+    if let Some(count) = read_some(stream, buf)? {
+        pace.is_late(&buf[..count], 0, limits.read_header_timeout, limits);
+        return Ok(count);
+    }
+    // That try has waited for `idle_grace`.
+    let grace = if answered {
+        0
+    } else {
+        limits.fresh_grace.saturating_sub(limits.idle_grace)
+    };
+    if !request_begins(rt, listener, stream.as_raw_fd(), grace) {
+        return Ok(0);
+    }
+    read_request(rt, listener, stream, pace, buf)
+}
+
+impl<'b, R: rt::Clock> TcpConn<'b, R> {
+    pub(crate) fn new(
+        rt: &'b R,
+        listener: &'b SharedListener,
+        stream: TcpStream,
+        peer: [u8; 4],
+    ) -> io::Result<TcpConn<'b, R>> {
+        // So the first try to read a request lasts as long as the grace of an idle connection, and a request that comes
+        // within it costs no wait of its own.
+        stream.set_read_timeout(Some(timeout_of(listener.limits().idle_grace)))?;
+        Ok(TcpConn {
+            rt,
+            listener,
+            stream,
+            peer,
+            idle: true,
+            answered: false,
+            pace: Pace::new(),
+            sending: RateFloor::new(),
+            ended: false,
+            read_faults: 0,
+            write_faults: 0,
+        })
+    }
+
+    pub(crate) fn raw_fd(&self) -> RawFd {
+        self.stream.as_raw_fd()
+    }
+
+    /// Ends it. A client that has ended its side, or takes nothing, isn't waited for.
+    pub(crate) fn end(self) {
+        if !self.ended && self.write_faults == 0 {
+            linger(self.rt, self.listener.limits(), &self.stream);
+        }
+    }
+}
+
+impl<'b, R: rt::Clock> Source for TcpConn<'b, R> {
+    ghost left = { λ _. None };
+
+    ghost read_faults = { conn_read_faults };
+
+    ghost outward = { conn_output };
+
+    fn read(&mut self, buf: &mut [u8]) -> Result<usize, PortFault>
+        requires { 0 < length buf.old }
+        ensures bound { ReadsAtMost result buf.new }
+        ensures bytes { ReadConsumes None None result buf.new }
+        ensures cause { HasCause (conn_read_faults self.old) (conn_read_faults self.new) result }
+        ensures aside { conn_output self.new ≡ conn_output self.old }
+    {
+        if self.ended {
+            return Ok(0);
+        }
+        let (rt, listener) = (self.rt, self.listener);
+        let read = if self.idle {
+            read_first(
+                rt,
+                listener,
+                &mut self.stream,
+                self.answered,
+                &mut self.pace,
+                buf,
+            )
+        } else {
+            read_request(rt, listener, &mut self.stream, &mut self.pace, buf)
+        };
+        match read {
+            Ok(count) => {
+                self.idle = false;
+                self.ended = count == 0;
+                Ok(count)
+            }
+            Err(_) => {
+                self.read_faults = self.read_faults.saturating_add(1);
+                Err(PortFault)
+            }
+        }
+    }
+}
+
+impl<'b, R: rt::Clock> ByteSink for TcpConn<'b, R> {
+    ghost written = { λ _. None };
+
+    ghost write_faults = { conn_write_faults };
+
+    ghost inward = { conn_input };
+
+    fn write(&mut self, piece: &[u8]) -> Result<usize, PortFault>
+        requires { 0 < length piece.now }
+        ensures bound { WritesAtMost result piece.now }
+        ensures some { IfOk result (λ n. 0 < n) }
+        ensures bytes { WriteAppends None None result piece.now }
+        ensures cause { HasCause (conn_write_faults self.old) (conn_write_faults self.new) result }
+        ensures aside { conn_input self.new ≡ conn_input self.old }
+    {
+        self.idle = true;
+        self.answered = true;
+        self.pace = Pace::new();
+        match send_some(
+            self.rt,
+            self.listener,
+            true,
+            &mut self.stream,
+            &mut self.sending,
+            piece,
+        ) {
+            Ok(count) if count > 0 => Ok(count),
+            _ => {
+                self.write_faults = self.write_faults.saturating_add(1);
+                Err(PortFault)
+            }
+        }
+    }
+}
+
+impl<'b, R: rt::Clock> Conn for TcpConn<'b, R> {
+    ghost from = { conn_from };
+
+    ghost outward_is = { λ c. refl };
+
+    ghost inward_is = { λ c. refl };
+
+    fn peer(&self) -> [u8; 4] {
+        self.peer
+    }
+}

@@ -1,0 +1,82 @@
+ghost use Rattle.std.specs.Prelude.{◌≡◌, ◌<◌, ◌≤◌, ◌+◌, [], ◌∷◌, None, IfOk, OnErr};
+ghost use Rattle.front_ports.specs.Cause.{HasCause, Rose};
+ghost use Rattle.tcp_ports.specs.Counts.{dial_faults, dial_link_faults, link_read_faults, link_write_faults};
+
+use crate::clock::timeout_of;
+use crate::limits::TcpLimits;
+use crate::link::TcpLink;
+use crate::listener::{SharedListener, socket_addr_of};
+use crate::served_client::ServedClient;
+use front_base::Address;
+use front_ports::{Dial, PortFault};
+use std::net::{Net, TcpStream};
+use std::{io, rt};
+
+/// The dial of one bay or drainer, which opens a link for each call.
+#[derive(Drop)]
+pub struct TcpDial<'b, R> {
+    rt: &'b R,
+    listener: &'b SharedListener,
+    client: &'b ServedClient,
+    faults: u64,
+    link_faults: u64,
+}
+
+fn open_stream<R: Net<Stream = TcpStream>>(
+    net: &R,
+    limits: &TcpLimits,
+    to: Address,
+) -> io::Result<TcpStream> {
+    let stream = TcpStream::connect_timeout(
+        net,
+        &socket_addr_of(to),
+        timeout_of(limits.dial_timeout),
+    )?;
+    stream.set_nodelay(true)?;
+    stream.set_read_timeout(Some(timeout_of(limits.wake_interval)))?;
+    stream.set_write_timeout(Some(timeout_of(limits.wake_interval)))?;
+    Ok(stream)
+}
+
+impl<'b, R: Net<Stream = TcpStream> + rt::Clock> TcpDial<'b, R> {
+    /// A dial for the client that the door of the same bay notes, or for none where no door has `client`. The listener
+    /// gives the limits, and ends links of clients once it is closed.
+    pub fn new(rt: &'b R, listener: &'b SharedListener, client: &'b ServedClient) -> TcpDial<'b, R>
+        ensures faults { dial_faults result ≡ 0 }
+        ensures link_faults { dial_link_faults result ≡ 0 }
+    {
+        TcpDial {
+            rt,
+            listener,
+            client,
+            faults: 0,
+            link_faults: 0,
+        }
+    }
+}
+
+impl<'b, R: Net<Stream = TcpStream> + rt::Clock> Dial for TcpDial<'b, R> {
+    type K = TcpLink<'b, R>;
+
+    ghost calls = { λ _. None };
+
+    ghost faults = { dial_faults };
+
+    ghost link_faults = { dial_link_faults };
+
+    fn dial(&mut self, to: Address) -> Result<TcpLink<'b, R>, PortFault> {
+        match open_stream(self.rt, self.listener.limits(), to) {
+            Ok(stream) => Ok(TcpLink::new(self.rt, self.listener, self.client, stream)),
+            Err(_) => {
+                self.faults = self.faults.saturating_add(1);
+                Err(PortFault)
+            }
+        }
+    }
+
+    fn done(&mut self, link: TcpLink<'b, R>) {
+        if link.is_faulty() {
+            self.link_faults = self.link_faults.saturating_add(1);
+        }
+    }
+}

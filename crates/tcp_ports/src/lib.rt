@@ -1,0 +1,40 @@
+//! The ports of a server over TCP: one listening socket that all bays share, and each bay's door, connections, dial and
+//! links.
+//!
+//! These objects are opaque: they tell none of their bytes. Their contracts are those of the traits of `front_ports`. A call
+//! fails only where its object's count of faults rises in it, a door counts each answer that no connection comes any more,
+//! and it gives no more connections than it was made for.
+//!
+//! Nothing is promised of time, nor of what a network does. By code and tests alone, no peer holds a bay for nothing: a
+//! connection that is idle makes room for one that waits, and one that is late with a head, moves a body too slowly, takes
+//! no bytes or has gone ends by a fault (`TcpLimits`). Each wait lasts one `wake_interval` at most before the bay looks
+//! again, so that no wake-up that is lost can hold one.
+#![tactic(auto)]
+
+mod accept;
+mod clock;
+mod conn;
+mod dial;
+mod door;
+mod idle;
+mod keep_alive;
+mod limits;
+mod linger;
+mod link;
+mod listener;
+mod pace;
+mod poll;
+mod rate;
+mod send;
+mod served_client;
+
+pub use conn::TcpConn;
+pub use dial::TcpDial;
+pub use door::TcpDoor;
+pub use limits::{DEFAULT_LIMITS, TcpLimits};
+pub use link::TcpLink;
+pub use listener::SharedListener;
+pub use served_client::ServedClient;
+
+#[cfg(test)]
+mod tests;

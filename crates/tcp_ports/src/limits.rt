@@ -1,0 +1,52 @@
+/// How long and how much a server waits for its peers. Times are in milliseconds.
+#[derive(Clone, Copy, Debug, PartialEq, Eq, Drop)]
+pub struct TcpLimits {
+    /// How long a connection may be idle while no other one waits to be accepted.
+    pub idle_timeout: u64,
+    /// After how much idle time a connection that was answered before ends while another one waits.
+    pub idle_grace: u64,
+    /// The same of a connection before its first request. It is taken as no less than `idle_grace`.
+    pub fresh_grace: u64,
+    /// How long reads may wait for one head of a request in all.
+    pub read_header_timeout: u64,
+    /// How many bytes a second a peer has to move, 0 for no floor. Only time in which a call waits counts.
+    pub min_rate: u64,
+    /// How far a peer may fall behind `min_rate`, which is how long it may move nothing.
+    pub stall_timeout: u64,
+    /// How long a connection that is handed back is read for, and its bytes dropped.
+    pub linger_timeout: u64,
+    /// After how many dropped bytes that ends too.
+    pub linger_bytes: u64,
+    /// How long opening a link may take.
+    pub dial_timeout: u64,
+    /// How long reads may wait for one head of a reply in all.
+    pub response_header_timeout: u64,
+    /// How long requests in progress may go on once the listener was closed. A stream that is silent ends at once.
+    pub shutdown_timeout: u64,
+    /// How long one wait lasts at most before the state of the listener and of the client is looked at again.
+    pub wake_interval: u64,
+}
+
+/// Those of a server that nobody tuned.
+pub const DEFAULT_LIMITS: TcpLimits = TcpLimits {
+    // kube-apiserver's `IdleTimeout`.
+    idle_timeout: 90_000,
+    idle_grace: 20,
+    fresh_grace: 200,
+    // `ReadHeaderTimeout` of net/http. kube-apiserver has 32 s, but a bay is scarcer than a goroutine.
+    read_header_timeout: 10_000,
+    // `MinRate` of Apache's mod_reqtimeout; net/http has no floor.
+    min_rate: 500,
+    // In place of `ReadTimeout` and `WriteTimeout` of net/http, which bound whole requests, and so end watches.
+    stall_timeout: 30_000,
+    // `rstAvoidanceDelay` of net/http's server.
+    linger_timeout: 500,
+    linger_bytes: 16_777_216,
+    // `Timeout` of Go's net.Dialer, which is 30 s in net/http, over the network of a cluster.
+    dial_timeout: 5_000,
+    // `ResponseHeaderTimeout` of net/http's Transport, at kube-apiserver's `--request-timeout`.
+    response_header_timeout: 60_000,
+    // Two thirds of a pod's `terminationGracePeriodSeconds`.
+    shutdown_timeout: 20_000,
+    wake_interval: 1_000,
+};

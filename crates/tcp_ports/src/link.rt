@@ -1,0 +1,189 @@
+ghost use Rattle.std.specs.Prelude.{◌≡◌, ◌<◌, ◌+◌, ◌↔◌, IsTrue, None, IfOk, length, refl};
+ghost use Rattle.std.specs.Io.{ReadsAtMost, WritesAtMost};
+ghost use Rattle.std.specs.Io.KnownBytes.{ReadConsumes, WriteAppends};
+ghost use Rattle.front_ports.specs.Cause.{HasCause};
+ghost use Rattle.tcp_ports.specs.Counts.{link_read_faults, link_write_faults, link_input, link_output};
+
+use crate::clock::millis_now;
+use crate::keep_alive::keep_alive;
+use crate::listener::SharedListener;
+use crate::pace::Pace;
+use crate::poll::{BREAK, INPUT, MOST_TURNS, NO_SOCKET, PEER_END, read_some, wait_for_any};
+use crate::rate::RateFloor;
+use crate::send::send_some;
+use crate::served_client::ServedClient;
+use front_ports::{ByteSink, Link, PortFault, Source};
+use std::io::ErrorKind;
+use std::net::TcpStream;
+use std::os::fd::{AsRawFd, RawFd};
+use std::{io, rt};
+
+/// A link to a backend, on behalf of the client of its bay where there is one.
+#[derive(Drop)]
+pub struct TcpLink<'b, R> {
+    rt: &'b R,
+    listener: &'b SharedListener,
+    client: &'b ServedClient,
+    stream: TcpStream,
+    pace: Pace,
+    sending: RateFloor,
+    read_faults: u64,
+    write_faults: u64,
+}
+
+// Waits for bytes of a reply. Whether nobody waits for them any more: its client has gone, or it is a silent stream of a
+// server that was closed.
+fn is_abandoned(listener: &SharedListener, client: RawFd, link: RawFd, streams: bool) -> bool {
+    let closes = if streams {
+        keep_alive(link);
+        listener.raw_fd()
+    } else {
+        NO_SOCKET
+    };
+    let events = [(link, INPUT), (client, PEER_END), (closes, BREAK)];
+    let [bytes, gone, _] = wait_for_any(events, listener.limits().wake_interval);
+    !bytes && (gone || streams && listener.is_closed())
+}
+
+// Reads bytes of a reply. Once its head has come, a reply for a client may be silent: it could be a watch. Nothing else may,
+// and what has no client goes on where the listener is closed.
+fn read_reply(
+    rt: &impl rt::Clock,
+    listener: &SharedListener,
+    client: RawFd,
+    stream: &mut TcpStream,
+    pace: &mut Pace,
+    buf: &mut [u8],
+) -> io::Result<usize>
+    ensures { ReadsAtMost result buf.new }
+{
+    let limits = listener.limits();
+    let has_client = client != NO_SOCKET;
+    for _ in 0..MOST_TURNS {
+        let streams = has_client && pace.is_in_body();
+        let start = millis_now(rt);
+        let read = read_some(stream, buf)?;
+        if read.is_none() && is_abandoned(listener, client, stream.as_raw_fd(), streams) {
+            break;
+        }
+        let count = read.unwrap_or(0);
+        let waited = millis_now(rt).saturating_sub(start);
+        let late = !streams
+            && pace.is_late(
+                &buf[..count],
+                waited,
+                limits.response_header_timeout,
+                limits,
+            );
+        if late || has_client && listener.is_past_shutdown(rt) {
+            break;
+        }
+        if read.is_some() {
+            return Ok(count);
+        }
+    }
+    Err(io::Error::from(ErrorKind::TimedOut))
+}
+
+impl<'b, R: rt::Clock> TcpLink<'b, R> {
+    pub(crate) fn new(
+        rt: &'b R,
+        listener: &'b SharedListener,
+        client: &'b ServedClient,
+        stream: TcpStream,
+    ) -> TcpLink<'b, R>
+        ensures reads { link_read_faults result ≡ 0 }
+        ensures writes { link_write_faults result ≡ 0 }
+    {
+        TcpLink {
+            rt,
+            listener,
+            client,
+            stream,
+            pace: Pace::new(),
+            sending: RateFloor::new(),
+            read_faults: 0,
+            write_faults: 0,
+        }
+    }
+
+    // Whether a read or a write failed.
+    pub(crate) fn is_faulty(&self) -> bool
+        ensures { IsTrue result ↔ (0 < link_read_faults self.now + link_write_faults self.now) }
+    {
+        self.read_faults > 0 || self.write_faults > 0
+    }
+}
+
+impl<'b, R: rt::Clock> Source for TcpLink<'b, R> {
+    ghost left = { λ _. None };
+
+    ghost read_faults = { link_read_faults };
+
+    ghost outward = { link_output };
+
+    fn read(&mut self, buf: &mut [u8]) -> Result<usize, PortFault>
+        requires { 0 < length buf.old }
+        ensures bound { ReadsAtMost result buf.new }
+        ensures bytes { ReadConsumes None None result buf.new }
+        ensures cause { HasCause (link_read_faults self.old) (link_read_faults self.new) result }
+        ensures aside { link_output self.new ≡ link_output self.old }
+    {
+        let client = self.client.socket();
+        match read_reply(
+            self.rt,
+            self.listener,
+            client,
+            &mut self.stream,
+            &mut self.pace,
+            buf,
+        ) {
+            Ok(count) => Ok(count),
+            Err(_) => {
+                self.read_faults = self.read_faults.saturating_add(1);
+                Err(PortFault)
+            }
+        }
+    }
+}
+
+impl<'b, R: rt::Clock> ByteSink for TcpLink<'b, R> {
+    ghost written = { λ _. None };
+
+    ghost write_faults = { link_write_faults };
+
+    ghost inward = { link_input };
+
+    fn write(&mut self, piece: &[u8]) -> Result<usize, PortFault>
+        requires { 0 < length piece.now }
+        ensures bound { WritesAtMost result piece.now }
+        ensures some { IfOk result (λ n. 0 < n) }
+        ensures bytes { WriteAppends None None result piece.now }
+        ensures cause { HasCause (link_write_faults self.old) (link_write_faults self.new) result }
+        ensures aside { link_input self.new ≡ link_input self.old }
+    {
+        let has_client = self.client.socket() != NO_SOCKET;
+        match send_some(
+            self.rt,
+            self.listener,
+            has_client,
+            &mut self.stream,
+            &mut self.sending,
+            piece,
+        ) {
+            Ok(count) if count > 0 => Ok(count),
+            _ => {
+                self.write_faults = self.write_faults.saturating_add(1);
+                Err(PortFault)
+            }
+        }
+    }
+}
+
+impl<'b, R: rt::Clock> Link for TcpLink<'b, R> {
+    ghost number = { λ _. 0 };
+
+    ghost outward_is = { λ l. refl };
+
+    ghost inward_is = { λ l. refl };
+}
