@@ -21,9 +21,10 @@ pub struct TcpLimits {
     pub dial_timeout: u64,
     /// How long reads may wait for one head of a reply in all.
     pub response_header_timeout: u64,
-    /// How long requests in progress may go on once the listener was closed. A stream that is silent ends at once.
+    /// How long requests in progress may go on once the listener was closed. A reply that is silent once its head has come
+    /// ends within `wake_interval`, since it could be a watch.
     pub shutdown_timeout: u64,
-    /// How long one wait lasts at most before the state of the listener and of the client is looked at again.
+    /// How long one wait lasts at most before the state of the listener and of the client is looked at again, at least 1.
     pub wake_interval: u64,
 }
 
@@ -42,7 +43,7 @@ pub const DEFAULT_LIMITS: TcpLimits = TcpLimits {
     // `rstAvoidanceDelay` of net/http's server.
     linger_timeout: 500,
     linger_bytes: 16_777_216,
-    // `Timeout` of Go's net.Dialer, which is 30 s in net/http, over the network of a cluster.
+    // `Timeout` of Go's net.Dialer. net/http has 30 s there, but backends stand in the same cluster.
     dial_timeout: 5_000,
     // `ResponseHeaderTimeout` of net/http's Transport, at kube-apiserver's `--request-timeout`.
     response_header_timeout: 60_000,

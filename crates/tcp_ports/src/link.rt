@@ -31,10 +31,11 @@ pub struct TcpLink<'b, R> {
     write_faults: u64,
 }
 
-// Waits for bytes of a reply. Whether nobody waits for them any more: its client has gone, or it is a silent stream of a
-// server that was closed.
+// Waits for bytes of a reply that is silent. Whether nobody wants them any more: its client has gone, or it is a stream, and
+// the listener was closed.
 fn is_abandoned(listener: &SharedListener, client: RawFd, link: RawFd, streams: bool) -> bool {
     let closes = if streams {
+        // A stream has no timeout, but its backend's machine may go.
         keep_alive(link);
         listener.raw_fd()
     } else {

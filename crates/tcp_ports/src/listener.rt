@@ -64,7 +64,10 @@ impl SharedListener {
             listener,
             socket,
             address,
-            limits,
+            limits: TcpLimits {
+                wake_interval: limits.wake_interval.max(1),
+                ..limits
+            },
             closed: AtomicBool::new(false),
             closed_at: AtomicU64::new(0),
             free_bays: AtomicU64::new(0),

@@ -3,7 +3,7 @@ use crate::limits::TcpLimits;
 use crate::rate::RateFloor;
 
 // Where the bytes of a head stand.
-#[derive(Clone, Copy, Debug, PartialEq, Eq)]
+#[derive(Clone, Copy, PartialEq, Eq)]
 enum Place {
     // Nothing came but empty lines, which a receiver skips (RFC 9112, section 2.2).
     Start,
@@ -25,7 +25,7 @@ fn place_after(place: Place, byte: u8) -> Place {
 }
 
 /// How one request or reply comes.
-#[derive(Clone, Copy, Debug, Drop)]
+#[derive(Clone, Copy, Drop)]
 pub(crate) struct Pace {
     place: Place,
     // How long reads waited for its head, in milliseconds.

@@ -2,7 +2,7 @@ ghost use Rattle.std.specs.Prelude.{◌≡◌, ◌↔◌, ◌<◌, IsTrue};
 ghost use Rattle.tcp_ports.specs.Rate.{debt_after, saturating_product};
 
 /// How far a peer is behind the rate that it has to keep. What it moves faster isn't to its credit later.
-#[derive(Clone, Copy, Debug, Drop)]
+#[derive(Clone, Copy, Drop)]
 pub(crate) struct RateFloor {
     // In thousandths of a byte.
     debt: u64,

@@ -221,53 +221,84 @@ fn link_of<'b>(
     Ok((link, peer))
 }
 
-#[test]
-fn a_link_waits_as_long_as_its_client_is_there(rt: HostRuntime) -> Result<(), Fail> {
-    let listener = listen(&rt, SHORT)?;
-    let backend = TcpListener::bind(&rt, "127.0.0.1:0")?;
+// A stream is silent for longer than a head or a post may be, and goes on. How it ends, and after how many milliseconds, where
+// its client leaves, or else where the listener is closed.
+fn stream_end(
+    rt: &HostRuntime,
+    listener: &SharedListener,
+    backend: &TcpListener,
+    leaves: bool,
+) -> Result<(Result<usize, PortFault>, u64), Fail> {
     let served = ServedClient::new();
-    let mut door = TcpDoor::new(&rt, &listener, &served, 0);
-    let mut dial = TcpDial::new(&rt, &listener, &served);
-    let client = connect(&rt, listener.address())?;
+    let mut door = TcpDoor::new(rt, listener, &served, 0);
+    let mut dial = TcpDial::new(rt, listener, &served);
+    let client = connect(rt, listener.address())?;
     let conn = next_of(&mut door)?;
-
-    // A head is late, while a stream may be silent.
-    let (mut link, _peer) = link_of(&mut dial, &backend, "HTTP/1.1 200")?;
-    let (end, spent) = read_out(&rt, &mut link)?;
-    assert_eq!(rt; end, Err(PortFault));
-    assert!(rt; spent >= 240, "head: {spent} ms");
-    dial.done(link);
-    let (mut link, mut peer) = link_of(&mut dial, &backend, HEAD)?;
-    thread::sleep(&rt, Duration::from_millis(600));
+    let (mut link, mut peer) = link_of(&mut dial, backend, HEAD)?;
+    thread::sleep(rt, Duration::from_millis(600));
     peer.write_all(b"event")?;
-    assert_eq!(rt; link.read(&mut [0u8; 64]), Ok(5));
-
-    // The client leaves.
-    client.shutdown(Shutdown::Both)?;
-    let (end, spent) = read_out(&rt, &mut link)?;
-    assert_eq!(rt; end, Err(PortFault));
-    assert!(rt; spent < 2_000, "client gone: {spent} ms");
+    link.read(&mut [0u8; 64])?;
+    if leaves {
+        client.shutdown(Shutdown::Both)?;
+    } else {
+        listener.close();
+    }
+    let end = read_out(rt, &mut link)?;
     dial.done(link);
     door.done(conn);
+    Ok(end)
+}
+
+#[test]
+fn a_stream_may_be_silent_while_its_client_is_there(rt: HostRuntime) -> Result<(), Fail> {
+    let listener = listen(&rt, SHORT)?;
+    let backend = TcpListener::bind(&rt, "127.0.0.1:0")?;
+    for leaves in [true, false] {
+        let (end, spent) = stream_end(&rt, &listener, &backend, leaves)?;
+        assert_eq!(rt; end, Err(PortFault));
+        assert!(rt; spent < 2_000, "{leaves}: {spent} ms");
+    }
     Ok(())
 }
 
 #[test]
-fn a_link_without_a_client_moves_at_the_floor(rt: HostRuntime) -> Result<(), Fail> {
+fn a_link_without_a_client_outlives_a_close_and_moves(rt: HostRuntime) -> Result<(), Fail> {
     let listener = listen(&rt, SHORT)?;
     let backend = TcpListener::bind(&rt, "127.0.0.1:0")?;
     let nobody = ServedClient::new();
     let mut dial = TcpDial::new(&rt, &listener, &nobody);
     listener.close();
-    let (mut link, _peer) = link_of(&mut dial, &backend, HEAD)?;
-    assert_eq!(rt; write_all(&mut link, b"post"), Ok(()));
-    let (end, spent) = read_out(&rt, &mut link)?;
-    assert_eq!(rt; end, Err(PortFault));
-    assert!(rt; spent >= 290, "silent: {spent} ms");
-    dial.done(link);
+    for (reply, least) in [("HTTP/1.1 200", 240), (HEAD, 290)] {
+        let (mut link, _peer) = link_of(&mut dial, &backend, reply)?;
+        assert_eq!(rt; write_all(&mut link, b"post"), Ok(()));
+        let (end, spent) = read_out(&rt, &mut link)?;
+        assert_eq!(rt; end, Err(PortFault));
+        assert!(rt; spent >= least, "{reply}: {spent} ms");
+        dial.done(link);
+    }
     let to = address_of(backend.local_addr()?);
     drop(backend);
     assert!(rt; dial.dial(to).is_err());
+    Ok(())
+}
+
+#[test]
+fn a_request_in_progress_outlives_a_close(rt: HostRuntime) -> Result<(), Fail> {
+    let listener = listen(&rt, DEFAULT_LIMITS)?;
+    let served = ServedClient::new();
+    let mut door = TcpDoor::new(&rt, &listener, &served, 0);
+    let mut client = connect(&rt, listener.address())?;
+    client.write_all(b"GET / HT")?;
+    let mut conn = next_of(&mut door)?;
+    let mut buf = [0u8; 64];
+    assert_eq!(rt; conn.read(&mut buf), Ok(8));
+    listener.close();
+    client.write_all(b"TP/1.1\r\n\r\n")?;
+    assert_eq!(rt; conn.read(&mut buf), Ok(10));
+    assert_eq!(rt; write_all(&mut conn, b"reply"), Ok(()));
+    assert_eq!(rt; conn.read(&mut buf), Ok(0));
+    door.done(conn);
+    assert!(rt; door.next()?.is_none());
     Ok(())
 }
 
