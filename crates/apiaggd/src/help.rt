@@ -35,6 +35,9 @@ Options, as --NAME=VALUE or --NAME VALUE:
                              (default: every request at level Metadata)
   --apiservices=FILE         APIService objects, as JSON: one, or a list of at
                              most 1024 (default: none)
+  --endpoints=FILE           where services are reached, as CSV: the key
+                             NAMESPACE/NAME:PORT, or local for APIs without a
+                             service, and A.B.C.D:PORT (default: none)
   --max-event-size=BYTES     most bytes of an event's line: 256 to 4194304
                              (default: 102400)
   --moment=MICROSECONDS      time of every event, since 1970: 0 to

@@ -7,7 +7,11 @@ use Rattle.token_users.specs.declared.record.Record.{Record}
 use Rattle.token_users.specs.declared.fault.TokenFault.{TokenFault}
 use Rattle.token_users.specs.declared.fault.TokenFault.TheVariants as token
 use Rattle.json_value.specs.Results.{◌>>=◌, fault_of}
-use Rattle.front_config.specs.Load.{Read, IsRead, Gives, HasCause, token_answer, tokens_in, policy_answer, policy_in, rows_answer, opened, table_in}
+use Rattle.service_endpoints.specs.File as ends
+use Rattle.service_endpoints.specs.declared.endpoint.Endpoint.{Endpoint}
+use Rattle.service_endpoints.specs.declared.fault.EndpointFault.{EndpointFault}
+use Rattle.service_endpoints.specs.declared.fault.EndpointFault.TheVariants as end
+use Rattle.front_config.specs.Load.{Read, IsRead, Gives, HasCause, token_answer, tokens_in, policy_answer, policy_in, rows_answer, opened, table_in, endpoints_answer, endpoints_in}
 use Rattle.apiservice_rows.specs.Row.{Row}
 use Rattle.apiservice_rows.specs.RowList.{read_rows}
 use Rattle.apiservice_rows.specs.declared.fault.RowFault.{RowFault}
@@ -75,6 +79,17 @@ rows_answered bytes (Err row.Full) which e = cc e
 pub table_is_read : (bytes : Option (List ℕ)) (which : Which) → fault_of (table_in bytes) ≡ Some (ReadFault which) → ⊥
 table_is_read None which e = cc e
 table_is_read (Some bytes) which e = rows_answered bytes (read_rows bytes) which e
+
+endpoints_answered : (answer : Result (List Endpoint) EndpointFault) (which : Which)
+    → fault_of (endpoints_answer answer) ≡ Some (ReadFault which) → ⊥
+endpoints_answered (Ok records) which e = cc e
+endpoints_answered (Err (end.BadRow row why)) which e = cc e
+endpoints_answered (Err end.Input) which e = cc e
+endpoints_answered (Err end.NoMemory) which e = cc e
+
+pub endpoints_are_read : (bytes : Option (List ℕ)) (which : Which) → fault_of (endpoints_in bytes) ≡ Some (ReadFault which) → ⊥
+endpoints_are_read None which e = cc e
+endpoints_are_read (Some bytes) which e = endpoints_answered (ends.file_records bytes) which e
 
 -- a read may always fail
 pub fault_may_be_read : (told : Option (List (List ℕ × List ℕ))) (name : Option (List ℕ)) → IsRead told name (Err fail.Fault)

@@ -21,9 +21,13 @@ use Rattle.policy_rules.specs.Reading.{read_policy}
 use Rattle.policy_rules.specs.declared.policy.Policy.{Policy}
 use Rattle.policy_rules.specs.declared.fault.PolicyFault.{PolicyFault}
 use Rattle.policy_rules.specs.declared.fault.PolicyFault.TheVariants as policy
+use Rattle.service_endpoints.specs.File as ends
+use Rattle.service_endpoints.specs.declared.endpoint.Endpoint.{Endpoint}
+use Rattle.service_endpoints.specs.declared.fault.EndpointFault.{EndpointFault}
+use Rattle.service_endpoints.specs.declared.fault.EndpointFault.TheVariants as end
 use Rattle.front_config.specs.declared.command.FileNames.{FileNames}
 use Rattle.front_config.specs.declared.files.Loaded.{Loaded}
-use Rattle.front_config.specs.declared.fault.FileFault.TheVariants.{TooLong, NotJson, Token, PolicyFile, RowsFile}
+use Rattle.front_config.specs.declared.fault.FileFault.TheVariants.{TooLong, NotJson, Token, PolicyFile, RowsFile, Endpoint as BadEndpoint}
 use Rattle.front_config.specs.declared.fault.LoadFault.{LoadFault}
 use Rattle.front_config.specs.declared.fault.LoadFault.TheVariants.{ReadFault, BadFile, NoMemory}
 use Rattle.front_config.specs.declared.fault.Which.{Which}
@@ -95,13 +99,42 @@ table_in (Some bytes) = rows_answer bytes (read_rows bytes) >>= (λ rows. Ok (op
 abbrev pub table_of : Option (List ℕ) → Read → Result Table LoadFault
 table_of name read = bytes_in file.Services name read >>= table_in
 
+abbrev pub endpoints_answer : Result (List Endpoint) EndpointFault → Result (List Endpoint) LoadFault
+endpoints_answer (Ok records) = Ok records
+endpoints_answer (Err (end.BadRow row why)) = Err (BadFile file.Endpoints (BadEndpoint row why))
+endpoints_answer (Err end.Input) = Err NoMemory
+endpoints_answer (Err end.NoMemory) = Err NoMemory
+
+-- the endpoints of an endpoints file, none where no file is named
+abbrev pub endpoints_in : Option (List ℕ) → Result (List Endpoint) LoadFault
+endpoints_in None = Ok []
+endpoints_in (Some bytes) = endpoints_answer (ends.file_records bytes)
+
+abbrev pub endpoints_of : Option (List ℕ) → Read → Result (List Endpoint) LoadFault
+endpoints_of name read = bytes_in file.Endpoints name read >>= endpoints_in
+
+-- what the reads of the files gave
+pub record Reads : Type 0 where
+  pub tokens : Read
+  pub policy : Read
+  pub services : Read
+  pub endpoints : Read
+
+-- reads of the files of these names may have given this, the files being told
+pub record AreRead (told : Option (List (List ℕ × List ℕ))) (names : FileNames) (reads : Reads) : Type 0 where
+  pub tokens : IsRead told names.tokens reads.tokens
+  pub policy : IsRead told names.policy reads.policy
+  pub services : IsRead told names.services reads.services
+  pub endpoints : IsRead told names.endpoints reads.endpoints
+
 -- what the files that are named give, one after the other: the first that isn't read or is refused is the answer
-unfoldable pub load_of : FileNames → Read → Read → Read → Result Loaded LoadFault
-load_of names tokens policy services = do
-  records ← tokens_of names.tokens tokens
-  rules ← policy_of names.policy policy
-  table ← table_of names.services services
-  Ok (record { tokens = records; policy = rules; table = table })
+unfoldable pub load_of : FileNames → Reads → Result Loaded LoadFault
+load_of names reads = do
+  records ← tokens_of names.tokens reads.tokens
+  rules ← policy_of names.policy reads.policy
+  table ← table_of names.services reads.services
+  endpoints ← endpoints_of names.endpoints reads.endpoints
+  Ok (record { tokens = records; policy = rules; table = table; endpoints = endpoints })
 
 -- ---- answers
 
@@ -119,6 +152,7 @@ abbrev pub name_for : FileNames → Which → Option (List ℕ)
 name_for names file.Tokens = names.tokens
 name_for names file.Policy = names.policy
 name_for names file.Services = names.services
+name_for names file.Endpoints = names.endpoints
 
 -- only where the count of faults rose is a file said not to be read, and the name told then is that of this file.
 -- Otherwise what is told of the last failure stays

@@ -52,13 +52,14 @@ number_or default (Some text) = found_or Usage (number_of text)
 -- the options of `explain`
 abbrev pub explain_names : List (List ℕ)
 explain_names =
-    codes "token-auth-file" ∷ codes "audit-policy-file" ∷ codes "apiservices" ∷ codes "max-event-size" ∷ codes "moment" ∷ []
+    codes "token-auth-file" ∷ codes "audit-policy-file" ∷ codes "apiservices" ∷ codes "endpoints" ∷ codes "max-event-size" ∷ codes "moment" ∷ []
 
 abbrev pub file_names : List Named → FileNames
 file_names given = record {
   tokens = value_of (codes "token-auth-file") given;
   policy = value_of (codes "audit-policy-file") given;
   services = value_of (codes "apiservices") given;
+  endpoints = value_of (codes "endpoints") given;
 }
 
 abbrev pub ranged_name : Ranged → List ℕ

@@ -3,11 +3,11 @@ ghost use Rattle.std.specs.Prelude.{◌<◌, IfOk, IfSome};
 
 use crate::given::short_number;
 use crate::spelling::behind_dashes;
-use crate::words::{MAX_EVENT_SIZE, MOMENT, POLICY, SERVICES, TOKENS};
+use crate::words::{ENDPOINTS, MAX_EVENT_SIZE, MOMENT, POLICY, SERVICES, TOKENS};
 use front_base::cut_at;
 
 /// The names of the options of `explain`, without their dashes.
-pub const OPTIONS: [&str; 5] = [TOKENS, POLICY, SERVICES, MAX_EVENT_SIZE, MOMENT];
+pub const OPTIONS: [&str; 6] = [TOKENS, POLICY, SERVICES, ENDPOINTS, MAX_EVENT_SIZE, MOMENT];
 
 /// Why a word can't stand where it stands.
 #[derive(Clone, Copy, Debug, PartialEq, Eq)]
@@ -37,7 +37,7 @@ pub struct BadWord {
 
 // The place of an option among those of `explain`.
 fn place_of(name: &str) -> Option<usize>
-    ensures { IfSome result (λ place. place < 5) }
+    ensures { IfSome result (λ place. place < 6) }
 {
     if name == TOKENS {
         Some(0)
@@ -45,20 +45,22 @@ fn place_of(name: &str) -> Option<usize>
         Some(1)
     } else if name == SERVICES {
         Some(2)
-    } else if name == MAX_EVENT_SIZE {
+    } else if name == ENDPOINTS {
         Some(3)
-    } else if name == MOMENT {
+    } else if name == MAX_EVENT_SIZE {
         Some(4)
+    } else if name == MOMENT {
+        Some(5)
     } else {
         None
     }
 }
 
-// The fault of a value, if it has one. Options from the fourth on have numbers.
+// The fault of a value, if it has one. Options from the fifth on have numbers.
 fn value_fault(option: usize, value: &str) -> Option<WordFault> {
     if value.is_empty() {
         Some(WordFault::NoValue)
-    } else if option >= 3 && short_number(value).is_none() {
+    } else if option >= 4 && short_number(value).is_none() {
         Some(WordFault::NotNumber)
     } else {
         None
@@ -74,8 +76,8 @@ fn apart_fault(option: usize, value: &str) -> Option<WordFault> {
 }
 
 // The place of an option that begins with this word, whether it waits for its value, or its fault.
-fn begun(seen: &mut [bool; 5], word: &str) -> Result<(usize, bool), WordFault>
-    ensures { IfOk result (λ found. found.0 < 5) }
+fn begun(seen: &mut [bool; 6], word: &str) -> Result<(usize, bool), WordFault>
+    ensures { IfOk result (λ found. found.0 < 6) }
 {
     let Some(text) = behind_dashes(word) else {
         return Err(WordFault::NotOption);
@@ -102,7 +104,7 @@ fn begun(seen: &mut [bool; 5], word: &str) -> Result<(usize, bool), WordFault>
 
 // The first fault of the words after the command's.
 fn option_fault(words: &[String]) -> Option<BadWord> {
-    let mut seen = [false; 5];
+    let mut seen = [false; 6];
     let mut waits = None;
     for (place, word) in words.iter().enumerate() {
         if place == 0 {

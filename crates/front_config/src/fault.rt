@@ -6,6 +6,7 @@ ghost use Rattle.front_config.specs.declared.fault.WordsFault.TheVariants as wor
 use apiservice_rows::RowFault;
 use front_base::{Bytes, NoMemory as OutOfMemory};
 use policy_rules::PolicyFault;
+use service_endpoints::BadEndpoint;
 use token_users::BadRecord;
 
 /// The options whose numbers have a range.
@@ -72,6 +73,7 @@ pub enum Which {
     Tokens,
     Policy,
     Services,
+    Endpoints,
 }
 
 /// Why the bytes of a file are refused.
@@ -87,6 +89,8 @@ pub enum FileFault {
     PolicyFile(PolicyFault),
     /// A file of APIService objects is refused, and is JSON.
     RowsFile(RowFault),
+    /// The row of an endpoints file with this number is no endpoint. Rows are counted from 0, without blank lines.
+    Endpoint { row: u32, why: BadEndpoint },
 }
 
 /// Why files were not loaded.

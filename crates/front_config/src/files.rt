@@ -10,6 +10,7 @@ use apiservice_table::{RouteTable, read_rows_fit};
 use front_base::{Bytes, MOST_FILE_BYTES, Text};
 use front_ports::{FileFail, Files};
 use policy_rules::{Policy, PolicyFault, read_policy};
+use service_endpoints::{EndpointFault, Endpoints, read_endpoints};
 use std::alloc::Global;
 use token_users::{TokenFault, Tokens, read_tokens};
 
@@ -22,6 +23,8 @@ pub struct Loaded {
     pub policy: Policy,
     /// Of the rows of the file of APIService objects, before any change; of no rows where no file is named.
     pub table: RouteTable,
+    /// Those of the endpoints file; none where no file is named.
+    pub endpoints: Endpoints,
 }
 
 fn name_for(names: &FileNames, which: Which) -> Option<&Text>
@@ -31,6 +34,7 @@ fn name_for(names: &FileNames, which: Which) -> Option<&Text>
         Which::Tokens => names.tokens.as_ref(),
         Which::Policy => names.policy.as_ref(),
         Which::Services => names.services.as_ref(),
+        Which::Endpoints => names.endpoints.as_ref(),
     }
 }
 
@@ -170,14 +174,46 @@ fn table_of<F: Files>(
     table_in(alloc, bytes)
 }
 
+fn endpoints_in(alloc: Global, bytes: Option<Bytes>) -> Result<Endpoints, LoadFault>
+    requires { IfSome bytes (λ bytes. length bytes ≤ MOST_FILE_BYTES) }
+    ensures { spec.Gives result (spec.endpoints_in bytes) }
+{
+    let Some(bytes) = bytes else {
+        return Ok(Endpoints::none(alloc));
+    };
+    match read_endpoints(alloc, bytes.as_slice()) {
+        Ok(endpoints) => Ok(endpoints),
+        Err(EndpointFault::BadRow { row, why }) => Err(LoadFault::BadFile {
+            which: Which::Endpoints,
+            fault: FileFault::Endpoint { row, why },
+        }),
+        Err(EndpointFault::Input | EndpointFault::NoMemory) => Err(LoadFault::NoMemory),
+    }
+}
+
+fn endpoints_of<F: Files>(
+    alloc: Global,
+    names: &FileNames,
+    files: &mut F,
+) -> Result<Endpoints, LoadFault>
+    ensures loaded { (read : spec.Read)
+        × spec.IsRead (F.files files.old) names.now.endpoints read
+        × spec.Gives result (spec.endpoints_of names.now.endpoints read) }
+    ensures cause { spec.HasCause names.now (F.faults files.old) (F.faults files.new)
+        (F.failed files.old) (F.failed files.new) result }
+    ensures kept { KeepsFiles (F.files files.old) (F.files files.new) }
+    ensures sound { OnOk result (F.faults files.new ≡ F.faults files.old) }
+    ensures later { F.faults files.old ≤ F.faults files.new }
+{
+    let bytes = bytes_of(alloc, names, Which::Endpoints, files)?;
+    endpoints_in(alloc, bytes)
+}
+
 /// What the named files say. They are read and checked one after the other, in the order of `Which`, and the first
 /// refusal is the answer.
 pub fn load<F: Files>(alloc: Global, names: &FileNames, files: &mut F) -> Result<Loaded, LoadFault>
-    ensures loaded { (tokens : spec.Read) × (policy : spec.Read) × (services : spec.Read)
-        × spec.IsRead (F.files files.old) names.now.tokens tokens
-        × spec.IsRead (F.files files.old) names.now.policy policy
-        × spec.IsRead (F.files files.old) names.now.services services
-        × spec.Gives result (spec.load_of names.now tokens policy services) }
+    ensures loaded { (reads : spec.Reads) × spec.AreRead (F.files files.old) names.now reads
+        × spec.Gives result (spec.load_of names.now reads) }
     ensures cause { spec.HasCause names.now (F.faults files.old) (F.faults files.new)
         (F.failed files.old) (F.failed files.new) result }
 
@@ -189,9 +225,11 @@ pub fn load<F: Files>(alloc: Global, names: &FileNames, files: &mut F) -> Result
     let tokens = tokens_of(alloc, names, files)?;
     let policy = policy_of(alloc, names, files)?;
     let table = table_of(alloc, names, files)?;
+    let endpoints = endpoints_of(alloc, names, files)?;
     Ok(Loaded {
         tokens,
         policy,
         table,
+        endpoints,
     })
 }

@@ -138,7 +138,7 @@ fn command_lines_and_what_they_ask_for(rt: HostRuntime) -> Result<(), Fail> {
     Ok(())
 }
 
-// Command lines whose words stand between bars, and the file of APIService objects that they name.
+// Command lines whose words stand between bars, and the file of APIService objects that they name, and that of endpoints.
 const SERVICES: &str = "explain -
 explain|--moment=7 -
 explain|--apiservices=s s
@@ -152,11 +152,22 @@ explain|--apiservices= usage
 explain|--apiservices| usage
 explain|--apiservices usage
 explain|--apiservices|-s usage
-explain|--apiservice=s usage";
+explain|--apiservice=s usage
+explain|--endpoints=e -,e
+explain|--endpoints|e|--apiservices=s s,e
+explain|--endpoints=e|--endpoints=e usage
+explain|--endpoints= usage
+explain|--endpoint=e usage";
 
 fn services_named(alloc: Global, words: &Vec<String>) -> Result<String, AllocError> {
     match read_words(alloc, words) {
-        Ok(Command::Explain(told)) => String::from_str(alloc, name_or_dash(&told.files.services)),
+        Ok(Command::Explain(told)) => {
+            let services = name_or_dash(&told.files.services);
+            match &told.files.endpoints {
+                Some(endpoints) => format!(in alloc; "{services},{}", endpoints.as_str()),
+                None => String::from_str(alloc, services),
+            }
+        }
         Err(WordsFault::Usage) => String::from_str(alloc, "usage"),
         Err(fault) => format!(in alloc; "{fault:?}"),
     }
@@ -288,6 +299,8 @@ fn held(alloc: Global, told: &str) -> Result<Bytes, Fail> {
         "EMPTY" => String::new(alloc),
         "TWO ROWS" => String::from_str(alloc, "a,b,c\nx\n")?,
         "TWO RULES" => String::from_str(alloc, TWO_RULES)?,
+        "TWO ENDPOINTS" => String::from_str(alloc, "local,127.0.0.1:7\nlocal,127.0.0.1:8\n")?,
+        "TWO BAD ROWS" => String::from_str(alloc, "\nlocal,127.0.0.1:7\nx,127.0.0.1:8\ny\n")?,
         "LONG" => return Ok(Bytes::new(vec![in alloc; b'\n'; MOST_FILE_BYTES as usize + 1]?)),
         "FULL" => full_list(alloc)?,
         _ if told.starts_with("v1.") => list_of(alloc, told)?,
@@ -305,26 +318,29 @@ fn name_of(alloc: Global, own: &str, told: &str) -> Result<Option<Text>, NoMemor
     }
 }
 
-fn names_of(alloc: Global, tokens: &str, policy: &str, services: &str) -> Result<FileNames, Fail> {
+// What the files `t`, `p`, `s` and `e` hold, by what a table says of each.
+type Told<'t> = [&'t str; 4];
+
+fn names_of(alloc: Global, told: &Told) -> Result<FileNames, Fail> {
+    let [tokens, policy, services, endpoints] = *told;
     Ok(FileNames {
         tokens: name_of(alloc, "t", tokens)?,
         policy: name_of(alloc, "p", policy)?,
         services: name_of(alloc, "s", services)?,
+        endpoints: name_of(alloc, "e", endpoints)?,
     })
 }
 
-// The files `t`, `p` and `s`, of which the read with that number fails.
-fn files_of(alloc: Global, t: &str, p: &str, s: &str, fails: u64) -> Result<MemFiles, Fail> {
-    let tokens = (Text::copy_of(alloc, "t")?, held(alloc, t)?);
-    let policy = (Text::copy_of(alloc, "p")?, held(alloc, p)?);
-    let services = (Text::copy_of(alloc, "s")?, held(alloc, s)?);
-    Ok(MemFiles::new(
-        vec![in alloc; tokens, policy, services]?,
-        vec![in alloc; fails]?,
-    ))
+// The files, of which the read with that number fails.
+fn files_of(alloc: Global, told: &Told, fails: u64) -> Result<MemFiles, Fail> {
+    let mut files = Vec::new(alloc);
+    for (name, told) in ["t", "p", "s", "e"].into_iter().zip(*told) {
+        files.push((Text::copy_of(alloc, name)?, held(alloc, told)?))?;
+    }
+    Ok(MemFiles::new(files, vec![in alloc; fails]?))
 }
 
-// The user of the token `a`, how many rules there are, and the names of the rows.
+// The user of the token `a`, how many rules there are, the names of the rows, and the delegate's port.
 fn said(alloc: Global, loaded: &Loaded) -> Result<String, Fail> {
     let user = match loaded.tokens.user(b"a") {
         Some(user) => user.name.as_str(),
@@ -336,6 +352,10 @@ fn said(alloc: Global, loaded: &Loaded) -> Result<String, Fail> {
         text.push(' ')?;
         text.push_str(row.name.as_str())?;
     }
+    if let Some(address) = loaded.endpoints.of(None) {
+        let port = format!(in alloc; " :{}", address.port)?;
+        text.push_str(port.as_str())?;
+    }
     Ok(text)
 }
 
@@ -346,50 +366,62 @@ fn loaded(alloc: Global, names: &FileNames, files: &mut MemFiles) -> Result<Stri
     }
 }
 
-// What the files of tokens, policy and services hold, which read fails, and what loading gives. Where nothing stands, no
-// file is named; a file `?` is missing.
-const FILES: &str = r#"|||1|- 1
-a,ann,1|||2|ann 1
-|TWO RULES||0|- 2
-||v1.g/g/100|0|- 1 v1.g
-||{"kind":"List"}|0|BadFile { which: Services, fault: RowsFile(BadField { item: None, member: Text("items") }) }
-a,ann,1|TWO RULES||3|ann 2
-a,ann,1|TWO RULES|v1.h/h/100 v1.g/g/100 v1.//100|4|ann 2 v1. v1.g v1.h
-EMPTY|TWO RULES|v1.//1|0|- 2 v1.
-TWO ROWS|x|x|2|BadFile { which: Tokens, fault: Token { row: 1, why: FewFields } }
-a,ann,1|{|x|0|BadFile { which: Policy, fault: NotJson(Bytes([123])) }
-a,ann,1|{"kind":"Policy","apiVersion":"audit.k8s.io/v1"}|{|0|BadFile { which: Policy, fault: PolicyFile(NoRules) }
-a,ann,1|TWO RULES|{|0|BadFile { which: Services, fault: NotJson(Bytes([123])) }
-||{}|0|BadFile { which: Services, fault: RowsFile(BadField { item: None, member: Text("kind") }) }
-||v1.g/G/100|0|BadFile { which: Services, fault: RowsFile(BadField { item: Some(0), member: Text("spec.group") }) }
-||v1.h/g/100|0|BadFile { which: Services, fault: RowsFile(NameMismatch { item: Some(0) }) }
-||v1.g/g/0|0|BadFile { which: Services, fault: RowsFile(Range { item: Some(0), member: Text("spec.groupPriorityMinimum") }) }
-||v1.g/g/100 v1.h/h/100 v1.g/g/1|0|BadFile { which: Services, fault: RowsFile(Repeated { item: 2, name: Text("v1.g") }) }
-||FULL|0|BadFile { which: Services, fault: RowsFile(Full) }
-?|{|{|0|ReadFault { which: Tokens }
-a,ann,1|?|{|0|ReadFault { which: Policy }
-a,ann,1|TWO RULES|?|0|ReadFault { which: Services }
-x|{|{|1|ReadFault { which: Tokens }
-a,ann,1|TWO RULES|{|2|ReadFault { which: Policy }
-a,ann,1|TWO RULES|v1.g/g/100|3|ReadFault { which: Services }
-|TWO RULES|v1.g/g/100|2|ReadFault { which: Services }
-x|?|?|0|BadFile { which: Tokens, fault: Token { row: 0, why: FewFields } }
-|{|?|0|BadFile { which: Policy, fault: NotJson(Bytes([123])) }
-LONG|?||0|BadFile { which: Tokens, fault: TooLong }
-|LONG|?|0|BadFile { which: Policy, fault: TooLong }
-||LONG|0|BadFile { which: Services, fault: TooLong }"#;
+// What the files of tokens, policy, services and endpoints hold, which read fails, and what loading gives. Where nothing
+// stands, no file is named; a file `?` is missing.
+const FILES: &str = r#"||||1|- 1
+a,ann,1||||2|ann 1
+|TWO RULES|||0|- 2
+||v1.g/g/100||0|- 1 v1.g
+|||local,127.0.0.1:9|0|- 1 :9
+||{"kind":"List"}||0|BadFile { which: Services, fault: RowsFile(BadField { item: None, member: Text("items") }) }
+a,ann,1|TWO RULES|||3|ann 2
+a,ann,1|TWO RULES|v1.h/h/100 v1.g/g/100 v1.//100||4|ann 2 v1. v1.g v1.h
+a,ann,1|TWO RULES|v1.g/g/100|TWO ENDPOINTS|5|ann 2 v1.g :8
+EMPTY|TWO RULES|v1.//1||0|- 2 v1.
+TWO ROWS|x|x||2|BadFile { which: Tokens, fault: Token { row: 1, why: FewFields } }
+a,ann,1|{|x||0|BadFile { which: Policy, fault: NotJson(Bytes([123])) }
+a,ann,1|{"kind":"Policy","apiVersion":"audit.k8s.io/v1"}|{||0|BadFile { which: Policy, fault: PolicyFile(NoRules) }
+a,ann,1|TWO RULES|{||0|BadFile { which: Services, fault: NotJson(Bytes([123])) }
+||{}||0|BadFile { which: Services, fault: RowsFile(BadField { item: None, member: Text("kind") }) }
+||v1.g/G/100||0|BadFile { which: Services, fault: RowsFile(BadField { item: Some(0), member: Text("spec.group") }) }
+||v1.h/g/100||0|BadFile { which: Services, fault: RowsFile(NameMismatch { item: Some(0) }) }
+||v1.g/g/0||0|BadFile { which: Services, fault: RowsFile(Range { item: Some(0), member: Text("spec.groupPriorityMinimum") }) }
+||v1.g/g/100 v1.h/h/100 v1.g/g/1||0|BadFile { which: Services, fault: RowsFile(Repeated { item: 2, name: Text("v1.g") }) }
+||FULL||0|BadFile { which: Services, fault: RowsFile(Full) }
+?|{|{||0|ReadFault { which: Tokens }
+a,ann,1|?|{||0|ReadFault { which: Policy }
+a,ann,1|TWO RULES|?||0|ReadFault { which: Services }
+x|{|{||1|ReadFault { which: Tokens }
+a,ann,1|TWO RULES|{||2|ReadFault { which: Policy }
+a,ann,1|TWO RULES|v1.g/g/100||3|ReadFault { which: Services }
+|TWO RULES|v1.g/g/100||2|ReadFault { which: Services }
+x|?|?||0|BadFile { which: Tokens, fault: Token { row: 0, why: FewFields } }
+|{|?||0|BadFile { which: Policy, fault: NotJson(Bytes([123])) }
+LONG|?|||0|BadFile { which: Tokens, fault: TooLong }
+|LONG|?||0|BadFile { which: Policy, fault: TooLong }
+||LONG||0|BadFile { which: Services, fault: TooLong }
+|||s/x:443,127.0.0.1:9|0|- 1
+|||TWO BAD ROWS|0|BadFile { which: Endpoints, fault: Endpoint { row: 1, why: Key } }
+|||a|0|BadFile { which: Endpoints, fault: Endpoint { row: 0, why: Fields } }
+x|||a|0|BadFile { which: Tokens, fault: Token { row: 0, why: FewFields } }
+|{||a|0|BadFile { which: Policy, fault: NotJson(Bytes([123])) }
+||{|?|0|BadFile { which: Services, fault: NotJson(Bytes([123])) }
+a,ann,1|TWO RULES|v1.g/g/100|?|0|ReadFault { which: Endpoints }
+a,ann,1|TWO RULES|v1.g/g/100|x|4|ReadFault { which: Endpoints }
+|||LONG|0|BadFile { which: Endpoints, fault: TooLong }"#;
 
 #[test]
 fn files_and_what_they_give(rt: HostRuntime) -> Result<(), Fail> {
     let alloc = rt.alloc();
     for row in FILES.lines() {
         let parts: Vec<&str> = row.split('|').collect(alloc)?;
-        let [tokens, policy, services, fails, answer] = parts.as_slice() else {
-            return Err("five parts".into());
+        let [tokens, policy, services, endpoints, fails, answer] = parts.as_slice() else {
+            return Err("six parts".into());
         };
-        let names = names_of(alloc, tokens, policy, services)?;
+        let told = [*tokens, *policy, *services, *endpoints];
+        let names = names_of(alloc, &told)?;
         let fails = fails.parse::<u64>().map_err(|_| "a number")?;
-        let mut files = files_of(alloc, tokens, policy, services, fails)?;
+        let mut files = files_of(alloc, &told, fails)?;
         assert_eq!(rt;
             loaded(alloc, &names, &mut files)?.as_str(),
             *answer,

@@ -14,6 +14,8 @@ pub const POLICY: &str = "audit-policy-file";
 
 pub const SERVICES: &str = "apiservices";
 
+pub const ENDPOINTS: &str = "endpoints";
+
 pub const MAX_EVENT_SIZE: &str = "max-event-size";
 
 pub const MOMENT: &str = "moment";
@@ -50,6 +52,7 @@ fn file_names(alloc: Global, options: &Options) -> Result<FileNames, NoMemory>
         tokens: text_of(alloc, TOKENS, options)?,
         policy: text_of(alloc, POLICY, options)?,
         services: text_of(alloc, SERVICES, options)?,
+        endpoints: text_of(alloc, ENDPOINTS, options)?,
     })
 }
 
@@ -75,7 +78,7 @@ fn explain_of(alloc: Global, words: &[String]) -> Result<ExplainWords, WordsFaul
 {
     match given_of(
         alloc,
-        &[TOKENS, POLICY, SERVICES, MAX_EVENT_SIZE, MOMENT],
+        &[TOKENS, POLICY, SERVICES, ENDPOINTS, MAX_EVENT_SIZE, MOMENT],
         words,
     ) {
         Ok(options) => explain_by(alloc, &options),

@@ -2,7 +2,7 @@
 use Rattle.std.proofs.Common.{◌≡◌, ℕ, ◌⊎◌, List, Option, Result, Ok, Err, refl, inl, inr, ⊎_elim}
 use Rattle.apiservice_rows.specs.Row.{Row}
 use Rattle.front_config.specs.Load as load
-use Rattle.front_config.specs.Load.{Read, IsRead, load_of}
+use Rattle.front_config.specs.Load.{Reads, AreRead, load_of}
 use Rattle.front_config.specs.Words as words
 use Rattle.front_config.specs.Words.{command_of}
 use Rattle.front_config.specs.declared.command.Command.{Command}
@@ -53,38 +53,31 @@ words_refused line files (words_fault.Limits option n) why h t = inl (option, n,
 words_refused line files words_fault.NoMemory why h t = tt
 
 -- what the reads of files gave
-abbrev pub loads_of : (line : List (List ℕ)) (told : Told) (explain : ExplainWords) (tokens policy services : Read) (loaded : Result Loaded LoadFault)
-    → command_of line ≡ Ok (Explain explain) → IsRead told explain.files.tokens tokens → IsRead told explain.files.policy policy
-    → IsRead told explain.files.services services → load_of explain.files tokens policy services ≡ loaded → Loads line told loaded
-loads_of line told explain tokens policy services loaded c t p s l = record {
+abbrev pub loads_of : (line : List (List ℕ)) (told : Told) (explain : ExplainWords) (reads : Reads) (loaded : Result Loaded LoadFault)
+    → command_of line ≡ Ok (Explain explain) → AreRead told explain.files reads → load_of explain.files reads ≡ loaded → Loads line told loaded
+loads_of line told explain reads loaded c r l = record {
   explain = explain;
   command = c;
-  tokens = tokens;
-  policy = policy;
-  services = services;
-  tokens_read = t;
-  policy_read = p;
-  services_read = s;
+  reads = reads;
+  read = r;
   load = l;
 }
 
 -- files that are not loaded are refused so
 pub load_refused : (line : List (List ℕ)) (files : FilesPort) (explain : ExplainWords)
-    (tokens policy services : Read) (fault : LoadFault) → command_of line ≡ Ok (Explain explain)
-    → IsRead files.before.told explain.files.tokens tokens
-    → IsRead files.before.told explain.files.policy policy → IsRead files.before.told explain.files.services services
-    → load.Gives (Err fault) (load_of explain.files tokens policy services)
+    (reads : Reads) (fault : LoadFault) → command_of line ≡ Ok (Explain explain)
+    → AreRead files.before.told explain.files reads → load.Gives (Err fault) (load_of explain.files reads)
     → load.HasCause {A = Loaded} explain.files files.before.faults files.after.faults files.before.failed files.after.failed (Err fault)
     → IsRefused line files (status_of_load fault) (why_of_load explain.files fault)
-load_refused line files explain tokens policy services (load_fault.ReadFault which) c t p s h cause =
-    let e : load_of explain.files tokens policy services ≡ Err (load_fault.ReadFault which) = read_due _ which h in (
+load_refused line files explain reads (load_fault.ReadFault which) c r h cause =
+    let e : load_of explain.files reads ≡ Err (load_fault.ReadFault which) = read_due _ which h in (
       cause.0,
-      (which, loads_of line files.before.told explain tokens policy services (Err (load_fault.ReadFault which)) c t p s e, cause.1, refl),
+      (which, loads_of line files.before.told explain reads (Err (load_fault.ReadFault which)) c r e, cause.1, refl),
     )
-load_refused line files explain tokens policy services (load_fault.BadFile which fault) c t p s h cause =
-    let e : load_of explain.files tokens policy services ≡ Err (load_fault.BadFile which fault) = file_due _ which fault h in
-    inr (which, fault, loads_of line files.before.told explain tokens policy services (Err (load_fault.BadFile which fault)) c t p s e, refl)
-load_refused line files explain tokens policy services load_fault.NoMemory c t p s h cause = tt
+load_refused line files explain reads (load_fault.BadFile which fault) c r h cause =
+    let e : load_of explain.files reads ≡ Err (load_fault.BadFile which fault) = file_due _ which fault h in
+    inr (which, fault, loads_of line files.before.told explain reads (Err (load_fault.BadFile which fault)) c r e, refl)
+load_refused line files explain reads load_fault.NoMemory c r h cause = tt
 
 -- ---- what the words alone decide
 

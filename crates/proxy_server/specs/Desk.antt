@@ -3,7 +3,7 @@ use Rattle.std.specs.Prelude.{◌≡◌, ℕ, ◌⊎◌, List, [], Option, Resul
 use Rattle.apiservice_rows.specs.Row.{Row}
 use Rattle.front_ports.specs.Cause.{Rose}
 use Rattle.front_ports.specs.FileMap.{Notes}
-use Rattle.front_config.specs.Load.{Read, IsRead, load_of, name_for}
+use Rattle.front_config.specs.Load.{Reads, AreRead, load_of, name_for}
 use Rattle.front_config.specs.Words.{command_of}
 use Rattle.front_config.specs.declared.command.Command.TheVariants.{Explain}
 use Rattle.front_config.specs.declared.command.ExplainWords.{ExplainWords}
@@ -27,13 +27,9 @@ use Rattle.proxy_server.specs.declared.status.Status.TheVariants.{Usage, Configu
 pub record Loads (words : List (List ℕ)) (told : Told) (loaded : Result Loaded LoadFault) : Type 0 where
   pub explain : ExplainWords
   pub command : command_of words ≡ Ok (Explain explain)
-  pub tokens : Read
-  pub policy : Read
-  pub services : Read
-  pub tokens_read : IsRead told explain.files.tokens tokens
-  pub policy_read : IsRead told explain.files.policy policy
-  pub services_read : IsRead told explain.files.services services
-  pub load : load_of explain.files tokens policy services ≡ loaded
+  pub reads : Reads
+  pub read : AreRead told explain.files reads
+  pub load : load_of explain.files reads ≡ loaded
 
 -- what words and files tell a run
 abbrev pub setup_of : ExplainWords → Loaded → Setup
@@ -41,7 +37,7 @@ setup_of explain loaded = record {
   settings = record {
     tokens = loaded.tokens;
     policy = loaded.policy;
-    endpoints = [];
+    endpoints = loaded.endpoints;
     max_event = explain.max_event;
     log = Off;
     hook = Off;

@@ -18,7 +18,6 @@ use audit_core::{Settings, SinkMode};
 use front_config::{Command, ExplainWords, Loaded, WordsFault, load, read_words};
 use front_ports::{ByteSink, Files, Source};
 use local_replies::LocalPaths;
-use service_endpoints::Endpoints;
 use std::alloc::Global;
 
 // What the command is told, which is the only one that a command line can have here.
@@ -38,7 +37,7 @@ struct Start {
     table: RouteTable,
 }
 
-fn start_of(alloc: Global, explain: ExplainWords, loaded: Loaded) -> Start
+fn start_of(explain: ExplainWords, loaded: Loaded) -> Start
     ensures setup { result.setup ≡ spec.setup_of explain loaded }
     ensures table { result.table ≡ loaded.table }
 {
@@ -47,7 +46,7 @@ fn start_of(alloc: Global, explain: ExplainWords, loaded: Loaded) -> Start
             settings: Settings {
                 tokens: loaded.tokens,
                 policy: loaded.policy,
-                endpoints: Endpoints::none(alloc),
+                endpoints: loaded.endpoints,
                 max_event: explain.max_event,
                 log: SinkMode::Off,
                 hook: SinkMode::Off,
@@ -74,7 +73,7 @@ fn configure<F: Files>(alloc: Global, words: &Vec<String>, files: &mut F) -> Res
         Err(fault) => return Err(words_outcome(words, &fault)),
     };
     match load(alloc, &explain.files, files) {
-        Ok(loaded) => Ok(start_of(alloc, explain, loaded)),
+        Ok(loaded) => Ok(start_of(explain, loaded)),
         Err(fault) => Err(load_outcome(explain.files, fault)),
     }
 }
@@ -128,8 +127,8 @@ fn desk<F: Files, S: Source, O: ByteSink>(
 }
 
 /// The command `explain`: reads the requests of an input and writes the audit lines that each of them owes, each with a
-/// line feed, under the policy and the tokens of the files that the words name, and by the APIServices of the third one,
-/// which the requests may change.
+/// line feed, under the policy and the tokens of the files that the words name, and by the APIServices of a third one,
+/// which the requests may change, and the endpoints of a fourth one.
 ///
 /// It answers the code of a `Status`, and what was refused: the fault of the words, or that of a file by its name. Which
 /// word is bad, and a refused request's number and first byte, are told too, and no clause speaks of them.

@@ -18,6 +18,10 @@ const POLICY: &str = "{\"kind\":\"Policy\",\"apiVersion\":\"audit.k8s.io/v1\",\"
 {\"level\":\"Request\",\"resources\":[{\"group\":\"\",\"resources\":[\"configmaps\"]}]},\
 {\"level\":\"Metadata\"}]}";
 
+// One rule for all requests.
+const REQUESTS: &str =
+    "{\"kind\":\"Policy\",\"apiVersion\":\"audit.k8s.io/v1\",\"rules\":[{\"level\":\"Request\"}]}";
+
 const TOKENS: &str = "t1,ann,7,\"dev,ops\"\nt2,root,1,\"system:masters\"\n";
 
 // The core API, and one of a group whose service is down.
@@ -26,6 +30,9 @@ const SERVICES: &str = "{\"apiVersion\":\"v1\",\"kind\":\"List\",\"items\":[\
 {\"metadata\":{\"name\":\"v1.down\"},\"spec\":{\"group\":\"down\",\"version\":\"v1\",\"groupPriorityMinimum\":100,\
 \"versionPriority\":10,\"service\":{\"namespace\":\"s\",\"name\":\"x\"}},\
 \"status\":{\"conditions\":[{\"type\":\"Available\",\"status\":\"False\"}]}}]}";
+
+// Where a service is reached, and the delegate.
+const ENDPOINTS: &str = "s/x:443,127.0.0.1:9001\nlocal,10.0.0.255:65535\n";
 
 // How a run ended, and what it wrote.
 #[derive(Drop)]
@@ -43,7 +50,7 @@ fn words_of(alloc: Global, line: &str) -> Result<Vec<String>, AllocError> {
     Ok(words)
 }
 
-// A policy `p`, tokens `t`, APIServices `s`, and a file `bad` that is none of them. It tells nothing.
+// Policies `p` and `r`, tokens `t`, APIServices `s`, endpoints `e`, and a file `bad` that is none of them. It tells nothing.
 #[derive(Drop)]
 struct Shelf {
     faults: u64,
@@ -60,7 +67,9 @@ impl Files for Shelf {
         let text = match name {
             "p" => POLICY,
             "t" => TOKENS,
+            "r" => REQUESTS,
             "s" => SERVICES,
+            "e" => ENDPOINTS,
             "bad" => "x",
             _ => {
                 self.faults = self.faults.saturating_add(1);
@@ -145,7 +154,7 @@ fn a_list_request_owes_two_lines(rt: HostRuntime) -> Result<(), Fail> {
 }
 
 // A command line, an input of which LF stands for CR LF, the status, and the lengths of the lines with their line feeds.
-// A line feed in a chunk's size line is CR LF too.
+// A line feed in a chunk's size line is CR LF too. A `#` stands for 92 letters.
 const RUNS: &str = "\
 explain|GET /api/v1/namespaces/a/pods HTTP/1.0~~GET|0|468 513
 explain|GET /api/v1/namespaces/a/pods HTTP/1.1~connection: x, Close~~GET|0|468 513
@@ -173,6 +182,13 @@ explain --token-auth-file=bad||3|
 explain --audit-policy-file=bad||3|
 explain --audit-policy-file=none||4|
 explain --token-auth-file=none --audit-policy-file=bad||4|
+explain --endpoints=bad||3|
+explain --endpoints=none||4|
+explain --endpoints=none --audit-policy-file=bad||3|
+explain --audit-policy-file=r --max-event-size=630|POST /api/v1/namespaces/a/pods HTTP/1.1~Content-Length: 100~~{\"a\":\"#\"}|0|469 631
+explain --audit-policy-file=r --max-event-size=629|POST /api/v1/namespaces/a/pods HTTP/1.1~Content-Length: 100~~{\"a\":\"#\"}|0|469 562
+explain --audit-policy-file=r --max-event-size 561|POST /api/v1/namespaces/a/pods HTTP/1.1~Content-Length: 100~~{\"a\":\"#\"}|0|469 562
+explain --audit-policy-file=r --max-event-size=560|POST /api/v1/namespaces/a/pods HTTP/1.1~Content-Length: 100~~{\"a\":\"#\"}|0|469
 ";
 
 // The lengths of lines, with spaces between.
@@ -191,7 +207,9 @@ fn lengths_of(alloc: Global, output: &[u8]) -> Result<String, AllocError> {
 fn input_of(alloc: Global, told: &str) -> Result<String, AllocError> {
     let mut input = String::new(alloc);
     for c in told.chars() {
-        if c == '~' {
+        if c == '#' {
+            input.push_str("x".repeat(alloc, 92)?.as_str())?;
+        } else if c == '~' {
             input.push_str("\r\n")?;
         } else {
             input.push(c)?;

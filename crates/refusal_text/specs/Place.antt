@@ -5,7 +5,7 @@ use Rattle.std.specs.Str.{bytes_eq}
 use Rattle.apiservice_rows.specs.declared.fault.RowFault.{RowFault}
 use Rattle.apiservice_rows.specs.declared.fault.RowFault.TheVariants as row
 use Rattle.front_config.specs.declared.fault.FileFault.{FileFault}
-use Rattle.front_config.specs.declared.fault.FileFault.TheVariants.{TooLong, NotJson, Token, PolicyFile, RowsFile}
+use Rattle.front_config.specs.declared.fault.FileFault.TheVariants.{TooLong, NotJson, Token, PolicyFile, RowsFile, Endpoint}
 use Rattle.policy_rules.specs.declared.fault.PolicyFault.{PolicyFault}
 use Rattle.policy_rules.specs.declared.fault.PolicyFault.TheVariants as policy
 
@@ -50,3 +50,4 @@ place_of (NotJson bytes) = []
 place_of (Token n why) = codes "record " ++ decimal (n + 1)
 place_of (PolicyFile fault) = policy_place fault
 place_of (RowsFile fault) = row_place fault
+place_of (Endpoint n why) = codes "record " ++ decimal (n + 1)

@@ -18,6 +18,7 @@ abbrev pub option_of : Which → List ℕ
 option_of file.Tokens = codes "--token-auth-file"
 option_of file.Policy = codes "--audit-policy-file"
 option_of file.Services = codes "--apiservices"
+option_of file.Endpoints = codes "--endpoints"
 
 abbrev pub name_or_none : Option (List ℕ) → List ℕ
 name_or_none None = []

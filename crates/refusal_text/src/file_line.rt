@@ -6,7 +6,7 @@ ghost use Rattle.refusal_text.specs.Text as spec;
 
 use crate::json_place::json_reason;
 use crate::place::place_of;
-use crate::reason::{policy_reason, record_reason, row_reason};
+use crate::reason::{endpoint_reason, policy_reason, record_reason, row_reason};
 use front_config::{FileFault, FileNames, LoadFault, Which};
 use std::alloc::{AllocError, Global};
 
@@ -17,6 +17,7 @@ fn option_of(which: Which) -> &'static str
         Which::Tokens => "--token-auth-file",
         Which::Policy => "--audit-policy-file",
         Which::Services => "--apiservices",
+        Which::Endpoints => "--endpoints",
     }
 }
 
@@ -27,6 +28,7 @@ fn name_of(names: &FileNames, which: Which) -> &str
         Which::Tokens => names.tokens.as_ref(),
         Which::Policy => names.policy.as_ref(),
         Which::Services => names.services.as_ref(),
+        Which::Endpoints => names.endpoints.as_ref(),
     };
     match name {
         Some(name) => name.as_str(),
@@ -50,6 +52,7 @@ fn reason_of(alloc: Global, fault: &FileFault) -> Result<String, AllocError> {
         FileFault::Token { why, .. } => String::from_str(alloc, record_reason(*why)),
         FileFault::PolicyFile(fault) => String::from_str(alloc, policy_reason(fault)),
         FileFault::RowsFile(fault) => String::from_str(alloc, row_reason(fault)),
+        FileFault::Endpoint { why, .. } => String::from_str(alloc, endpoint_reason(*why)),
     }
 }
 

@@ -108,14 +108,16 @@ fn record_place(alloc: Global, row: u32) -> Result<String, AllocError>
     format!(in alloc; "record {number}")
 }
 
-/// Where in its file a fault is: the record of a token file, or the member of a policy or of APIService objects. Empty for
-/// the file as a whole.
+/// Where in its file a fault is: the record of a file of tokens or endpoints, or the member of a policy or of APIService
+/// objects. Empty for the file as a whole.
 pub fn place_of(alloc: Global, fault: &FileFault) -> Result<String, AllocError>
     ensures { IfOk result (λ text. string_bytes text ≡ spec.place_of fault.now) }
 {
     match fault {
         FileFault::TooLong | FileFault::NotJson(_) => Ok(String::new(alloc)),
-        FileFault::Token { row, .. } => record_place(alloc, *row),
+        FileFault::Token { row, .. } | FileFault::Endpoint { row, .. } => {
+            record_place(alloc, *row)
+        }
         FileFault::PolicyFile(fault) => policy_place(alloc, fault),
         FileFault::RowsFile(fault) => row_place(alloc, fault),
     }

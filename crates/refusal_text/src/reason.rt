@@ -1,6 +1,7 @@
 // Why a file is refused, in words.
 use apiservice_rows::RowFault;
 use policy_rules::PolicyFault;
+use service_endpoints::BadEndpoint;
 use token_users::{BadRecord, Field};
 
 const WHOLE_NUMBERS: &str = "a number with a fraction or an exponent, -0, or one past 64 bits";
@@ -22,6 +23,14 @@ pub fn record_reason(why: BadRecord) -> &'static str {
         BadRecord::NotUtf8(field) => not_utf8(field),
         BadRecord::Control(Field::Groups) => "the groups have a control character",
         BadRecord::Control(_) => "the user has a control character",
+    }
+}
+
+pub fn endpoint_reason(why: BadEndpoint) -> &'static str {
+    match why {
+        BadEndpoint::Fields => "not 2 columns",
+        BadEndpoint::Key => "the key is neither \"local\" nor NAMESPACE/NAME:PORT of a service",
+        BadEndpoint::Address => "the address is not A.B.C.D:PORT or localhost:PORT",
     }
 }
 

@@ -24,6 +24,7 @@ explain|--audit-policy=p --audit-policy: unknown option; did you mean --audit-po
 explain|--apiservice|s --apiservice: unknown option; did you mean --apiservices?
 explain|--max-event=256 --max-event: unknown option; did you mean --max-event-size?
 explain|--momnt=1 --momnt: unknown option; did you mean --moment?
+explain|--endpoint=e --endpoint: unknown option; did you mean --endpoints?
 explain|--moment= --moment: no value
 explain|--moment=1|--moment|2 --moment: given twice
 explain|--moment=1x --moment: not a number of 64 bits"#;
@@ -55,10 +56,12 @@ fn names_of(alloc: Global, kind: &str) -> Result<FileNames, NoMemory> {
         tokens: None,
         policy: None,
         services: None,
+        endpoints: None,
     };
     match kind {
         "t" => names.tokens = Some(Text::copy_of(alloc, "t.csv")?),
         "p" => names.policy = Some(Text::copy_of(alloc, "a/p.json")?),
+        "e" => names.endpoints = Some(Text::copy_of(alloc, "e.csv")?),
         _ => names.services = Some(Text::copy_of(alloc, "s.json")?),
     }
     Ok(names)
@@ -92,6 +95,7 @@ fn file_told(alloc: Global, kind: &str, bytes: Bytes, fails: u64) -> Result<Stri
     let own = match kind {
         "t" => "t.csv",
         "p" => "a/p.json",
+        "e" => "e.csv",
         _ => "s.json",
     };
     let file = (Text::copy_of(alloc, own)?, bytes);
@@ -147,12 +151,16 @@ s#¤{"metadata":{"name":"x"},"spec":{"version":"v1","groupPriorityMinimum":1,"ve
 s#¤{"metadata":{"name":"v1."},"spec":{"version":"v1","groupPriorityMinimum":0,"versionPriority":1}}]}#items[1].spec.groupPriorityMinimum: out of range: not in 1..20000
 s#¤{"metadata":{"name":"v1."},"spec":{"version":"v1","groupPriorityMinimum":1,"versionPriority":1001}}]}#items[1].spec.versionPriority: out of range: not in 1..1000
 s#¤{"metadata":{"name":"v1."},"spec":{"version":"v1","groupPriorityMinimum":1,"versionPriority":1,"service":{"namespace":"s","name":"x","port":0}}}]}#items[1].spec.service.port: out of range: not in 1..65535
-s#¤{"metadata":{"name":"v1."},"spec":{"version":"v1","groupPriorityMinimum":1,"versionPriority":1}}]}#items[1].metadata.name: the name of an item before it"##;
+s#¤{"metadata":{"name":"v1."},"spec":{"version":"v1","groupPriorityMinimum":1,"versionPriority":1}}]}#items[1].metadata.name: the name of an item before it
+e#local,127.0.0.1:1,x#record 1: not 2 columns
+e#^local,127.0.0.1:1^s/x,127.0.0.1:1#record 2: the key is neither "local" nor NAMESPACE/NAME:PORT of a service
+e#s/x:443,x:1#record 1: the address is not A.B.C.D:PORT or localhost:PORT"##;
 
 fn head_of(kind: &str) -> &str {
     match kind {
         "t" => "--token-auth-file=t.csv",
         "p" => "--audit-policy-file=a/p.json",
+        "e" => "--endpoints=e.csv",
         _ => "--apiservices=s.json",
     }
 }

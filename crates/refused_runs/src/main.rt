@@ -14,6 +14,7 @@ explain --audit-policy-file=policy.json|
 explain --audit-policy-file=policy-cut.json|
 explain --apiservices apiservices.json|
 explain --apiservices=missing.json|
+explain --endpoints=endpoints.csv|
 explain --max-event-size=0|
 explain --audit-polcy-file=policy.json|
 explain --moment=1 --moment 2|

@@ -10,7 +10,7 @@ returns-in-Ok-load-clause-ok g c =
     let l = c.in-Ok-load.ensures.loaded in
     record {
       loaded = c.in-Ok-load.loaded;
-      loads = loads_of _ _ c.in-Ok.explain l.0 l.1 l.2 (Ok c.in-Ok-load.loaded) c.in-Ok.ensures l.3 l.4 l.5 l.6;
+      loads = loads_of _ _ c.in-Ok.explain l.0 (Ok c.in-Ok-load.loaded) c.in-Ok.ensures l.1 l.2;
       are = c.start_of.ensures.setup;
       rows_are = ap (λ table. table.rows) c.start_of.ensures.table;
     }
@@ -30,7 +30,7 @@ returns-in-Err-load-clause-err g c =
     (subst
     (λ why. spec.IsRefused line files (status_of_load c.in-Err-load.fault) why)
     (sym c.load_outcome.ensures.why)
-    (load_refused line files c.in-Ok.explain l.0 l.1 l.2 c.in-Err-load.fault c.in-Ok.ensures l.3 l.4 l.5 l.6 c.in-Err-load.ensures.cause))
+    (load_refused line files c.in-Ok.explain l.0 c.in-Err-load.fault c.in-Ok.ensures l.1 l.2 c.in-Err-load.ensures.cause))
 
 pub returns-in-Err-clause-err : goal.returns-in-Err-clause-err
 returns-in-Err-clause-err g c =
