@@ -25,9 +25,9 @@ what was refused:
 pub const EXPLAIN_HELP: &str = "\
 Usage: apiaggd explain [OPTION].. < REQUESTS
 
-Prints the audit events that requests to a Kubernetes API server cause.
-Reads HTTP/1.1 requests from standard input and writes one line of JSON for
-each event to standard output.
+Prints the audit events that requests to a Kubernetes API server cause, or
+where the requests go. Reads HTTP/1.1 requests from standard input and writes
+one line of JSON for each event to standard output.
 
 Options, as --NAME=VALUE or --NAME VALUE:
   --token-auth-file=FILE     known bearer tokens, as CSV (default: none)
@@ -42,6 +42,9 @@ Options, as --NAME=VALUE or --NAME VALUE:
                              (default: 102400)
   --moment=MICROSECONDS      time of every event, since 1970: 0 to
                              253370764799999999 (default: 0)
+  --routes                   writes one line for each request in the place of
+                             its events: its number, and backend with the
+                             address, or local or refused with the status
 
 A file has at most 16777216 bytes.
 

@@ -2,6 +2,7 @@ mod ClapLemmas
 mod DistinctLemmas
 mod DoubtLemmas
 mod FaultLemmas
+mod FlagLemmas
 mod LoadLemmas
 mod OptionLemmas
 mod ParserLemmas

@@ -1,3 +1,4 @@
+pub mod Flag
 pub mod Load
 pub mod Parser
 pub mod Spelling

@@ -1,11 +1,12 @@
 -- The command lines of the program.
-use Rattle.std.specs.Prelude.{ℕ, ◌&&◌, ◌||◌, not, nat_lt, Bool, true, false, if◌then◌else◌, List, [], ◌∷◌, length, Option, Some, None, Result, Ok, Err, codes}
+use Rattle.std.specs.Prelude.{ℕ, ◌&&◌, ◌||◌, not, nat_lt, Bool, true, false, if◌then◌else◌, List, [], ◌∷◌, length, map, Option, Some, None, is_some, Result, Ok, Err, codes}
 use Rattle.std.specs.List.{list_any}
 use Rattle.std.specs.Str.{bytes_eq}
 use Rattle.json_value.specs.Results.{◌>>=◌, found_or}
 use Rattle.json_value.specs.Results as results
 use Rattle.front_base.specs.Number as base
 use Rattle.front_base.specs.declared.moment.TheConstants.{MOMENT_END}
+use Rattle.front_config.specs.Flag.{as_option, gives_value}
 use Rattle.front_config.specs.Spelling.{Named, options_of}
 use Rattle.front_config.specs.declared.command.Command.{Command}
 use Rattle.front_config.specs.declared.command.Command.TheVariants.{Explain}
@@ -52,7 +53,8 @@ number_or default (Some text) = found_or Usage (number_of text)
 -- the options of `explain`
 abbrev pub explain_names : List (List ℕ)
 explain_names =
-    codes "token-auth-file" ∷ codes "audit-policy-file" ∷ codes "apiservices" ∷ codes "endpoints" ∷ codes "max-event-size" ∷ codes "moment" ∷ []
+    codes "token-auth-file" ∷ codes "audit-policy-file" ∷ codes "apiservices" ∷ codes "endpoints" ∷ codes "max-event-size" ∷ codes "moment"
+    ∷ codes "routes" ∷ []
 
 abbrev pub file_names : List Named → FileNames
 file_names given = record {
@@ -90,10 +92,14 @@ explain_by given = do
   micros ← number_or 0 (value_of (codes "moment") given)
   max_event ← max_event_of size
   moment ← moment_of micros
-  Ok (record { files = file_names given; max_event = max_event; moment = moment })
+  Ok (record { files = file_names given; max_event = max_event; moment = moment; routes = is_some (value_of (codes "routes") given) })
+
+-- the options that words spell, where no word gives the flag a value
+unfoldable pub explain_given : List (List ℕ) → Result (List Named) WordsFault
+explain_given words = if list_any gives_value words then Err Usage else given_of explain_names (map as_option words)
 
 unfoldable pub explain_of : List (List ℕ) → Result ExplainWords WordsFault
-explain_of words = given_of explain_names words >>= explain_by
+explain_of words = explain_given words >>= explain_by
 
 abbrev pub explained : Result ExplainWords WordsFault → Result Command WordsFault
 explained (Ok words) = Ok (Explain words)

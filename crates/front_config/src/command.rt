@@ -18,6 +18,8 @@ pub struct ExplainWords {
     pub max_event: u64,
     /// What the clock shows, for all of the run.
     pub moment: Moment,
+    /// Whether to say where each request goes, in the place of its audit lines.
+    pub routes: bool,
 }
 
 /// A command and what it was told.

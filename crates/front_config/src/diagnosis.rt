@@ -3,11 +3,22 @@ ghost use Rattle.std.specs.Prelude.{◌<◌, IfOk, IfSome};
 
 use crate::given::short_number;
 use crate::spelling::behind_dashes;
-use crate::words::{ENDPOINTS, MAX_EVENT_SIZE, MOMENT, POLICY, SERVICES, TOKENS};
+use crate::words::{ENDPOINTS, MAX_EVENT_SIZE, MOMENT, POLICY, ROUTES, SERVICES, TOKENS};
 use front_base::cut_at;
 
 /// The names of the options of `explain`, without their dashes.
-pub const OPTIONS: [&str; 6] = [TOKENS, POLICY, SERVICES, ENDPOINTS, MAX_EVENT_SIZE, MOMENT];
+pub const OPTIONS: [&str; 7] = [
+    TOKENS,
+    POLICY,
+    SERVICES,
+    ENDPOINTS,
+    MAX_EVENT_SIZE,
+    MOMENT,
+    ROUTES,
+];
+
+// The place of the one that is a flag.
+const FLAG: usize = 6;
 
 /// Why a word can't stand where it stands.
 #[derive(Clone, Copy, Debug, PartialEq, Eq)]
@@ -24,6 +35,8 @@ pub enum WordFault {
     NoValue,
     /// The option was given before.
     Twice,
+    /// The option is a flag, and a value is given.
+    HasValue,
     /// The option's value isn't a number that fits 64 bits.
     NotNumber,
 }
@@ -37,7 +50,7 @@ pub struct BadWord {
 
 // The place of an option among those of `explain`.
 fn place_of(name: &str) -> Option<usize>
-    ensures { IfSome result (λ place. place < 6) }
+    ensures { IfSome result (λ place. place < 7) }
 {
     if name == TOKENS {
         Some(0)
@@ -51,14 +64,18 @@ fn place_of(name: &str) -> Option<usize>
         Some(4)
     } else if name == MOMENT {
         Some(5)
+    } else if name == ROUTES {
+        Some(FLAG)
     } else {
         None
     }
 }
 
-// The fault of a value, if it has one. Options from the fifth on have numbers.
+// The fault of a value, if it has one. Options from the fifth on have numbers, but for the flag.
 fn value_fault(option: usize, value: &str) -> Option<WordFault> {
-    if value.is_empty() {
+    if option == FLAG {
+        Some(WordFault::HasValue)
+    } else if value.is_empty() {
         Some(WordFault::NoValue)
     } else if option >= 4 && short_number(value).is_none() {
         Some(WordFault::NotNumber)
@@ -76,8 +93,8 @@ fn apart_fault(option: usize, value: &str) -> Option<WordFault> {
 }
 
 // The place of an option that begins with this word, whether it waits for its value, or its fault.
-fn begun(seen: &mut [bool; 6], word: &str) -> Result<(usize, bool), WordFault>
-    ensures { IfOk result (λ found. found.0 < 6) }
+fn begun(seen: &mut [bool; 7], word: &str) -> Result<(usize, bool), WordFault>
+    ensures { IfOk result (λ found. found.0 < 7) }
 {
     let Some(text) = behind_dashes(word) else {
         return Err(WordFault::NotOption);
@@ -94,7 +111,7 @@ fn begun(seen: &mut [bool; 6], word: &str) -> Result<(usize, bool), WordFault>
     }
     seen[option] = true;
     match value {
-        None => Ok((option, true)),
+        None => Ok((option, option != FLAG)),
         Some(value) => match value_fault(option, value) {
             None => Ok((option, false)),
             Some(fault) => Err(fault),
@@ -104,7 +121,7 @@ fn begun(seen: &mut [bool; 6], word: &str) -> Result<(usize, bool), WordFault>
 
 // The first fault of the words after the command's.
 fn option_fault(words: &[String]) -> Option<BadWord> {
-    let mut seen = [false; 6];
+    let mut seen = [false; 7];
     let mut waits = None;
     for (place, word) in words.iter().enumerate() {
         if place == 0 {

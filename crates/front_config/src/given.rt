@@ -1,5 +1,5 @@
 // The options of a command, each given once at most, as `clap` reads them.
-ghost use Rattle.std.specs.Prelude.{◌≡◌, ◌≢◌, [], IfOk, IfSome, None, false, map, option_map, string_bytes};
+ghost use Rattle.std.specs.Prelude.{◌≡◌, ◌≢◌, [], IfOk, IfSome, None, false, is_some, map, option_map, string_bytes};
 ghost use Rattle.clap.specs.Words.{app_of, fault_of, found_of, matches_of, rows_of, rule_of};
 ghost use Rattle.front_config.specs.Parser as parser;
 ghost use Rattle.front_config.specs.Spelling.{is_among};
@@ -106,6 +106,13 @@ fn value_of<'w>(name: &str, options: &Options<'w>) -> Option<&'w str>
     ensures { option_map (λ value. value.now) result ≡ spec.value_of name.now options.now }
 {
     options.matches.get_str(name)
+}
+
+/// An option of that name is given.
+pub fn is_given(name: &str, options: &Options) -> bool
+    ensures { result ≡ is_some (spec.value_of name.now options.now) }
+{
+    value_of(name, options).is_some()
 }
 
 /// The text that an option of that name has.

@@ -1,10 +1,11 @@
 // What the definition of options means.
-ghost use Rattle.std.specs.Prelude.{◌≡◌, ◌↔◌, ◌++◌, ◌∷◌, [], ℕ, IsOk, IsUtf8, List, Ok, false, codes};
+ghost use Rattle.std.specs.Prelude.{◌≡◌, ◌↔◌, ◌++◌, ◌∷◌, [], ℕ, if◌then◌else◌, Err, IsOk, IsUtf8, List, Ok, false, codes};
 ghost use Rattle.std.specs.List.{All, list_any};
 ghost use Rattle.clap.specs.Words.{fault_of, first_of, matches_of};
 ghost use Rattle.front_config.specs.Parser.{app_with, is_doubtful};
 ghost use Rattle.front_config.specs.Spelling.{Named, begins_with_dash, has_equals_sign, options_of};
-ghost use Rattle.front_config.specs.Words.{given_of, value_of};
+ghost use Rattle.front_config.specs.Words.{explain_given, given_of, has_name, value_of};
+ghost use Rattle.front_config.specs.declared.fault.WordsFault.TheVariants as words_fault;
 
 /// An option means the same in one word and in two, where it can be spelled in both.
 pub fn both_spellings()
@@ -12,6 +13,13 @@ pub fn both_spellings()
         → has_equals_sign name ≡ false → begins_with_dash value ≡ false
         → options_of names ((codes "--" ++ (name ++ 61 ∷ value)) ∷ words)
         ≡ options_of names ((codes "--" ++ name) ∷ value ∷ words) }
+{}
+
+/// The flag of `explain` is one word. In front of words that spell options it is one option more, unless they have it.
+pub fn the_flag_is_one_word()
+    ensures { (words : List (List ℕ)) (given : List Named) → explain_given words ≡ Ok given
+        → explain_given (codes "--routes" ∷ words)
+        ≡ (if has_name (codes "routes") given then Err words_fault.Usage else Ok ((codes "routes", codes "true") ∷ given)) }
 {}
 
 /// Where no word is doubtful, `clap` takes the words exactly where they are options given once each, and finds the values

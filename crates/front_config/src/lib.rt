@@ -12,6 +12,7 @@ mod command;
 mod diagnosis;
 mod fault;
 mod files;
+mod flag;
 mod given;
 mod laws;
 mod spelling;
@@ -21,7 +22,7 @@ pub use command::{Command, ExplainWords, FileNames};
 pub use diagnosis::{BadWord, OPTIONS, WordFault, bad_word};
 pub use fault::{FileFault, LoadFault, Ranged, Which, WordsFault};
 pub use files::{Loaded, load};
-pub use laws::{both_spellings, clap_agrees};
+pub use laws::{both_spellings, clap_agrees, the_flag_is_one_word};
 pub use words::read_words;
 
 #[cfg(test)]

@@ -211,6 +211,48 @@ fn lines_have_a_greatest_length(rt: HostRuntime) -> Result<(), Fail> {
     Ok(())
 }
 
+// Command lines whose words stand between bars, and whether they ask for routes, and at which moment.
+const ROUTES: &str = "explain false 0
+explain|--routes true 0
+explain|--routes|--moment=1 true 1
+explain|--moment|1|--routes true 1
+explain|--token-auth-file=--routes false 0
+explain|--token-auth-file|routes|--routes true 0
+explain|--routes|--routes Usage
+explain|--routes|x Usage
+explain|--routes|1|--moment=1 Usage
+explain|--moment|--routes Usage
+explain|--moment|--routes|1 Usage
+explain|--routes= Usage
+explain|--routes=true Usage
+explain|--routes|--routes=true Usage
+explain|--token-auth-file|--routes=true Usage
+explain|-routes Usage
+explain|--Routes Usage
+explain|routes Usage
+--routes|explain Usage
+explain|--routes|--moment=253370764800000000 Limits { option: Moment, number: 253370764800000000 }";
+
+fn routes_asked(alloc: Global, words: &Vec<String>) -> Result<String, AllocError> {
+    match read_words(alloc, words) {
+        Ok(Command::Explain(told)) => {
+            format!(in alloc; "{} {}", told.routes, told.moment.micros())
+        }
+        Err(fault) => format!(in alloc; "{fault:?}"),
+    }
+}
+
+#[test]
+fn routes_are_asked_for_by_a_flag(rt: HostRuntime) -> Result<(), Fail> {
+    let alloc = rt.alloc();
+    for row in ROUTES.lines() {
+        let (line, answer) = row.split_once(' ').ok_or("two words")?;
+        let words = words_of(alloc, line)?;
+        assert_eq!(rt; routes_asked(alloc, &words)?.as_str(), answer, "{row}");
+    }
+    Ok(())
+}
+
 // Command lines that are none, the place of the first bad word, and what is wrong with it.
 const BAD_WORDS: &str = "serve 0 UnknownCommand
 explains|--moment=1 0 UnknownCommand
@@ -227,7 +269,12 @@ explain|--moment|1|--apiservices= 3 NoValue
 explain|--moment=1|--apiservices 2 NoValue
 explain|--moment| 1 NoValue
 explain|--max-event-size|1x|y 1 NotNumber
-explain|--apiservices=x|--moment=18446744073709551616 2 NotNumber";
+explain|--apiservices=x|--moment=18446744073709551616 2 NotNumber
+explain|--routes|x 2 NotOption
+explain|--routes|--moment=1|--routes 3 Twice
+explain|--routes= 1 HasValue
+explain|--moment=1|--routes=true 2 HasValue
+explain|--moment|--routes 1 NoValue";
 
 #[test]
 fn the_first_bad_word_is_told(rt: HostRuntime) -> Result<(), Fail> {
@@ -333,11 +380,15 @@ fn names_of(alloc: Global, told: &Told) -> Result<FileNames, Fail> {
 
 // The files, of which the read with that number fails.
 fn files_of(alloc: Global, told: &Told, fails: u64) -> Result<MemFiles, Fail> {
-    let mut files = Vec::new(alloc);
-    for (name, told) in ["t", "p", "s", "e"].into_iter().zip(*told) {
-        files.push((Text::copy_of(alloc, name)?, held(alloc, told)?))?;
-    }
-    Ok(MemFiles::new(files, vec![in alloc; fails]?))
+    let [t, p, s, e] = *told;
+    let tokens = (Text::copy_of(alloc, "t")?, held(alloc, t)?);
+    let policy = (Text::copy_of(alloc, "p")?, held(alloc, p)?);
+    let services = (Text::copy_of(alloc, "s")?, held(alloc, s)?);
+    let endpoints = (Text::copy_of(alloc, "e")?, held(alloc, e)?);
+    Ok(MemFiles::new(
+        vec![in alloc; tokens, policy, services, endpoints]?,
+        vec![in alloc; fails]?,
+    ))
 }
 
 // The user of the token `a`, how many rules there are, the names of the rows, and the delegate's port.

@@ -4,7 +4,8 @@ ghost use Rattle.front_config.specs.Words as spec;
 
 use crate::command::{Command, ExplainWords, FileNames};
 use crate::fault::{Ranged, WordsFault};
-use crate::given::{Options, given_of, number_or, text_of};
+use crate::flag::{as_options, has_flag_value};
+use crate::given::{Options, given_of, is_given, number_or, text_of};
 use front_base::{Moment, NoMemory};
 use std::alloc::Global;
 
@@ -19,6 +20,8 @@ pub const ENDPOINTS: &str = "endpoints";
 pub const MAX_EVENT_SIZE: &str = "max-event-size";
 
 pub const MOMENT: &str = "moment";
+
+pub const ROUTES: &str = "routes";
 
 fn max_event_of(size: u64) -> Result<u64, WordsFault>
     ensures { spec.Gives (λ v. v) result (spec.max_event_of size) }
@@ -69,17 +72,30 @@ fn explain_by(alloc: Global, options: &Options) -> Result<ExplainWords, WordsFau
         files,
         max_event,
         moment,
+        routes: is_given(ROUTES, options),
     })
 }
 
-#[tactic(auto, unfolding(crate::specs::Words::explain_of))]
+#[tactic(auto, unfolding(crate::specs::Words::explain_given, crate::specs::Words::explain_of))]
 fn explain_of(alloc: Global, words: &[String]) -> Result<ExplainWords, WordsFault>
     ensures { spec.Gives (λ v. v) result (spec.explain_of (map string_bytes words.now)) }
 {
+    if has_flag_value(words) {
+        return Err(WordsFault::Usage);
+    }
+    let words = as_options(alloc, words)?;
     match given_of(
         alloc,
-        &[TOKENS, POLICY, SERVICES, ENDPOINTS, MAX_EVENT_SIZE, MOMENT],
-        words,
+        &[
+            TOKENS,
+            POLICY,
+            SERVICES,
+            ENDPOINTS,
+            MAX_EVENT_SIZE,
+            MOMENT,
+            ROUTES,
+        ],
+        words.as_slice(),
     ) {
         Ok(options) => explain_by(alloc, &options),
         Err(fault) => Err(fault),
@@ -88,7 +104,7 @@ fn explain_of(alloc: Global, words: &[String]) -> Result<ExplainWords, WordsFaul
 
 /// What the words after the program's name ask for: the command's word first, and then its options in any order. An
 /// option with a value is one word `--NAME=VALUE`, or two words `--NAME` and `VALUE`, of which the second doesn't begin
-/// with a dash; no value is empty.
+/// with a dash; no value is empty. A flag is the one word `--NAME`.
 #[tactic(auto, unfolding(crate::specs::Words::command_of))]
 pub fn read_words(alloc: Global, words: &Vec<String>) -> Result<Command, WordsFault>
     ensures { spec.Gives (λ v. v) result (spec.command_of (map string_bytes words.now.items)) }

@@ -27,7 +27,7 @@ ChangesHere = (ends : List Endpoint) (own : Errand) (old new : Story) (routed : 
 pub adds_here : DecidesHere → ChangesHere → (set : Setup) (n : ℕ) (r : Request) (old new : Story) (stamp : Stamp) (x : Answered)
     (body lines lines_now : List ℕ) → body ≡ [] → stamp ≡ stamp_of set.moment n → new.opening ≡ old.opening
     → Settles set.settings stamp r empty_reply body old.opening old.seen (placed 0 old.seen) new.seen (placed 0 new.seen) x
-    → lines_now ≡ lines ++ text_of set x → Adds set n r (rows_of old) (rows_of new) lines lines_now
+    → lines_now ≡ lines ++ text_of set n x → Adds set n r (rows_of old) (rows_of new) lines lines_now
 unfolding rows_after
 adds_here decides changes set n r old new stamp x body lines lines_now none s fixed h e =
     let own = errand_in set.settings r in
@@ -36,7 +36,7 @@ adds_here decides changes set n r old new stamp x body lines lines_now none s fi
     subst (λ t. IsAnswered set.settings t r (handling_of ends (rows_of old) own) empty_reply [] x) s
     (subst (λ (a : Routed). IsAnswered set.settings stamp r a.handling empty_reply [] x) (decides ends own old new h.0 h.1)
     (subst (λ b. IsAnswered set.settings stamp r h.0.handling empty_reply b x) none h.2)) in (
-      text_of set x,
+      text_of set n x,
       record { answered = x; is = is; text_is = refl },
       e,
       changes ends own old new h.0 h.1 fixed,

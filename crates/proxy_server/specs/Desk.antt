@@ -43,6 +43,7 @@ setup_of explain loaded = record {
     hook = Off;
   };
   moment = explain.moment;
+  routes = explain.routes;
 }
 
 -- the words are a command line, the files that it names are accepted, and together they tell this, and the first rows

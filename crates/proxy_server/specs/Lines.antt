@@ -1,5 +1,5 @@
--- The audit lines of the requests of a run.
-use Rattle.std.specs.Prelude.{◌≡◌, ℕ, ◌+◌, List, [], ◌∷◌, ◌++◌}
+-- The lines of the requests of a run.
+use Rattle.std.specs.Prelude.{◌≡◌, ℕ, ◌+◌, if◌then◌else◌, List, [], ◌∷◌, ◌++◌}
 use Rattle.apiservice_rows.specs.Row.{Row}
 use Rattle.audit_core.specs.Errand.{errand_in}
 use Rattle.audit_core.specs.Exchange.{IsAnswered}
@@ -11,6 +11,7 @@ use Rattle.audit_core.specs.declared.link_note.LinkNote.TheVariants.{Whole}
 use Rattle.audit_core.specs.declared.stamp.Stamp.{Stamp}
 use Rattle.front_base.specs.AuditId.{AuditId}
 use Rattle.http_edge.specs.declared.request.Request.{Request}
+use Rattle.proxy_server.specs.RouteLines.{route_line}
 use Rattle.proxy_server.specs.declared.setup.Setup.{Setup}
 
 -- the address of all requests of a run over an input, which come over no connection
@@ -43,16 +44,21 @@ rows_after_all set rows (r ∷ rs) = rows_after_all set (rows_after set rows r) 
 abbrev pub empty_reply : LinkNote
 empty_reply = Whole 200
 
--- what is written of a request: the lines of its events, each with a line feed
-abbrev pub text_of : Setup → Answered → List ℕ
-text_of set x = ended 10 (fitted_lines set.settings.max_event (owed x.decision x.facts))
+-- the lines of the events of a request, each with a line feed
+abbrev pub audit_lines : Setup → Answered → List ℕ
+audit_lines set x = ended 10 (fitted_lines set.settings.max_event (owed x.decision x.facts))
+
+-- what is written of the request with that number: the line that says where it goes, where routes are asked for, and
+-- otherwise its audit lines
+abbrev pub text_of : Setup → ℕ → Answered → List ℕ
+text_of set number x = if set.routes then route_line number x.handling else audit_lines set x
 
 -- this is what is written of the request with that number, which is handled by these rows
 pub record IsLines (set : Setup) (rows : List Row) (number : ℕ) (r : Request) (text : List ℕ) : Type 0 where
   pub answered : Answered
   pub is : IsAnswered set.settings (stamp_of set.moment number) r
       (handling_of set.settings.endpoints rows (errand_in set.settings r)) empty_reply [] answered
-  pub text_is : text ≡ text_of set answered
+  pub text_is : text ≡ text_of set number answered
 
 -- the text of the lines of these requests, the first of which has this number and is answered by these rows
 abbrev pub AreLines : Setup → ℕ → List Row → List Request → List ℕ → Type 0

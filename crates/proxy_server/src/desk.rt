@@ -52,6 +52,7 @@ fn start_of(explain: ExplainWords, loaded: Loaded) -> Start
                 hook: SinkMode::Off,
             },
             moment: explain.moment,
+            routes: explain.routes,
         },
         table: loaded.table,
     }
@@ -128,7 +129,8 @@ fn desk<F: Files, S: Source, O: ByteSink>(
 
 /// The command `explain`: reads the requests of an input and writes the audit lines that each of them owes, each with a
 /// line feed, under the policy and the tokens of the files that the words name, and by the APIServices of a third one,
-/// which the requests may change, and the endpoints of a fourth one.
+/// which the requests may change, and the endpoints of a fourth. Where the words ask for routes, it writes one line of
+/// each request instead: its number, and where it goes.
 ///
 /// It answers the code of a `Status`, and what was refused: the fault of the words, or that of a file by its name. Which
 /// word is bad, and a refused request's number and first byte, are told too, and no clause speaks of them.

@@ -1,8 +1,9 @@
 //! The top calls of `apiaggd`, over any files, any source and any sink.
 //!
-//! The main contract is that of `run_desk`, the command `explain`: how it ended and why, what it read, and what it wrote, which
-//! is the audit lines that the requests of its input owe, one after another, under the tokens and the policy of the files
-//! that its words name, and by the APIServices of a third one as the requests before left them. It takes no leave to wait,
+//! The main contract is that of `run_desk`, the command `explain`: how it ended and why, what it read, and what it wrote.
+//! That is the audit lines that the requests of its input owe, one after another, under the tokens and the policy of the
+//! files that its words name, and by the APIServices of a third one as the requests before left them and the endpoints of a
+//! fourth; or, where the words ask for routes, the line of each request that says where it goes. It takes no leave to wait,
 //! and always returns. What a request wants, is answered and owes is said in `audit_core`, and nothing of it here.
 //!
 //! Over files, a source and a sink in memory, which tell what they hold, this fixes each byte of the output. Standard
@@ -17,6 +18,7 @@ mod adapters;
 mod desk;
 mod ended;
 mod lines;
+mod route_line;
 mod serving;
 mod setup;
 mod status;

@@ -1,11 +1,12 @@
-// The audit lines that a request owes.
-ghost use Rattle.std.specs.Prelude.{◌≡◌, ◌<◌, OnErr, OnOk};
+// What is written of a request.
+ghost use Rattle.std.specs.Prelude.{◌≡◌, ◌<◌, ◌++◌, OnErr, OnOk};
 ghost use Rattle.apiservice_table.specs.Changes.{rows_of};
 ghost use Rattle.proxy_server.specs.Lines as spec;
 
+use crate::route_line::push_route;
 use crate::setup::Setup;
 use apiservice_table::TableRoutes;
-use audit_core::{LineForm, LinkNote, Stamp, one_thread_decides, push_owed, settle};
+use audit_core::{Answered, LineForm, LinkNote, Stamp, one_thread_decides, push_owed, settle};
 use front_base::{AuditId, MOST_REQUESTS, Moment, NoMemory};
 use http_edge::Request;
 use local_replies::LocalPaths;
@@ -29,6 +30,27 @@ fn stamp_of(moment: Moment, number: u64) -> Stamp
         started: moment,
         complete: moment,
     }
+}
+
+// Adds what is written of a request that was answered.
+fn push_text(
+    alloc: Global,
+    setup: &Setup,
+    number: u64,
+    answered: &Answered,
+    lines: &mut Vec<u8>,
+) -> Result<(), NoMemory>
+    ensures ok { OnOk result (lines.new.items ≡ lines.old.items ++ spec.text_of setup.now number answered.now) }
+    ensures kept { OnErr result (lines.new.items ≡ lines.old.items) }
+{
+    if setup.routes {
+        return push_route(alloc, number, &answered.handling, lines);
+    }
+    let form = LineForm {
+        most: setup.settings.max_event,
+        end: b'\n',
+    };
+    push_owed(alloc, answered, form, lines)
 }
 
 /// Answers a request, which has that number and may change the table, and adds what is written of it.
@@ -58,9 +80,5 @@ pub fn add_lines(
         LinkNote::Whole(200),
         b"".as_slice(),
     )?;
-    let form = LineForm {
-        most: setup.settings.max_event,
-        end: b'\n',
-    };
-    push_owed(alloc, &answered, form, lines)
+    push_text(alloc, setup, number, &answered, lines)
 }

@@ -83,7 +83,7 @@ fn note_end(progress: &mut Progress, stop: Stop) {
     }
 }
 
-/// Writes the audit lines of each request of the input, up to the end of its list of requests. Requests have the numbers
+/// Writes the lines of each request of the input, up to the end of its list of requests. Requests have the numbers
 /// from 0 on, and each is answered by the table as those before it left it.
 pub fn serve_requests<S: Source, O: ByteSink>(
     alloc: Global,

@@ -8,4 +8,6 @@ pub struct Setup {
     pub settings: Settings,
     /// What the clock shows, for all of the run.
     pub moment: Moment,
+    /// Whether one line is written of each request that says where it goes, in the place of its audit lines.
+    pub routes: bool,
 }

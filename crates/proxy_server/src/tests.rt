@@ -174,7 +174,8 @@ explain --audit-policy-file=p|POST /api/v1/namespaces/a/secrets HTTP/1.1~Content
 explain --moment=253370764799999999 --audit-policy-file p --token-auth-file=t||0|
 |GET / HTTP/1.1~~|2|
 serve|GET / HTTP/1.1~~|2|
-explain --routes|GET / HTTP/1.1~~|2|
+explain --routes=1|GET / HTTP/1.1~~|2|
+explain --routes 1|GET / HTTP/1.1~~|2|
 explain --moment -1||2|
 explain --moment=0 --moment=0||2|
 explain --moment=253370764800000000||3|
@@ -190,6 +191,40 @@ explain --audit-policy-file=r --max-event-size=629|POST /api/v1/namespaces/a/pod
 explain --audit-policy-file=r --max-event-size 561|POST /api/v1/namespaces/a/pods HTTP/1.1~Content-Length: 100~~{\"a\":\"#\"}|0|469 562
 explain --audit-policy-file=r --max-event-size=560|POST /api/v1/namespaces/a/pods HTTP/1.1~Content-Length: 100~~{\"a\":\"#\"}|0|469
 ";
+
+// What `explain --routes` writes of requests: by whom, method, path and body, and the line.
+const ROUTES: &str = "\
+t2 POST /apis/apiregistration.k8s.io/v1/apiservices row|0 local 201
+none GET /apis/g/v1/things|1 backend 127.0.0.1:9001
+none DELETE /apis/apiregistration.k8s.io/v1/apiservices/v1.g|2 local 403
+t2 POST /apis/apiregistration.k8s.io/v1/apiservices row|3 local 409
+none GET /api/v1/pods|4 backend 10.0.0.255:65535
+none GET /apis/down/v1/things|5 refused 503
+none GET /apis/h/v1/things|6 refused 404
+nobody GET /healthz|7 refused 401
+none GET /healthz|8 local 200
+t2 DELETE /apis/apiregistration.k8s.io/v1/apiservices/v1.g|9 local 200
+none GET /apis/g/v1/things|10 refused 404
+";
+
+#[test]
+fn routes_are_told_in_the_place_of_events(rt: HostRuntime) -> Result<(), Fail> {
+    let alloc = rt.alloc();
+    let mut input = String::new(alloc);
+    let mut lines = String::new(alloc);
+    for row in ROUTES.lines() {
+        let (told, line) = row.split_once('|').ok_or("a row")?;
+        input.push_str(request_of(alloc, told)?.as_str())?;
+        lines.push_str(line)?;
+        lines.push('\n')?;
+    }
+    let line = "explain --routes --token-auth-file=t --apiservices=s --endpoints e";
+    let run = run_over_memory(alloc, line, input.as_bytes(), 4096, 0, 4000)?;
+    assert_eq!(rt; run.status, 0);
+    let text = str::from_utf8(run.output.as_slice()).map_err(|_| "text")?;
+    assert_eq!(rt; text, lines.as_str());
+    Ok(())
+}
 
 // The lengths of lines, with spaces between.
 fn lengths_of(alloc: Global, output: &[u8]) -> Result<String, AllocError> {

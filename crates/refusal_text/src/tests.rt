@@ -25,6 +25,8 @@ explain|--apiservice|s --apiservice: unknown option; did you mean --apiservices?
 explain|--max-event=256 --max-event: unknown option; did you mean --max-event-size?
 explain|--momnt=1 --momnt: unknown option; did you mean --moment?
 explain|--endpoint=e --endpoint: unknown option; did you mean --endpoints?
+explain|--route --route: unknown option; did you mean --routes?
+explain|--routes=true --routes: takes no value
 explain|--moment= --moment: no value
 explain|--moment=1|--moment|2 --moment: given twice
 explain|--moment=1x --moment: not a number of 64 bits"#;

@@ -59,6 +59,7 @@ pub fn usage_line(alloc: Global, words: &[String], bad: &BadWord) -> Result<Stri
         WordFault::NotOption => format!(in alloc; "{word:?}: not an option. {HINT}"),
         WordFault::UnknownOption => unknown_option(alloc, option),
         WordFault::NoValue => format!(in alloc; "{option}: no value. {HINT}"),
+        WordFault::HasValue => format!(in alloc; "{option}: takes no value. {HINT}"),
         WordFault::Twice => format!(in alloc; "{option}: given twice. {HINT}"),
         WordFault::NotNumber => format!(in alloc; "{option}: not a number of 64 bits. {HINT}"),
     }

@@ -18,6 +18,7 @@ explain --endpoints=endpoints.csv|
 explain --max-event-size=0|
 explain --audit-polcy-file=policy.json|
 explain --moment=1 --moment 2|
+explain --routes=true|
 serve|
 explain|GET /healthz HTTP/1.1~~GET /healthz HTTP/1.1~~GET /healthz HTTP/2~~
 ";
