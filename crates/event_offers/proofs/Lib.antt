@@ -1,0 +1,6 @@
+mod JoinLemmas
+mod LaneLemmas
+mod OfferLemmas
+mod OutcomeLemmas
+mod StageLemmas
+mod TakenLemmas
