@@ -1,0 +1,4 @@
+mod HeadLemmas
+mod LinkLemmas
+mod StatusLemmas
+mod WritingLemmas

@@ -1,0 +1,163 @@
+-- Statuses of this server's own replies.
+use Rattle.std.proofs.Common.{◌≡◌, ℕ, Bool, true, false, ◌||◌, if◌then◌else◌, List, Option, Some, None, Result, Ok, Err, bytes_eq, codes, arith}
+use Rattle.std.specs.List.{list_any}
+use Rattle.apiservice_rows.specs.Row.{Row}
+use Rattle.apiservice_rows.specs.declared.service.ServiceRef.{ServiceRef}
+use Rattle.apiservice_table.specs.Changes as table
+use Rattle.apiservice_table.specs.Services.{object_named}
+use Rattle.apiservice_table.specs.Table.{row}
+use Rattle.apiservice_table.specs.declared.change.Change.{Change}
+use Rattle.apiservice_table.specs.declared.change.Change.TheVariants.{Create, Replace, Delete}
+use Rattle.apiservice_table.specs.declared.change.ChangeFault.{ChangeFault}
+use Rattle.apiservice_table.specs.declared.change.ChangeFault.TheVariants.{Exists, Missing, Full, NoMemory}
+use Rattle.audit_core.specs.Errand.{errand_in, first_errand, path_errand, route_errand, is_refused, is_unknown, is_unserved, asker, info_in, user_in}
+use Rattle.audit_core.specs.Route.{Route, route_of}
+use Rattle.audit_core.specs.Routing.{handling_of, api_of, backend_of, service_at, delegate_at}
+use Rattle.audit_core.specs.declared.errand.Errand.{Errand}
+use Rattle.audit_core.specs.declared.errand.Errand.TheVariants as errand
+use Rattle.audit_core.specs.declared.settings.Settings.{Settings}
+use Rattle.discovery_merge.specs.Documents.{group_text}
+use Rattle.exchange_replies.specs.Statuses.{IsStatus, IsFinalErrand, IsFinalLocal, IsFinalHandling}
+use Rattle.front_base.specs.declared.address.Address.{Address}
+use Rattle.front_base.specs.declared.info.Info.{Info}
+use Rattle.front_base.specs.declared.user.User.{User}
+use Rattle.http_edge.specs.declared.request.Request.{Request}
+use Rattle.local_replies.specs.Errand.{local_errand, look_only, looks, by_master, is_master, create, replace, row_in, list_errand, name_errand}
+use Rattle.local_replies.specs.Looked.{looked, found}
+use Rattle.local_replies.specs.Paths.{local_of}
+use Rattle.local_replies.specs.Serve.{local_reply, change_reply, done, refused}
+use Rattle.local_replies.specs.declared.errand.LocalErrand.{LocalErrand}
+use Rattle.local_replies.specs.declared.errand.LocalErrand.TheVariants.{Deny, Look, Write}
+use Rattle.local_replies.specs.declared.local.Local.{Local}
+use Rattle.local_replies.specs.declared.local.Local.TheVariants.{Health, GroupList, OneGroup, ResourceList, AllServices, OneService, Unserved}
+use Rattle.request_info.specs.Request.{info_of}
+use Rattle.service_endpoints.specs.Find.{endpoint_of}
+use Rattle.service_endpoints.specs.declared.endpoint.Endpoint.{Endpoint}
+
+-- ---- errands
+
+look_by : (b : Bool) → IsFinalLocal (if b then Look else Deny 405)
+look_by true = tt
+look_by false = (omega arith, omega arith)
+
+master_by : (b : Bool) (own : LocalErrand) → IsFinalLocal own → IsFinalLocal (if b then own else Deny 403)
+master_by true own h = h
+master_by false own h = (omega arith, omega arith)
+
+create_by : (row : Option Row) → IsFinalLocal (create row)
+create_by None = (omega arith, omega arith)
+create_by (Some row) = tt
+
+replace_if : (b : Bool) (row : Row) → IsFinalLocal (if b then Write (Replace row) else Deny 422)
+replace_if true row = tt
+replace_if false row = (omega arith, omega arith)
+
+replace_by : (name : List ℕ) (row : Option Row) → IsFinalLocal (replace name row)
+replace_by name None = (omega arith, omega arith)
+replace_by name (Some row) = replace_if (bytes_eq row.name name) row
+
+if_by : (b : Bool) (these those : LocalErrand) → IsFinalLocal these → IsFinalLocal those → IsFinalLocal (if b then these else those)
+if_by true these those h k = h
+if_by false these those h k = k
+
+list_by : (info : Info) (method body : List ℕ) (user : User) → IsFinalLocal (list_errand info method body user)
+unfolding list_errand
+list_by info method body user =
+    if_by (bytes_eq info.verb (codes "watch")) (Deny 405) _ (omega arith, omega arith)
+    (if_by (bytes_eq method (codes "POST")) (by_master user (create (row_in body))) (look_only method)
+    (master_by (is_master user) (create (row_in body)) (create_by (row_in body))) (look_by (looks method)))
+
+name_by : (name : List ℕ) (method body : List ℕ) (user : User) → IsFinalLocal (name_errand name method body user)
+unfolding name_errand
+name_by name method body user =
+    if_by (bytes_eq method (codes "PUT")) (by_master user (replace name (row_in body))) _
+    (master_by (is_master user) (replace name (row_in body)) (replace_by name (row_in body)))
+    (if_by (bytes_eq method (codes "DELETE")) (by_master user (Write (Delete name))) (look_only method)
+    (master_by (is_master user) (Write (Delete name)) tt) (look_by (looks method)))
+
+local_by : (local : Local) (info : Info) (method body : List ℕ) (user : User) → IsFinalLocal (local_errand local info method body user)
+local_by Health info method body user = look_by (looks method)
+local_by GroupList info method body user = look_by (looks method)
+local_by (OneGroup name) info method body user = look_by (looks method)
+local_by ResourceList info method body user = look_by (looks method)
+local_by AllServices info method body user = list_by info method body user
+local_by (OneService name) info method body user = name_by name method body user
+local_by Unserved info method body user = (omega arith, omega arith)
+
+route_by : (route : Option Route) → IsFinalErrand (route_errand route)
+route_by None = (omega arith, omega arith)
+route_by (Some route) = tt
+
+path_by : (info : Info) (method body : List ℕ) (user : User) (local : Option Local)
+    → IsFinalErrand (path_errand info method body user local)
+path_by info method body user None = route_by (route_of info.path)
+path_by info method body user (Some local) = local_by local info method body user
+
+first_by : (a b c : Bool) (own : Errand) → IsFinalErrand own → IsFinalErrand (first_errand a b c own)
+first_by true b c own h = (omega arith, omega arith)
+first_by false true c own h = (omega arith, omega arith)
+first_by false false true own h = (omega arith, omega arith)
+first_by false false false own h = h
+
+pub errand_final : (set : Settings) (r : Request) → IsFinalErrand (errand_in set r)
+unfolding errand_in
+errand_final set r =
+    first_by (is_refused (info_of r.head.method r.head.target)) (is_unknown (asker set r)) (list_any is_unserved r.head.headers) _
+    (path_by (info_in r) r.head.method r.body (user_in set r) (local_of (info_in r).path))
+
+-- ---- replies
+
+found_by : (text : Option (List ℕ)) → IsStatus (found text).status
+found_by None = (omega arith, omega arith)
+found_by (Some text) = (omega arith, omega arith)
+
+looked_by : (local : Local) (rows : List Row) → IsStatus (looked local rows).status
+looked_by Health rows = (omega arith, omega arith)
+looked_by GroupList rows = (omega arith, omega arith)
+looked_by (OneGroup name) rows = found_by (group_text name rows)
+looked_by ResourceList rows = (omega arith, omega arith)
+looked_by AllServices rows = (omega arith, omega arith)
+looked_by (OneService name) rows = found_by (object_named name rows)
+looked_by Unserved rows = (omega arith, omega arith)
+
+done_by : (change : Change) → IsStatus (done change).status
+done_by (Create row) = (omega arith, omega arith)
+done_by (Replace row) = (omega arith, omega arith)
+done_by (Delete name) = (omega arith, omega arith)
+
+refused_by : (fault : ChangeFault) → IsStatus (refused fault).status
+refused_by Exists = (omega arith, omega arith)
+refused_by Missing = (omega arith, omega arith)
+refused_by Full = (omega arith, omega arith)
+refused_by NoMemory = (omega arith, omega arith)
+
+change_by : (change : Change) (fault : Option ChangeFault) → IsStatus (change_reply change fault).status
+change_by change None = done_by change
+change_by change (Some fault) = refused_by fault
+
+reply_by : (rows : List Row) (local : Local) (own : LocalErrand) → IsFinalLocal own → IsStatus (local_reply rows local own).status
+reply_by rows local (Deny code) h = h
+reply_by rows local Look h = looked_by local rows
+reply_by rows local (Write change) h = change_by change (table.refusal rows change)
+
+service_by : (to : ServiceRef) (address : Option Address) → IsFinalHandling (service_at to address)
+service_by to None = (omega arith, omega arith)
+service_by to (Some address) = tt
+
+delegate_by : (address : Option Address) → IsFinalHandling (delegate_at address)
+delegate_by None = (omega arith, omega arith)
+delegate_by (Some address) = tt
+
+backend_if : (ends : List Endpoint) (available : Bool) (service : Option ServiceRef) → IsFinalHandling (backend_of ends available service)
+backend_if ends available None = delegate_by (endpoint_of ends None)
+backend_if ends true (Some to) = service_by to (endpoint_of ends (Some to))
+backend_if ends false (Some to) = (omega arith, omega arith)
+
+api_by : (ends : List Endpoint) (own : Option Row) → IsFinalHandling (api_of ends own)
+api_by ends None = (omega arith, omega arith)
+api_by ends (Some own) = backend_if ends own.available own.service
+
+pub handling_final : (ends : List Endpoint) (rows : List Row) (own : Errand) → IsFinalErrand own → IsFinalHandling (handling_of ends rows own)
+handling_final ends rows (errand.Refuse code) h = h
+handling_final ends rows (errand.Serve local own) h = reply_by rows local own h
+handling_final ends rows (errand.Route group version) h = api_by ends (row group version rows)

@@ -1,0 +1,15 @@
+use Rattle.std.proofs.Common.{subst}
+use Rattle.exchange_replies.proofs.WritingLemmas.{cut_first, second}
+use Rattle.exchange_replies.specs.Writing.{Writes}
+use Rattle.exchange_replies.specs.declared.writing.Wrote.TheVariants.{Whole, Cut}
+use Rattle.front_ports.specs.Cause.{Rose}
+use Rattle.exchange_replies.proofs.writing.put_apart.Goals as goal
+
+pub returns-in-Whole-clause-wrote : goal.returns-in-Whole-clause-wrote
+returns-in-Whole-clause-wrote g c =
+    second _ _ _ c.args.head.now c.args.body.now _ _ _ c.put_text-in-Whole.result c.put_text.ensures.later
+    c.in-Whole.ensures.wrote c.put_text-in-Whole.ensures.wrote
+
+pub returns-in-Cut-clause-wrote : goal.returns-in-Cut-clause-wrote
+returns-in-Cut-clause-wrote g c =
+    cut_first _ _ c.args.head.now c.args.body.now _ _ c.in-Cut.ensures.wrote

@@ -1,0 +1,5 @@
+pub mod Client
+pub mod Own
+pub mod Sent
+pub mod Statuses
+pub mod Writing
