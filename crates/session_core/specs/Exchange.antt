@@ -1,0 +1,135 @@
+-- What one request does (Kubernetes, "API Aggregation Layer" and "Auditing").
+use Rattle.std.specs.Prelude.{◌≡◌, ◌≤◌, ◌+◌, ◌⊎◌, ℕ, Bool, true, false, if◌then◌else◌, List, [], ◌∷◌, ◌++◌, length, take, Option}
+use Rattle.std.specs.Io.KnownBytes.{Appends}
+use Rattle.apiservice_rows.specs.Row.{Row}
+use Rattle.apiservice_table.specs.Changes.{IsLater}
+use Rattle.apiservice_table.specs.declared.change.Change.{Change}
+use Rattle.audit_core.specs.Errand.{errand_in, user_in, info_in}
+use Rattle.audit_core.specs.Exchange.{IsAnswered, decision_in, facts_by}
+use Rattle.audit_core.specs.Offers.{Due, offers_due, has_refused}
+use Rattle.audit_core.specs.Owed.{owed}
+use Rattle.audit_core.specs.Routing.{Decides}
+use Rattle.audit_core.specs.declared.answered.Answered.{Answered}
+use Rattle.audit_core.specs.declared.errand.Errand.{Errand}
+use Rattle.audit_core.specs.declared.errand.Errand.TheVariants as errand
+use Rattle.audit_core.specs.declared.offers.OfferNote.{OfferNote}
+use Rattle.audit_core.specs.declared.routed.Routed.{Routed}
+use Rattle.audit_core.specs.declared.settings.Settings.{Settings}
+use Rattle.audit_core.specs.declared.stamp.Stamp.{Stamp}
+use Rattle.event_offers.specs.Offering.{OffersAll}
+use Rattle.exchange_replies.specs.Client.{client_text}
+use Rattle.exchange_replies.specs.Sent.{is_head, sent_on, Reaches, StopsSending, note_of, body_of}
+use Rattle.exchange_replies.specs.declared.reached.Reached.{Reached}
+use Rattle.front_base.specs.Info.{is_long_running}
+use Rattle.front_ports.specs.Told.{Grows, Adds}
+use Rattle.http_edge.specs.declared.request.Request.{Request}
+use Rattle.session_core.specs.Bays.{BayState, next_id}
+use Rattle.session_core.specs.declared.exchange.Exchange.{Exchange}
+
+-- ---- how it is handled
+
+-- a request whose arrival a strict sink could not record is refused; every other one is handled as it wants
+abbrev pub errand_after : Settings → List OfferNote → Errand → Errand
+errand_after set offers own = if has_refused set offers then errand.Refuse 500 else own
+
+abbrev pub routed_of : Exchange → Routed
+routed_of x = record { row = x.row; handling = x.handling }
+
+abbrev pub answered_of : Exchange → Answered
+answered_of x = record { handling = x.handling; decision = x.decision; facts = x.facts }
+
+-- ---- its moments
+
+abbrev pub is_long : Request → Bool
+is_long r = is_long_running (info_in r)
+
+-- when it had been read; of one that runs long, when its reply's head was known; and when its reply was complete
+abbrev pub moments_by : Bool → Stamp → List ℕ
+moments_by true stamp = stamp.received ∷ stamp.started ∷ stamp.complete ∷ []
+moments_by false stamp = stamp.received ∷ stamp.complete ∷ []
+
+-- the moments are those of the clock, and don't fall. One that doesn't run long has no start of its own
+pub record IsTimed (long : Bool) (m n : BayState) (stamp : Stamp) : Type 0 where
+  pub given : Grows m.given n.given (moments_by long stamp)
+  pub received : m.last ≤ stamp.received
+  pub started : stamp.received ≤ stamp.started
+  pub complete : stamp.started ≤ stamp.complete
+  pub last : n.last ≡ stamp.complete
+  pub short : long ≡ false → stamp.started ≡ stamp.received
+
+-- ---- all that it does
+
+-- a request of that peer was served by a bay: it was judged, offered, handled, sent on or not, answered with that text, and
+-- noted
+pub record Exchanged (set : Settings) (peer : List ℕ) (r : Request) (m : BayState) (text : List ℕ) (n : BayState) : Type 0 where
+  pub x : Exchange
+  pub request_is : x.request ≡ r
+  -- the rows that were seen decide, and the change that it makes stands next
+  pub routed : Decides set.endpoints (errand_after set x.offers (errand_in set r)) m.opening m.seen m.own n.seen n.own (routed_of x)
+  -- it was sent on where it is to be, and what came is what all bytes of the link say
+  pub reached : Reached
+  pub sent : Reaches (is_head r) (is_long r) (sent_on r (user_in set r) (next_id m) x.handling) m.dial n.dial reached
+  pub link_is : x.link ≡ note_of reached
+  -- its facts are those of the request and its answer
+  pub stamp : Stamp
+  pub id_is : stamp.id ≡ next_id m
+  pub peer_is : stamp.peer ≡ peer
+  pub timed : IsTimed (is_long r) m n stamp
+  pub answered : IsAnswered set stamp r x.handling x.link (body_of reached) (answered_of x)
+  -- each event that it owes was offered to each sink that is on
+  pub offered : OffersAll (offers_due set (owed x.decision x.facts)) m.lanes x.offers n.lanes
+  -- the client's bytes
+  pub text_is : text ≡ client_text r (next_id m) x.handling reached
+  -- the diary and the bay's own numbers
+  pub noted : Adds m.notes n.notes (x ∷ [])
+  pub number_is : n.number ≡ m.number + 1
+  pub boot_is : n.boot ≡ m.boot
+  pub opening_is : n.opening ≡ m.opening
+
+-- ---- where memory ran out
+
+-- the facts of one that was received, whatever is known of its reply
+pub record AreBegun (set : Settings) (peer : List ℕ) (r : Request) (m : BayState) (x : Exchange) : Type 0 where
+  pub stamp : Stamp
+  pub id_is : stamp.id ≡ next_id m
+  pub peer_is : stamp.peer ≡ peer
+  pub decision_is : x.decision ≡ decision_in set r
+  pub facts_are : x.facts ≡ facts_by stamp r (info_in r) (user_in set r) x.facts.status x.facts.request x.facts.reply
+
+-- it was handled, or its errand was not decided and no change was made
+abbrev pub RoutesHalt : Settings → Errand → BayState → BayState → Routed → Type 0
+RoutesHalt set own m n routed =
+    Decides set.endpoints own m.opening m.seen m.own n.seen n.own routed
+    ⊎ (IsLater m.seen n.seen × (n.own ≡ m.own))
+
+-- what memory stopped did a part of that, and was noted: a prefix of its offers was made, it was sent on once at most, and a prefix of
+-- its reply was written
+pub record Halted (set : Settings) (peer : List ℕ) (r : Request) (m n : BayState) (w0 w : Option (List ℕ)) : Type 0 where
+  pub x : Exchange
+  pub request_is : x.request ≡ r
+  pub begun : AreBegun set peer r m x
+  pub due : List Due
+  pub rest : List Due
+  pub due_is : offers_due set (owed x.decision x.facts) ≡ due ++ rest
+  pub offered : OffersAll due m.lanes x.offers n.lanes
+  pub routed : RoutesHalt set (errand_after set x.offers (errand_in set r)) m n (routed_of x)
+  pub reached : Reached
+  pub sent : Reaches (is_head r) (is_long r) (sent_on r (user_in set r) (next_id m) x.handling) m.dial n.dial reached
+      ⊎ StopsSending (sent_on r (user_in set r) (next_id m) x.handling) m.dial n.dial
+  pub count : ℕ
+  pub written : Appends w0 w (take count (client_text r (next_id m) x.handling reached))
+  pub moments : List ℕ
+  pub given : Grows m.given n.given moments
+  pub few : length moments ≤ 3
+  pub noted : Adds m.notes n.notes (x ∷ [])
+  pub number_is : n.number ≡ m.number + 1
+  pub boot_is : n.boot ≡ m.boot
+  pub opening_is : n.opening ≡ m.opening
+
+-- what memory stopped before it was judged left no trace but the moment at which it had been read
+pub record Unbegun (m n : BayState) (w0 w : Option (List ℕ)) : Type 0 where
+  pub moments : List ℕ
+  pub given : Grows m.given n.given moments
+  pub few : length moments ≤ 1
+  pub same : n ≡ record m { given = n.given; last = n.last }
+  pub written : w ≡ w0

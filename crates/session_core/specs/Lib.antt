@@ -1,0 +1,7 @@
+pub mod Bays
+pub mod Connection
+pub mod Diaries
+pub mod Ends
+pub mod Exchange
+pub mod Parts
+pub mod Steps

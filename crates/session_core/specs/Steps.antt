@@ -1,0 +1,108 @@
+-- What is known of a request while it is served.
+use Rattle.std.specs.Prelude.{◌≡◌, ℕ, List, [], Option, None}
+use Rattle.audit_core.specs.Answer.{status_of, body_of}
+use Rattle.audit_core.specs.Errand.{errand_in, user_in, info_in}
+use Rattle.audit_core.specs.Exchange.{IsKeptIf, decision_in, facts_by, sent_body}
+use Rattle.audit_core.specs.declared.link_note.LinkNote.{LinkNote}
+use Rattle.audit_core.specs.declared.link_note.LinkNote.TheVariants.{NotUsed}
+use Rattle.audit_core.specs.declared.offers.OfferNote.{OfferNote}
+use Rattle.audit_core.specs.declared.routed.Handling.TheVariants.{Refused}
+use Rattle.audit_core.specs.declared.routed.Routed.{Routed}
+use Rattle.audit_core.specs.declared.settings.Settings.{Settings}
+use Rattle.audit_core.specs.declared.stamp.Stamp.{Stamp}
+use Rattle.exchange_replies.specs.Sent as sent
+use Rattle.exchange_replies.specs.declared.reached.Reached.{Reached}
+use Rattle.front_base.specs.declared.level.Level.{Level}
+use Rattle.front_base.specs.declared.level.Level.TheVariants as level
+use Rattle.http_edge.specs.declared.request.Request.{Request}
+use Rattle.policy_rules.specs.declared.decision.Decision.{Decision}
+use Rattle.session_core.specs.declared.begun.Begun.{Begun}
+use Rattle.session_core.specs.declared.exchange.Exchange.{Exchange}
+use Rattle.session_core.specs.declared.work.Work.{Work}
+use Rattle.stage_event.specs.Due.{request_due, reply_due}
+use Rattle.stage_event.specs.declared.facts.Facts.{Facts}
+use Rattle.stage_event.specs.declared.facts.Kept.{Kept}
+use Rattle.stage_event.specs.declared.facts.Kept.TheVariants.{NotAsked}
+
+-- ---- when it was received
+
+-- a level that shows as much of the request, and no reply
+abbrev pub request_level : Level → Level
+request_level level.None = level.None
+request_level level.Metadata = level.Metadata
+request_level level.Request = level.Request
+request_level level.RequestResponse = level.Request
+
+-- nothing is known of the reply
+abbrev pub first_facts : Settings → Stamp → Request → Kept → Facts
+first_facts set stamp r kept = facts_by stamp r (info_in r) (user_in set r) 0 kept NotAsked
+
+pub record IsBegun (set : Settings) (stamp : Stamp) (r : Request) (begun : Begun) : Type 0 where
+  pub kept : Kept
+  pub kept_is : IsKeptIf (request_due (decision_in set r).level (info_in r)) r.body kept
+  pub is : begun ≡ record {
+    errand = errand_in set r;
+    decision = decision_in set r;
+    facts = first_facts set stamp r kept;
+  }
+
+-- ---- while it is served
+
+-- how it is handled so far, how it is recorded, what is known of it, what became of its link, and its notes
+pub record WorkState : Type 0 where
+  pub routed : Routed
+  pub decision : Decision
+  pub facts : Facts
+  pub link : LinkNote
+  pub notes : List OfferNote
+
+abbrev pub work_state : Work → WorkState
+work_state w = record {
+  routed = record { row = w.row; handling = w.handling };
+  decision = w.decision;
+  facts = w.facts;
+  link = w.link;
+  notes = w.notes.items;
+}
+
+-- nothing was decided or offered
+abbrev pub first_work : Decision → Facts → WorkState
+first_work decision facts = record {
+  routed = record { row = None; handling = Refused 500 };
+  decision = decision;
+  facts = facts;
+  link = NotUsed;
+  notes = [];
+}
+
+-- what is told of it
+abbrev pub exchange_of : Request → WorkState → Exchange
+exchange_of r w = record {
+  request = r;
+  row = w.routed.row;
+  handling = w.routed.handling;
+  decision = w.decision;
+  facts = w.facts;
+  link = w.link;
+  offers = w.notes;
+}
+
+-- ---- when its reply is known
+
+-- this is kept of the reply's body, where an event shows it
+abbrev pub IsReplyKept : Request → WorkState → LinkNote → List ℕ → Kept → Type 0
+IsReplyKept r w note body kept =
+    IsKeptIf (reply_due w.decision.level w.facts.info) (sent_body r.head.method (body_of w.routed.handling note body)) kept
+
+-- the facts with the status and what is kept of the reply
+abbrev pub with_reply : ℕ → Kept → Facts → Facts
+with_reply status reply facts = record facts { status = status; reply = reply }
+
+-- what came of its link is noted, and its facts have the status and what is kept of the reply then
+pub record Knows (r : Request) (reached : Reached) (w v : WorkState) : Type 0 where
+  pub kept : Kept
+  pub kept_is : IsReplyKept r w (sent.note_of reached) (sent.body_of reached) kept
+  pub is : v ≡ record w {
+    link = sent.note_of reached;
+    facts = with_reply (status_of w.routed.handling (sent.note_of reached)) kept w.facts;
+  }

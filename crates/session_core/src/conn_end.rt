@@ -1,0 +1,16 @@
+use http_edge::End;
+
+/// Why a connection ended.
+#[derive(Clone, Copy, Debug, PartialEq, Eq)]
+pub enum ConnEnd {
+    /// No more requests come. What is no request was answered with its refusal, where one is due.
+    Stopped(End),
+    /// A read failed.
+    ReadFault,
+    /// A reply could not be written whole.
+    WriteFault,
+    /// One more request stands next, and the bay has no number for it.
+    NumbersSpent,
+    /// Memory ran out.
+    NoMemory,
+}

@@ -1,0 +1,282 @@
+// One request, from its arrival to its last event.
+ghost use Rattle.std.specs.Prelude.{◌≡◌, ◌≤◌, ◌<◌, IfOk, OnOk, OnErr, [], true};
+ghost use Rattle.audit_core.specs.Exchange.{decision_in};
+ghost use Rattle.event_offers.specs.Lanes.{AreLanesOf};
+ghost use Rattle.exchange_replies.specs.Client.{client_text};
+ghost use Rattle.exchange_replies.specs.Statuses.{IsFinalErrand, IsFinalHandling, IsFinalReached};
+ghost use Rattle.exchange_replies.specs.Writing.{Writes};
+ghost use Rattle.front_base.specs.declared.audit_id.TheConstants.{MOST_REQUESTS};
+ghost use Rattle.front_ports.specs.Cause.{Rose};
+ghost use Rattle.session_core.specs.Bays.{bay_state, CanOffer, IsReady};
+ghost use Rattle.session_core.specs.Parts as spec;
+ghost use Rattle.session_core.specs.Steps.{first_work, work_state};
+
+use crate::bay::Bay;
+use crate::begun::begin;
+use crate::diary::Diary;
+use crate::work::{Work, errand_after};
+use apiservice_table::Routes;
+use audit_core::{Errand, Settings, Stamp, handle_errand};
+use event_offers::{
+    lanes_stay, later_stages_refuse_nothing, offer_stage, offers_join, stages_make_up_what_is_owed,
+};
+use exchange_replies::{Reached, Wrote, answer, send_on, statuses_are_final};
+use front_base::{AuditId, MOST_REQUESTS, NoMemory, Stage};
+use front_ports::{ByteSink, Clock, Conn, Dial};
+use http_edge::Request;
+use local_replies::LocalPaths;
+use stage_event::stages_hide;
+use std::alloc::Global;
+use truncate_backend::Lane;
+
+// Offers the event of its arrival, and decides how it is handled.
+fn handle<R: Routes, D: Dial, A: Lane, B: Lane, K: Clock, Y: Diary>(
+    alloc: Global,
+    settings: &Settings,
+    bay: &mut Bay<R, D, A, B, K, Y>,
+    errand: Errand,
+    work: &mut Work,
+) -> Result<(), NoMemory>
+    requires offer { CanOffer settings.now (bay_state R.Routes D.Dial A.Lane B.Lane K.Clock Y.Diary bay.old) 1 }
+    requires status { IsFinalErrand errand }
+    ensures ok { OnOk result (spec.Handled settings.now errand (bay_state R.Routes D.Dial A.Lane B.Lane K.Clock Y.Diary bay.old) (work_state work.old)
+        (bay_state R.Routes D.Dial A.Lane B.Lane K.Clock Y.Diary bay.new) (work_state work.new)) }
+    ensures status { OnOk result (IsFinalHandling work.new.handling) }
+    ensures err { OnErr result (spec.HandleHalts settings.now (bay_state R.Routes D.Dial A.Lane B.Lane K.Clock Y.Diary bay.old) (work_state work.old)
+        (bay_state R.Routes D.Dial A.Lane B.Lane K.Clock Y.Diary bay.new) (work_state work.new)) }
+    ensures diary { bay.new.diary ≡ bay.old.diary }
+{
+    statuses_are_final();
+    offer_stage(
+        alloc,
+        settings,
+        work.decision,
+        &work.facts,
+        Stage::RequestReceived,
+        &mut bay.lanes,
+        &mut work.notes,
+    )?;
+    let errand = errand_after(settings, work.notes.as_slice(), errand);
+    let routed = handle_errand(alloc, &settings.endpoints, errand, &mut bay.routes)?;
+    work.handle(routed);
+    Ok(())
+}
+
+// Sends it on where it is to be sent on, and notes what came of it.
+fn reach<R: Routes, D: Dial, A: Lane, B: Lane, K: Clock, Y: Diary>(
+    alloc: Global,
+    bay: &mut Bay<R, D, A, B, K, Y>,
+    request: &Request,
+    work: &mut Work,
+) -> Result<Reached, NoMemory>
+    ensures ok { IfOk result (spec.Reaching request.now (bay_state R.Routes D.Dial A.Lane B.Lane K.Clock Y.Diary bay.old) (work_state work.old)
+        (bay_state R.Routes D.Dial A.Lane B.Lane K.Clock Y.Diary bay.new) (work_state work.new)) }
+    ensures status { IfOk result IsFinalReached }
+    ensures err { OnErr result (spec.ReachHalts request.now (bay_state R.Routes D.Dial A.Lane B.Lane K.Clock Y.Diary bay.old) (work_state work.old)
+        (bay_state R.Routes D.Dial A.Lane B.Lane K.Clock Y.Diary bay.new) (work_state work.new)) }
+    ensures diary { bay.new.diary ≡ bay.old.diary }
+{
+    let reached = send_on(
+        alloc,
+        &mut bay.dial,
+        request,
+        &work.facts.user,
+        work.facts.id,
+        &work.handling,
+        work.facts.info.is_long_running(),
+    )?;
+    work.reach(alloc, request, &reached)?;
+    Ok(reached)
+}
+
+// Offers the event of its reply's start, if it runs long.
+fn start<R: Routes, D: Dial, A: Lane, B: Lane, K: Clock, Y: Diary>(
+    alloc: Global,
+    settings: &Settings,
+    bay: &mut Bay<R, D, A, B, K, Y>,
+    work: &mut Work,
+) -> Result<(), NoMemory>
+    requires offer { CanOffer settings.now (bay_state R.Routes D.Dial A.Lane B.Lane K.Clock Y.Diary bay.old) 1 }
+    ensures ok { OnOk result (spec.Started settings.now (bay_state R.Routes D.Dial A.Lane B.Lane K.Clock Y.Diary bay.old) (work_state work.old)
+        (bay_state R.Routes D.Dial A.Lane B.Lane K.Clock Y.Diary bay.new) (work_state work.new)) }
+    ensures err { OnErr result (spec.StartHalts (bay_state R.Routes D.Dial A.Lane B.Lane K.Clock Y.Diary bay.old) (work_state work.old)
+        (bay_state R.Routes D.Dial A.Lane B.Lane K.Clock Y.Diary bay.new) (work_state work.new)) }
+    ensures diary { bay.new.diary ≡ bay.old.diary }
+{
+    if !work.facts.info.is_long_running() {
+        return Ok(());
+    }
+    work.facts.started = bay.clock.now();
+    offer_stage(
+        alloc,
+        settings,
+        work.decision,
+        &work.facts,
+        Stage::ResponseStarted,
+        &mut bay.lanes,
+        &mut work.notes,
+    )
+}
+
+// Offers the event of its complete reply.
+fn complete<R: Routes, D: Dial, A: Lane, B: Lane, K: Clock, Y: Diary>(
+    alloc: Global,
+    settings: &Settings,
+    bay: &mut Bay<R, D, A, B, K, Y>,
+    work: &mut Work,
+) -> Result<(), NoMemory>
+    requires offer { CanOffer settings.now (bay_state R.Routes D.Dial A.Lane B.Lane K.Clock Y.Diary bay.old) 1 }
+    ensures ok { OnOk result (spec.Completed settings.now (bay_state R.Routes D.Dial A.Lane B.Lane K.Clock Y.Diary bay.old) (work_state work.old)
+        (bay_state R.Routes D.Dial A.Lane B.Lane K.Clock Y.Diary bay.new) (work_state work.new)) }
+    ensures err { OnErr result (spec.CompleteHalts (bay_state R.Routes D.Dial A.Lane B.Lane K.Clock Y.Diary bay.old) (work_state work.old)
+        (bay_state R.Routes D.Dial A.Lane B.Lane K.Clock Y.Diary bay.new) (work_state work.new)) }
+    ensures diary { bay.new.diary ≡ bay.old.diary }
+{
+    work.facts.complete = bay.clock.now();
+    offer_stage(
+        alloc,
+        settings,
+        work.decision,
+        &work.facts,
+        Stage::ResponseComplete,
+        &mut bay.lanes,
+        &mut work.notes,
+    )
+}
+
+// Writes its reply, between the events of its start and of its end.
+fn reply<O: ByteSink, R: Routes, D: Dial, A: Lane, B: Lane, K: Clock, Y: Diary>(
+    alloc: Global,
+    settings: &Settings,
+    bay: &mut Bay<R, D, A, B, K, Y>,
+    out: &mut O,
+    request: &Request,
+    reached: &Reached,
+    work: &mut Work,
+) -> Result<Wrote, NoMemory>
+    requires offer { CanOffer settings.now (bay_state R.Routes D.Dial A.Lane B.Lane K.Clock Y.Diary bay.old) 2 }
+    requires handling { IsFinalHandling work.old.handling }
+    requires reached { IsFinalReached reached.now }
+    ensures ok { OnOk result (spec.Replied settings.now (bay_state R.Routes D.Dial A.Lane B.Lane K.Clock Y.Diary bay.old) (work_state work.old)
+        (bay_state R.Routes D.Dial A.Lane B.Lane K.Clock Y.Diary bay.new) (work_state work.new)) }
+    ensures writes { IfOk result (Writes (O.written out.old) (O.written out.new)
+        (client_text request.now work.old.facts.id work.old.handling reached.now)
+        (Rose (O.write_faults out.old) (O.write_faults out.new))) }
+    ensures err { OnErr result (spec.ReplyHalts settings.now request.now reached.now (bay_state R.Routes D.Dial A.Lane B.Lane K.Clock Y.Diary bay.old) (work_state work.old)
+        (bay_state R.Routes D.Dial A.Lane B.Lane K.Clock Y.Diary bay.new) (work_state work.new) (O.written out.old) (O.written out.new)) }
+    ensures diary { bay.new.diary ≡ bay.old.diary }
+    ensures later { O.write_faults out.old ≤ O.write_faults out.new }
+    ensures aside { O.inward out.new ≡ O.inward out.old }
+{
+    stages_hide();
+    offers_join();
+    lanes_stay();
+    later_stages_refuse_nothing();
+    start(alloc, settings, bay, work)?;
+    let wrote = answer(alloc, out, request, work.facts.id, &work.handling, reached)?;
+    complete(alloc, settings, bay, work)?;
+    Ok(wrote)
+}
+
+// Serves a request that was judged: it is recorded, handled, sent on or not, and answered.
+fn exchange<O: ByteSink, R: Routes, D: Dial, A: Lane, B: Lane, K: Clock, Y: Diary>(
+    alloc: Global,
+    settings: &Settings,
+    bay: &mut Bay<R, D, A, B, K, Y>,
+    out: &mut O,
+    request: &Request,
+    errand: Errand,
+    work: &mut Work,
+) -> Result<Wrote, NoMemory>
+    requires offer { CanOffer settings.now (bay_state R.Routes D.Dial A.Lane B.Lane K.Clock Y.Diary bay.old) 3 }
+    requires status { IsFinalErrand errand }
+    requires fresh { (work_state work.old) ≡ first_work work.old.decision work.old.facts }
+    ensures ok { IfOk result (spec.Served settings.now request.now errand (bay_state R.Routes D.Dial A.Lane B.Lane K.Clock Y.Diary bay.old) (work_state work.old)
+        (bay_state R.Routes D.Dial A.Lane B.Lane K.Clock Y.Diary bay.new) (work_state work.new) (O.written out.old) (O.written out.new)
+        (Rose (O.write_faults out.old) (O.write_faults out.new))) }
+    ensures err { OnErr result (spec.ServingHalts settings.now request.now errand (bay_state R.Routes D.Dial A.Lane B.Lane K.Clock Y.Diary bay.old) (work_state work.old)
+        (bay_state R.Routes D.Dial A.Lane B.Lane K.Clock Y.Diary bay.new) (work_state work.new) (O.written out.old) (O.written out.new)) }
+    ensures diary { bay.new.diary ≡ bay.old.diary }
+    ensures later { O.write_faults out.old ≤ O.write_faults out.new }
+    ensures aside { O.inward out.new ≡ O.inward out.old }
+{
+    stages_hide();
+    stages_make_up_what_is_owed();
+    offers_join();
+    lanes_stay();
+    handle(alloc, settings, bay, errand, work)?;
+    let reached = reach(alloc, bay, request, work)?;
+    reply(alloc, settings, bay, out, request, &reached, work)
+}
+
+/// How a request was served.
+#[derive(Clone, Copy, Debug, PartialEq, Eq)]
+pub enum Outcome {
+    Whole,
+    /// A prefix of its reply was written, since a write failed.
+    Cut,
+    NoMemory,
+}
+
+fn outcome_of(served: Result<Wrote, NoMemory>) -> Outcome
+    ensures { result ≡ spec.outcome_of served }
+{
+    match served {
+        Ok(Wrote::Whole) => Outcome::Whole,
+        Ok(Wrote::Cut) => Outcome::Cut,
+        Err(NoMemory) => Outcome::NoMemory,
+    }
+}
+
+/// Serves a request that was read from a connection, and notes it.
+pub fn serve_request<C: Conn, R: Routes, D: Dial, A: Lane, B: Lane, K: Clock, Y: Diary>(
+    alloc: Global,
+    settings: &Settings,
+    paths: &LocalPaths,
+    bay: &mut Bay<R, D, A, B, K, Y>,
+    conn: &mut C,
+    request: Request,
+) -> Outcome
+    requires ready { IsReady settings.now (bay_state R.Routes D.Dial A.Lane B.Lane K.Clock Y.Diary bay.old) }
+    requires number { bay.old.number < MOST_REQUESTS }
+    ensures outcome { spec.Outcomes settings.now (C.from conn.old) request (bay_state R.Routes D.Dial A.Lane B.Lane K.Clock Y.Diary bay.old) (bay_state R.Routes D.Dial A.Lane B.Lane K.Clock Y.Diary bay.new)
+        (C.written conn.old) (C.written conn.new) (Rose (C.write_faults conn.old) (C.write_faults conn.new)) result }
+    ensures ready { IsReady settings.now (bay_state R.Routes D.Dial A.Lane B.Lane K.Clock Y.Diary bay.new) }
+    ensures later { C.write_faults conn.old ≤ C.write_faults conn.new }
+    ensures aside { C.inward conn.new ≡ C.inward conn.old }
+{
+    statuses_are_final();
+    stages_make_up_what_is_owed();
+    lanes_stay();
+    let received = bay.clock.now();
+    let stamp = Stamp {
+        id: AuditId {
+            boot: bay.boot,
+            bay: bay.lanes.bay,
+            number: bay.number,
+        },
+        peer: conn.peer(),
+        received,
+        started: received,
+        complete: received,
+    };
+    let Ok(begun) = begin(alloc, settings, paths, &stamp, &request) else {
+        return Outcome::NoMemory;
+    };
+    let Ok(()) = bay.diary.ready(alloc) else {
+        return Outcome::NoMemory;
+    };
+    bay.number += 1;
+    let mut work = Work::begun(alloc, begun.decision, begun.facts);
+    let served = exchange(
+        alloc,
+        settings,
+        bay,
+        conn,
+        &request,
+        begun.errand,
+        &mut work,
+    );
+    bay.diary.note(work.into_exchange(request));
+    outcome_of(served)
+}

@@ -1,0 +1,170 @@
+// A request while it is served.
+ghost use Rattle.std.specs.Prelude.{◌≡◌, [], IfOk, OnOk, OnErr};
+ghost use Rattle.std.specs.List.{list_any};
+ghost use Rattle.audit_core.specs.Offers as offers;
+ghost use Rattle.exchange_replies.specs.Sent.{note_of};
+ghost use Rattle.session_core.specs.Exchange.{errand_after};
+ghost use Rattle.session_core.specs.Steps as spec;
+
+use crate::exchange::Exchange;
+use apiservice_rows::Row;
+use audit_core::{
+    Errand, Handling, LinkNote, OfferNote, Offers, Outcome, Routed, Settings, Sink, SinkMode,
+    kept_sent, status_of,
+};
+use exchange_replies::Reached;
+use front_base::{NoMemory, Stage};
+use http_edge::Request;
+use policy_rules::Decision;
+use stage_event::{Facts, Kept, reply_due};
+use std::alloc::Global;
+
+/// How a request is handled so far, what is known of it, and what became of its events.
+#[derive(Drop)]
+pub struct Work {
+    pub row: Option<Row>,
+    pub handling: Handling,
+    pub decision: Decision,
+    pub facts: Facts,
+    pub link: LinkNote,
+    pub notes: Vec<OfferNote>,
+}
+
+impl Work {
+    /// Nothing was decided or offered.
+    pub fn begun(alloc: Global, decision: Decision, facts: Facts) -> Work
+        ensures { spec.work_state result ≡ spec.first_work decision facts }
+    {
+        Work {
+            row: None,
+            handling: Handling::Refused(500),
+            decision,
+            facts,
+            link: LinkNote::NotUsed,
+            notes: Vec::new(alloc),
+        }
+    }
+
+    /// How it was handled.
+    pub fn handle(&mut self, routed: Routed)
+        ensures { spec.work_state self.new ≡ record (spec.work_state self.old) { routed = routed } }
+    {
+        self.row = routed.row;
+        self.handling = routed.handling;
+    }
+
+    /// What came of its link, and what is known of its reply then.
+    pub fn reach(
+        &mut self,
+        alloc: Global,
+        request: &Request,
+        reached: &Reached,
+    ) -> Result<(), NoMemory>
+        ensures ok { OnOk result (spec.Knows request.now reached.now (spec.work_state self.old) (spec.work_state self.new)) }
+        ensures err { OnErr result (spec.work_state self.new ≡ spec.work_state self.old) }
+    {
+        let note = reached.note();
+        let reply = kept_if_due(alloc, request, self, note, reached.body())?;
+        self.link = note;
+        self.facts.status = status_of(&self.handling, note);
+        self.facts.reply = reply;
+        Ok(())
+    }
+
+    /// What is told of it.
+    pub fn into_exchange(self, request: Request) -> Exchange
+        ensures { result ≡ spec.exchange_of request (spec.work_state self) }
+    {
+        Exchange {
+            request,
+            row: self.row,
+            handling: self.handling,
+            decision: self.decision,
+            facts: self.facts,
+            link: self.link,
+            offers: Offers::new(self.notes),
+        }
+    }
+}
+
+// What is kept of the reply's body, where an event shows it.
+fn kept_if_due(
+    alloc: Global,
+    request: &Request,
+    work: &Work,
+    note: LinkNote,
+    body: &[u8],
+) -> Result<Kept, NoMemory>
+    ensures { IfOk result (spec.IsReplyKept request.now (spec.work_state work.now) note body.now) }
+{
+    if !reply_due(work.decision.level, &work.facts.info) {
+        return Ok(Kept::NotAsked);
+    }
+    kept_sent(
+        alloc,
+        request.head.method.as_str(),
+        &work.handling,
+        note,
+        body,
+    )
+}
+
+fn is_first(stage: Stage) -> bool
+    ensures { result ≡ offers.is_first stage }
+{
+    match stage {
+        Stage::RequestReceived => true,
+        Stage::ResponseStarted | Stage::ResponseComplete | Stage::Panic => false,
+    }
+}
+
+fn mode_of(settings: &Settings, sink: Sink) -> SinkMode
+    ensures { result ≡ offers.mode_of settings.now sink }
+{
+    match sink {
+        Sink::Log => settings.log,
+        Sink::Webhook => settings.hook,
+    }
+}
+
+fn is_strict(mode: SinkMode) -> bool
+    ensures { result ≡ offers.is_strict mode }
+{
+    match mode {
+        SinkMode::Strict => true,
+        SinkMode::Off | SinkMode::Batch | SinkMode::Blocking => false,
+    }
+}
+
+fn is_failed(outcome: Outcome) -> bool
+    ensures { result ≡ offers.is_failed outcome }
+{
+    match outcome {
+        Outcome::Failed => true,
+        Outcome::Taken | Outcome::Full | Outcome::TooLarge { .. } => false,
+    }
+}
+
+fn refuses(settings: &Settings, note: &OfferNote) -> bool
+    ensures { result ≡ offers.refuses settings.now note.now }
+{
+    is_first(note.stage) && is_strict(mode_of(settings, note.sink)) && is_failed(note.outcome)
+}
+
+// Whether a strict sink could not record the request's arrival.
+fn has_refused(settings: &Settings, notes: &[OfferNote]) -> bool
+    ensures { result ≡ offers.has_refused settings.now notes.now }
+{
+    notes.iter().any(|note| refuses(settings, note))
+}
+
+/// What a request wants after its first events: it is refused where a strict sink could not record its arrival.
+pub fn errand_after(settings: &Settings, notes: &[OfferNote], errand: Errand) -> Errand
+    ensures { result ≡ errand_after settings.now notes.now errand }
+{
+    if has_refused(settings, notes) {
+        Errand::Refuse(500)
+    } else {
+        errand
+    }
+}
