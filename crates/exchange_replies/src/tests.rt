@@ -92,7 +92,7 @@ Audit-ID: 00000000-0000-0001-0000-000000000002\r\nContent-Length: 2\r\nConnectio
 #[test]
 fn a_reply_that_is_cut_is_refused(rt: HostRuntime) -> Result<(), Fail> {
     let alloc = rt.alloc();
-    let cut = &HELD.as_bytes()[..HELD.len() - 1];
+    let cut = HELD.strip_suffix("k").ok_or("a body")?.as_bytes();
     let (note, text) = proxied(alloc, "HEAD /api HTTP/1.1\r\n\r\n", HELD.as_bytes())?;
     assert_eq!(rt; note, LinkNote::Whole(200));
     assert!(rt;

@@ -1,6 +1,6 @@
-ghost use Rattle.std.specs.Prelude.{◌≡◌, IfOk};
-ghost use Rattle.audit_core.specs.declared.sinks.SinkMode.{SinkMode};
+ghost use Rattle.std.specs.Prelude.{◌≡◌, false, IfOk};
 ghost use Rattle.audit_core.specs.declared.sinks.SinkMode.TheVariants.{Off};
+ghost use Rattle.event_offers.specs.Lanes.{is_batch};
 
 use crate::{Bay, ConnEnd, MemDiary, serve_connection};
 use apiservice_rows::read_rows;
@@ -138,7 +138,7 @@ fn serve(
     input: &[u8],
     held: &[u8],
 ) -> Result<Told, Fail>
-    requires { (log ≡ SinkMode.TheVariants.Blocking) ⊎ (log ≡ SinkMode.TheVariants.Strict) }
+    requires { is_batch log ≡ false }
 {
     let settings = settings(alloc, log)?;
     let paths = LocalPaths::new(alloc)?;
@@ -172,6 +172,9 @@ Audit-ID: 00000000-0000-0001-0000-000000000000\r\nContent-Length: 148\r\n\r\n\
 {\"kind\":\"Status\",\"apiVersion\":\"v1\",\"metadata\":{},\"status\":\"Failure\",\
 \"message\":\"the requested resource was not found\",\"reason\":\"NotFound\",\"code\":404}";
 
+const LAST: &str = "HTTP/1.1 404 Not Found\r\nContent-Type: application/json\r\n\
+Audit-ID: 00000000-0000-0001-0000-000000000001\r\nContent-Length: 148\r\nConnection: close\r\n\r\n";
+
 #[test]
 fn requests_are_answered_one_after_another(rt: HostRuntime) -> Result<(), Fail> {
     let alloc = rt.alloc();
@@ -190,12 +193,8 @@ fn requests_are_answered_one_after_another(rt: HostRuntime) -> Result<(), Fail> 
         told.exchanges.as_str(),
         "404 - taken taken; 404 - taken taken; "
     );
-    let first = &told.output.as_slice()[..NOT_FOUND.len()];
-    assert_eq!(rt; first, NOT_FOUND.as_bytes());
-    let last = &told.output.as_slice()[NOT_FOUND.len()..];
-    let head = b"HTTP/1.1 404 Not Found\r\nContent-Type: application/json\r\n\
-Audit-ID: 00000000-0000-0001-0000-000000000001\r\nContent-Length: 148\r\nConnection: close\r\n\r\n";
-    assert_eq!(rt; last, head.as_slice());
+    let all = format!(in alloc; "{NOT_FOUND}{LAST}")?;
+    assert_eq!(rt; told.output.as_slice(), all.as_bytes());
     Ok(())
 }
 
