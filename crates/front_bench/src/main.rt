@@ -9,12 +9,16 @@
 //! | `find` | a list of APIServices | how many of its rows are looked up in turn |
 //! | `log` | a line | how many lines a try has, and the file, which is made anew |
 //! | `post` | a line | how many lines a try has |
+//! | `connection` | a request, which a connection gives so often | |
 #![tactic(auto)]
 
 mod calls;
+mod conn;
+mod connection;
 mod sinks;
 
 use calls::{check, compact, find, log, post, rows};
+use connection::connection;
 use std::io::Read;
 use std::process::ExitCode;
 use std::{env, fs};
@@ -41,6 +45,7 @@ fn run(rt: &HostRuntime) -> Option<bool> {
             let file = fs::create(rt, path.as_str()).ok()?;
             log(rt.alloc(), text, times, count.as_str().parse().ok()?, file)
         }
+        ("connection", []) => connection(rt.alloc(), text, times),
         ("post", [count]) => post(rt.alloc(), text, times, count.as_str().parse().ok()?),
         _ => None,
     }

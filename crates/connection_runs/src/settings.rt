@@ -1,0 +1,49 @@
+// The settings and the table of a run.
+ghost use Rattle.std.specs.Prelude.{◌≡◌, ◌≤◌, IfSome, length};
+ghost use Rattle.audit_core.specs.declared.sinks.SinkMode.TheVariants.{Blocking, Off};
+ghost use Rattle.front_base.specs.declared.file.TheConstants.{MOST_FILE_BYTES};
+
+use apiservice_rows::read_rows;
+use apiservice_table::{RouteTable, TableRoutes, read_rows_fit};
+use audit_core::{Settings, SinkMode};
+use front_base::MOST_FILE_BYTES;
+use policy_rules::read_policy;
+use service_endpoints::read_endpoints;
+use std::alloc::Global;
+use token_users::read_tokens;
+
+// The bytes of a file that isn't too long.
+fn file_bytes(text: &str) -> Option<&[u8]>
+    ensures { IfSome result (λ bytes. length bytes.now ≤ MOST_FILE_BYTES) }
+{
+    let bytes = text.as_bytes();
+    if bytes.len() as u64 <= MOST_FILE_BYTES {
+        Some(bytes)
+    } else {
+        None
+    }
+}
+
+/// The settings that these files state, with a log that is written to at once.
+pub fn settings_of(alloc: Global, tokens: &str, policy: &str, endpoints: &str) -> Option<Settings>
+    ensures { IfSome result (λ set. (set.max_event ≡ 102400) × (set.log ≡ Blocking) × (set.hook ≡ Off)) }
+{
+    let tokens = read_tokens(alloc, file_bytes(tokens)?).ok()?;
+    let policy = read_policy(alloc, file_bytes(policy)?).ok()?;
+    let endpoints = read_endpoints(alloc, file_bytes(endpoints)?).ok()?;
+    Some(Settings {
+        tokens,
+        policy,
+        endpoints,
+        max_event: 102_400,
+        log: SinkMode::Blocking,
+        hook: SinkMode::Off,
+    })
+}
+
+/// The table of these APIServices.
+pub fn routes_of(alloc: Global, services: &str) -> Option<TableRoutes> {
+    read_rows_fit();
+    let rows = read_rows(alloc, services.as_bytes()).ok()?;
+    TableRoutes::new(alloc, RouteTable::from_rows(alloc, rows).ok()?).ok()
+}
