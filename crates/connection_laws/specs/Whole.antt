@@ -1,0 +1,70 @@
+-- What the requests of a connection do together (Kubernetes, "Auditing").
+use Rattle.std.specs.Prelude.{◌≡◌, ℕ, ◌+◌, ◌-◌, ◌^◌, ◌≤◌, min, ◌&&◌, Bool, true, false, List, [], ◌∷◌, ◌++◌, length, ⊤}
+use Rattle.audit_core.specs.Offers.{Due, offers_due}
+use Rattle.audit_core.specs.Owed.{owed}
+use Rattle.audit_core.specs.declared.offers.OfferNote.{OfferNote}
+use Rattle.audit_core.specs.declared.offers.Outcome.{Outcome}
+use Rattle.audit_core.specs.declared.offers.Outcome.TheVariants as outcome
+use Rattle.audit_core.specs.declared.settings.Settings.{Settings}
+use Rattle.audit_core.specs.declared.sinks.Sink.{Sink}
+use Rattle.event_offers.specs.Offering.{OffersAll}
+use Rattle.event_offers.specs.Taken.{is_for}
+use Rattle.front_ports.specs.Told.{Adds}
+use Rattle.session_core.specs.Bays.{BayState}
+use Rattle.session_core.specs.declared.conn_end.ConnEnd.{ConnEnd}
+use Rattle.session_core.specs.declared.conn_end.ConnEnd.TheVariants as conn_end
+use Rattle.session_core.specs.declared.exchange.Exchange.{Exchange}
+
+-- what all events that exchanges owe are due, one exchange after another
+abbrev pub due_in : Settings → List Exchange → List Due
+due_in set [] = []
+due_in set (x ∷ xs) = offers_due set (owed x.decision x.facts) ++ due_in set xs
+
+-- what became of all offers
+abbrev pub offers_in : List Exchange → List OfferNote
+offers_in [] = []
+offers_in (x ∷ xs) = x.offers ++ offers_in xs
+
+-- a bay's diary, its lanes and its numbers tell these exchanges and no other: each offer that they are due was made, in order, and
+-- noted, and nothing else was offered; but a rest may not have been reached
+pub record Tells (set : Settings) (m n : BayState) (xs : List Exchange) (rest : List Due) : Type 0 where
+  pub due : List Due
+  pub due_is : due_in set xs ≡ due ++ rest
+  pub offered : OffersAll due m.lanes (offers_in xs) n.lanes
+  pub noted : Adds m.notes n.notes xs
+  pub number_is : n.number ≡ m.number + length xs
+
+-- only want of memory leaves a rest
+abbrev pub CanLeave : ConnEnd → List Due → Type 0
+CanLeave (conn_end.Stopped end) rest = rest ≡ []
+CanLeave conn_end.ReadFault rest = rest ≡ []
+CanLeave conn_end.WriteFault rest = rest ≡ []
+CanLeave conn_end.NumbersSpent rest = rest ≡ []
+CanLeave conn_end.NoMemory rest = ⊤
+
+-- ---- counts
+
+abbrev pub is_full : Outcome → Bool
+is_full outcome.Taken = false
+is_full outcome.Full = true
+is_full outcome.Failed = false
+is_full (outcome.TooLarge size) = false
+
+abbrev pub is_failure : Outcome → Bool
+is_failure outcome.Taken = false
+is_failure outcome.Full = false
+is_failure outcome.Failed = true
+is_failure (outcome.TooLarge size) = false
+
+abbrev pub one_if : Bool → ℕ
+one_if true = 1
+one_if false = 0
+
+-- how many offers to a sink became such
+abbrev pub count_of : (Outcome → Bool) → Sink → List OfferNote → ℕ
+count_of such sink [] = 0
+count_of such sink (note ∷ notes) = one_if (is_for sink note.sink && such note.outcome) + count_of such sink notes
+
+-- a count grew by so many at least, or stands at the last value of its type
+abbrev pub Counts : ℕ → ℕ → ℕ → Type 0
+Counts before more after = min (before + more) (2 ^ 64 - 1) ≤ after

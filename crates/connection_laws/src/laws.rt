@@ -1,0 +1,36 @@
+ghost use Rattle.std.specs.Prelude.{◌≡◌, ℕ, List};
+ghost use Rattle.audit_core.specs.Offers.{Due};
+ghost use Rattle.audit_core.specs.declared.offers.OfferNote.{OfferNote};
+ghost use Rattle.audit_core.specs.declared.settings.Settings.{Settings};
+ghost use Rattle.audit_core.specs.declared.sinks.Sink.{Sink};
+ghost use Rattle.connection_laws.specs.Whole.{Tells, CanLeave, Counts, count_of, is_full, is_failure};
+ghost use Rattle.event_offers.specs.Lanes.{LanesState};
+ghost use Rattle.event_offers.specs.Offering.{OffersAll};
+ghost use Rattle.event_offers.specs.Taken.{lane_of};
+ghost use Rattle.session_core.specs.Bays.{BayState};
+ghost use Rattle.session_core.specs.Connection.{ConnState, Serves};
+ghost use Rattle.session_core.specs.declared.conn_end.ConnEnd.{ConnEnd};
+ghost use Rattle.session_core.specs.declared.exchange.Exchange.{Exchange};
+
+use event_offers::offers_join;
+
+/// However a connection ends, its exchanges are noted in order, and what they were offered is all that the lanes were
+/// offered meanwhile. Nothing that is due is left out, but where memory ran out.
+pub fn a_connection_is_told_whole()
+    ensures { (set : Settings) (peer : List ℕ) (m n : BayState) (c d : ConnState) (end : ConnEnd)
+        → Serves set peer m n c d end
+        → (xs : List Exchange) × (rest : List Due) × Tells set m n xs rest × CanLeave end rest }
+{
+    offers_join();
+}
+
+/// Of the offers to a sink at most as many are noted as Full, and as Failed, as the counts of its lane grew by, unless
+/// that count stands at its last value.
+pub fn refusals_are_counted()
+    ensures full { (sink : Sink) (dues : List Due) (m n : LanesState) (notes : List OfferNote)
+        → OffersAll dues m notes n
+        → Counts (lane_of sink m).tells.fulls (count_of is_full sink notes) (lane_of sink n).tells.fulls }
+    ensures failed { (sink : Sink) (dues : List Due) (m n : LanesState) (notes : List OfferNote)
+        → OffersAll dues m notes n
+        → Counts (lane_of sink m).tells.faults (count_of is_failure sink notes) (lane_of sink n).tells.faults }
+{}
