@@ -6,7 +6,7 @@ mod settings;
 mod told;
 
 use event_offers::Lanes;
-use front_base::{Bytes, Moment};
+use front_base::{Bytes, Moment, NoMemory};
 use front_ports::{MemBytes, MemClock, MemConn, MemDial, MemLink, Script};
 use local_replies::LocalPaths;
 use log_sink::LogSink;
@@ -31,29 +31,29 @@ fn text_of(rt: &HostRuntime, name: &str) -> Option<String> {
     fs::read_to_string(rt, name).ok()
 }
 
-fn script(alloc: Global, input: &str) -> Option<Script> {
-    Some(Script {
-        input: Bytes::new(input.as_bytes().to_vec(alloc).ok()?),
+fn script(alloc: Global, input: &str) -> Result<Script, NoMemory> {
+    Ok(Script {
+        input: Bytes::new(input.as_bytes().to_vec(alloc)?),
         room: ROOM,
-        sizes: vec![in alloc; 700, 1, 40].ok()?,
+        sizes: vec![in alloc; 700, 1, 40]?,
         read_fails: Vec::new(alloc),
         write_fails: Vec::new(alloc),
     })
 }
 
 // Backends that reply so, a line each, one after another. The one that replies `!` cannot be dialed.
-fn dial_of(alloc: Global, replies: &str) -> Option<MemDial> {
+fn dial_of(alloc: Global, replies: &str) -> Result<MemDial, NoMemory> {
     let mut links = Vec::new(alloc);
     let mut fails = Vec::new(alloc);
     for line in replies.lines() {
-        let reply = line.replace(alloc, "~", "\r\n").ok()?;
-        let link = MemLink::new(alloc, script(alloc, &reply)?).ok()?;
-        links.push(link).ok()?;
+        let reply = line.replace(alloc, "~", "\r\n")?;
+        let link = MemLink::new(alloc, script(alloc, &reply)?)?;
+        links.push(link)?;
         if line == "!" {
-            fails.push(links.len() as u64).ok()?;
+            fails.push(links.len() as u64)?;
         }
     }
-    MemDial::new(alloc, links, fails).ok()
+    MemDial::new(alloc, links, fails)
 }
 
 type OwnLog = OwnLane<LogSink<MemBytes, NoNotes>>;
@@ -82,7 +82,7 @@ fn run(rt: &HostRuntime, client: &str, replies: &str, services: &str) -> Option<
         boot: 1,
         number: 0,
         routes: routes_of(alloc, &text_of(rt, services)?)?,
-        dial: dial_of(alloc, &text_of(rt, replies)?)?,
+        dial: dial_of(alloc, &text_of(rt, replies)?).ok()?,
         lanes: Lanes {
             bay: 2,
             log: log_of(alloc)?,
@@ -94,7 +94,7 @@ fn run(rt: &HostRuntime, client: &str, replies: &str, services: &str) -> Option<
         diary: MemDiary::new(alloc),
     };
     let input = text_of(rt, client)?;
-    let mut conn = MemConn::new(alloc, [10, 0, 0, 7], script(alloc, &input)?).ok()?;
+    let mut conn = MemConn::new(alloc, [10, 0, 0, 7], script(alloc, &input).ok()?).ok()?;
     let end = serve_connection(alloc, &settings, &paths, &mut bay, &mut conn);
     print!(rt; "== {client}: {end:?}\n").ok()?;
     for exchange in bay.diary.exchanges() {
