@@ -140,8 +140,9 @@ impl Drainer {
         sink: &mut S,
         now: Moment,
     ) -> Pumped
-        ensures { PumpedAs self.old now (U.tells outlet.old) (S.tells sink.old) result
+        ensures pumped { PumpedAs self.old now (U.tells outlet.old) (S.tells sink.old) result
             self.new (U.tells outlet.new) (S.tells sink.new) }
+        ensures home { U.home outlet.new ≡ U.home outlet.old }
     {
         let now = now.micros();
         if self.is_due(now) {
@@ -178,6 +179,7 @@ impl Drainer {
             self.new (U.tells outlet.new) (S.tells sink.new) }
         ensures parts { BatchParts self.old (S.tells sink.old).tries (U.tells outlet.old).taken
             → BatchParts self.new (S.tells sink.new).tries (U.tells outlet.new).taken }
+        ensures home { U.home outlet.new ≡ U.home outlet.old }
     {
         tries_join();
         one_try();
@@ -192,8 +194,9 @@ impl Drainer {
         now: Moment,
     ) -> (u64, u64)
         requires { is_some (U.tells outlet.old).left ≡ true }
-        ensures { PumpedOut self.old now (U.tells outlet.old) (S.tells sink.old) result.0 result.1
+        ensures pumped { PumpedOut self.old now (U.tells outlet.old) (S.tells sink.old) result.0 result.1
             self.new (U.tells outlet.new) (S.tells sink.new) }
+        ensures home { U.home outlet.new ≡ U.home outlet.old }
     {
         let mut written: u64 = 0;
         let mut unwritten: u64 = 0;
@@ -223,6 +226,7 @@ impl Drainer {
         ensures left { (is_some (U.tells outlet.new).left ≡ true) × NoneLeft (U.tells outlet.new).left }
         ensures parts { BatchParts self.old (S.tells sink.old).tries (U.tells outlet.old).taken
             → BatchParts self.new (S.tells sink.new).tries (U.tells outlet.new).taken }
+        ensures home { U.home outlet.new ≡ U.home outlet.old }
     {
         tries_join();
         one_try();

@@ -15,7 +15,7 @@ returns-then-is_empty-clause-moved g c =
       one_lost = c.one_try.ensures.lost;
     } in
     let joins : JoinLaws = record { lines = c.lists_join.ensures.lines; tries = c.lists_join.ensures.tries } in
-    flush-moved _ _ _ _ _ _ _ _ _ c.pump_all-written.ensures law joins
+    flush-moved _ _ _ _ _ _ _ _ _ c.pump_all-written.ensures.pumped law joins
 
 pub returns-then-is_empty-clause-parts : goal.returns-then-is_empty-clause-parts
 returns-then-is_empty-clause-parts g c = λ h.
@@ -27,8 +27,8 @@ returns-then-is_empty-clause-parts g c = λ h.
       one_lost = c.one_try.ensures.lost;
     } in
     let joins : JoinLaws = record { lines = c.lists_join.ensures.lines; tries = c.lists_join.ensures.tries } in
-    let m = flush-moved _ _ _ _ _ _ _ _ _ c.pump_all-written.ensures law joins in
-    parts-moved law _ _ _ _ _ _ _ _ m.moved (flush-pends _ _ _ _ _ _ _ _ _ c.pump_all-written.ensures) h
+    let m = flush-moved _ _ _ _ _ _ _ _ _ c.pump_all-written.ensures.pumped law joins in
+    parts-moved law _ _ _ _ _ _ _ _ m.moved (flush-pends _ _ _ _ _ _ _ _ _ c.pump_all-written.ensures.pumped) h
 
 pub returns-clause-moved : goal.returns-clause-moved
 returns-clause-moved g c =
@@ -45,7 +45,7 @@ returns-clause-moved g c =
     let b = c.lost.ensures in
     let x = c.saturating_add.ensures in
     let y = c.saturating_add-2.ensures in
-    flush-moved-put _ _ _ _ _ _ _ _ _ c.pump_all-written.ensures law joins c.put_due-answer.new.self
+    flush-moved-put _ _ _ _ _ _ _ _ _ c.pump_all-written.ensures.pumped law joins c.put_due-answer.new.self
     (g.S.BatchSink.tells c.put_due-answer.new.sink) c.put_due-answer.result c.saturating_add.result c.saturating_add-2.result
     (ap (λ (z : Drained). z.limits) e.left) (ap (λ (z : Drained). z.pending.lines) e.left) e.within e.put
     (omega arith) (omega arith)
@@ -62,5 +62,5 @@ returns-clause-parts g c = λ h.
     let e = c.put_due-answer.ensures in
     let m = (returns-clause-moved g c).moved in
     parts-moved law c.args.self.now c.put_due-answer.new.self _ _ _ _ _ _ m
-    (flush-pends-put _ _ _ _ _ _ _ _ _ c.pump_all-written.ensures c.put_due-answer.new.self
+    (flush-pends-put _ _ _ _ _ _ _ _ _ c.pump_all-written.ensures.pumped c.put_due-answer.new.self
     (ap (λ (z : Drained). z.limits) e.left) (ap (λ (z : Drained). z.pending.lines) e.left)) h

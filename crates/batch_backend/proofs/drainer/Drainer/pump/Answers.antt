@@ -18,7 +18,7 @@ returns-clause-moved g c =
     let n = g.U.Outlet.tells c.pump_once.new.outlet in
     let s = g.S.BatchSink.tells c.args.sink.now in
     let t = g.S.BatchSink.tells c.pump_once.new.sink in
-    moved-from law d e c.args.now o n s t c.pump_once.result c.pump_once.ensures
+    moved-from law d e c.args.now o n s t c.pump_once.result c.pump_once.ensures.pumped
 
 pub returns-clause-parts : goal.returns-clause-parts
 returns-clause-parts g c = λ h.
@@ -35,5 +35,5 @@ returns-clause-parts g c = λ h.
     let n = g.U.Outlet.tells c.pump_once.new.outlet in
     let s = g.S.BatchSink.tells c.args.sink.now in
     let t = g.S.BatchSink.tells c.pump_once.new.sink in
-    parts-moved law d e o n s t _ _ (moved-from law d e c.args.now o n s t c.pump_once.result c.pump_once.ensures)
-    (pends-on d e c.args.now o n s t c.pump_once.result c.pump_once.ensures) h
+    parts-moved law d e o n s t _ _ (moved-from law d e c.args.now o n s t c.pump_once.result c.pump_once.ensures.pumped)
+    (pends-on d e c.args.now o n s t c.pump_once.result c.pump_once.ensures.pumped) h
