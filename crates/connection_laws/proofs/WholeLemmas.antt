@@ -10,11 +10,13 @@ use Rattle.event_offers.specs.Offering.{OffersAll}
 use Rattle.front_ports.specs.Told.{Adds}
 use Rattle.http_edge.specs.declared.request.Request.{Request}
 use Rattle.session_core.specs.Bays.{BayState}
-use Rattle.session_core.specs.Connection.{ConnState, Ran, Serves, HaltsAt}
-use Rattle.session_core.specs.Exchange.{Exchanged, Unbegun}
+use Rattle.session_core.specs.Connection.{ConnState, Ran, Serves, ServedBroken, HaltsAt}
+use Rattle.session_core.specs.Exchange.{ExchangedTo, Unbegun}
 use Rattle.session_core.specs.declared.conn_end.ConnEnd.{ConnEnd}
 use Rattle.session_core.specs.declared.conn_end.ConnEnd.TheVariants as conn_end
 use Rattle.session_core.specs.declared.exchange.Exchange.{Exchange}
+use Rattle.stream_relay.specs.declared.stream.Relayed.{Relayed}
+use Rattle.stream_relay.specs.declared.stream.Relayed.TheVariants as relayed
 
 abbrev pub Join : Type 0
 Join = (these those : List Due) (m k n : LanesState) (notes more : List OfferNote)
@@ -80,9 +82,9 @@ tells_one set m n x due rest e h noted number = record {
   number_is = number;
 }
 
-tells_exchanged : (set : Settings) (peer : List ℕ) (r : Request) (m : BayState) (text : List ℕ) (n : BayState)
-    → (h : Exchanged set peer r m text n) → Tells set m n (h.x ∷ []) []
-tells_exchanged set peer r m text n h =
+tells_exchanged : (set : Settings) (peer : List ℕ) (r : Request) (m : BayState) (text : List ℕ) (n : BayState) (end : Relayed)
+    → (h : ExchangedTo set peer r m text n end) → Tells set m n (h.x ∷ []) []
+tells_exchanged set peer r m text n end h =
     tells_one set m n h.x (offers_due set (owed h.x.decision h.x.facts)) []
     (sym (append-nil (offers_due set (owed h.x.decision h.x.facts)))) h.offered h.noted h.number_is
 
@@ -92,7 +94,7 @@ ran_tells join set peer m [] out n h = ([], subst (λ s. Tells set m s [] []) (s
 ran_tells join set peer m (r ∷ rs) out n h =
     let later = ran_tells join set peer h.2 rs h.1 n h.5 in (
       h.3.x ∷ later.0,
-      tells_join join set m h.2 n (h.3.x ∷ []) later.0 [] (tells_exchanged set peer r m h.0 h.2 h.3) later.1,
+      tells_join join set m h.2 n (h.3.x ∷ []) later.0 [] (tells_exchanged set peer r m h.0 h.2 relayed.Done h.3) later.1,
     )
 
 -- ---- how it ends
@@ -128,6 +130,17 @@ halts_tell join set peer left rs m k n w0 w xs t (inr h) =
           (tells_one set k n halted.x halted.due halted.rest halted.due_is halted.offered halted.noted halted.number_is),
     )
 
+broken : Join → (set : Settings) (peer : List ℕ) (m n : BayState) (c d : ConnState) (end : Relayed) → ServedBroken set peer m n c d end
+    → (xs : List Exchange) × (rest : List Due) × Tells set m n xs rest × (rest ≡ [])
+broken join set peer m n c d end h =
+    let first = ran_tells join set peer m h.requests h.out h.middle h.ran in (
+      first.0 ++ h.broken.x ∷ [],
+      [],
+      tells_join join set m h.middle n first.0 (h.broken.x ∷ []) [] first.1
+          (tells_exchanged set peer h.last h.middle h.text n end h.broken),
+      refl,
+    )
+
 pub told_whole : Join → (set : Settings) (peer : List ℕ) (m n : BayState) (c d : ConnState) (end : ConnEnd)
     → Serves set peer m n c d end → Told set m n end
 told_whole join set peer m n c d (conn_end.Stopped end) h = ends join set peer m h.requests h.out n h.ran
@@ -137,9 +150,11 @@ told_whole join set peer m n c d conn_end.WriteFault h =
       first.0 ++ h.0.cut.x ∷ [],
       [],
       tells_join join set m h.0.middle n first.0 (h.0.cut.x ∷ []) [] first.1
-          (tells_exchanged set peer h.0.last h.0.middle h.0.text n h.0.cut),
+          (tells_exchanged set peer h.0.last h.0.middle h.0.text n relayed.WriteFault h.0.cut),
       refl,
     )
+told_whole join set peer m n c d conn_end.BackendCut h = broken join set peer m n c d relayed.BackendCut h
+told_whole join set peer m n c d conn_end.StreamSpent h = broken join set peer m n c d relayed.StreamSpent h
 told_whole join set peer m n c d conn_end.NumbersSpent h = ends join set peer m h.requests h.out n h.ran
 told_whole join set peer m n c d conn_end.NoMemory h =
     let first = ran_tells join set peer m h.requests h.out h.middle h.ran in

@@ -39,6 +39,8 @@ abbrev pub CanLeave : ConnEnd → List Due → Type 0
 CanLeave (conn_end.Stopped end) rest = rest ≡ []
 CanLeave conn_end.ReadFault rest = rest ≡ []
 CanLeave conn_end.WriteFault rest = rest ≡ []
+CanLeave conn_end.BackendCut rest = rest ≡ []
+CanLeave conn_end.StreamSpent rest = rest ≡ []
 CanLeave conn_end.NumbersSpent rest = rest ≡ []
 CanLeave conn_end.NoMemory rest = ⊤
 

@@ -2,9 +2,15 @@
 //! sent, what the log says and what the diary notes, on standard output, where it is compared byte by byte.
 #![tactic(auto)]
 
+ghost use Rattle.std.specs.Prelude.{◌≡◌, false, IfSome};
+ghost use Rattle.audit_core.specs.declared.sinks.SinkMode.TheVariants.{Off};
+ghost use Rattle.event_offers.specs.Lanes.{is_batch};
+
 mod settings;
 mod told;
 
+use apiservice_table::TableRoutes;
+use audit_core::{Settings, SinkMode};
 use event_offers::Lanes;
 use front_base::{Bytes, Moment, NoMemory};
 use front_ports::{MemBytes, MemClock, MemConn, MemDial, MemLink, Script};
@@ -21,10 +27,17 @@ use truncate_backend::{NoNotes, OwnLane};
 // How many bytes a port takes.
 const ROOM: u64 = 1_000_000;
 
-// The clients' bytes, the replies of backends with `~` for CR LF, and the APIServices, of each connection.
+// The clients' bytes, the replies of backends with `~` for CR LF, the APIServices, the policy, and the log of each
+// connection.
 const RUNS: &str = "\
-changes.http|changes.replies|changes.json
-mixed.http|mixed.replies|mixed.json
+changes.http|changes.replies|changes.json|policy.json|blocking
+mixed.http|mixed.replies|mixed.json|policy.json|blocking
+streams.http|streams.replies|mixed.json|all.json|blocking
+watch.http|cut.replies|mixed.json|all.json|blocking
+list.http|cut.replies|mixed.json|all.json|blocking
+list.http|broken.replies|mixed.json|all.json|blocking
+list.http|huge.replies|mixed.json|all.json|blocking
+list.http|cut.replies|mixed.json|all.json|strict
 ";
 
 fn text_of(rt: &HostRuntime, name: &str) -> Option<String> {
@@ -58,10 +71,21 @@ fn dial_of(alloc: Global, replies: &str) -> Result<MemDial, NoMemory> {
 
 type OwnLog = OwnLane<LogSink<MemBytes, NoNotes>>;
 
-fn log_of(alloc: Global) -> Option<OwnLog> {
-    let out = MemBytes::new(alloc, ROOM, Vec::new(alloc)).ok()?;
+// A log whose writes of these numbers fail.
+fn log_of(alloc: Global, fails: Vec<u64>) -> Option<OwnLog> {
+    let out = MemBytes::new(alloc, ROOM, fails).ok()?;
     let sink = LogSink::start(alloc, out, NoNotes).ok()?;
     Some(OwnLane { sink })
+}
+
+// How the log is written to, and which of its writes fail: the first one of a strict log.
+fn log_mode(alloc: Global, word: &str) -> Option<(SinkMode, Vec<u64>)>
+    ensures { IfSome result (λ own. is_batch own.0 ≡ false) }
+{
+    match word {
+        "strict" => Some((SinkMode::Strict, vec![in alloc; 1].ok()?)),
+        _ => Some((SinkMode::Blocking, Vec::new(alloc))),
+    }
 }
 
 fn show(rt: &HostRuntime, bytes: &[u8]) -> Option<()> {
@@ -69,39 +93,59 @@ fn show(rt: &HostRuntime, bytes: &[u8]) -> Option<()> {
     print!(rt; "{text}\n").ok()
 }
 
-fn run(rt: &HostRuntime, client: &str, replies: &str, services: &str) -> Option<()> {
-    let alloc = rt.alloc();
-    let settings = settings_of(
-        alloc,
+// The bay of a run.
+type OwnBay = Bay<TableRoutes, MemDial, OwnLog, OwnLog, MemClock, MemDiary>;
+
+// The settings of a run.
+fn own_settings(rt: &HostRuntime, policy: &str, log: SinkMode) -> Option<Settings>
+    ensures { IfSome result (λ set. (set.max_event ≡ 102400) × (set.log ≡ log) × (set.hook ≡ Off)) }
+{
+    settings_of(
+        rt.alloc(),
         &text_of(rt, "tokens.csv")?,
-        &text_of(rt, "policy.json")?,
+        &text_of(rt, policy)?,
         &text_of(rt, "endpoints.csv")?,
-    )?;
-    let paths = LocalPaths::new(alloc).ok()?;
-    let mut bay = Bay {
+        log,
+    )
+}
+
+// A client that sends these bytes.
+fn client_of(rt: &HostRuntime, name: &str) -> Option<MemConn> {
+    let alloc = rt.alloc();
+    let input = text_of(rt, name)?;
+    MemConn::new(alloc, [10, 0, 0, 7], script(alloc, &input).ok()?).ok()
+}
+
+// A bay over these APIServices and these replies, with a log whose writes of these numbers fail.
+fn own_bay(rt: &HostRuntime, services: &str, replies: &str, fails: Vec<u64>) -> Option<OwnBay>
+    ensures { IfSome result (λ bay. (bay.number ≡ 0) × (bay.lanes.log_lines ≡ 0) × (bay.lanes.hook_lines ≡ 0)) }
+{
+    let alloc = rt.alloc();
+    Some(Bay {
         boot: 1,
         number: 0,
         routes: routes_of(alloc, &text_of(rt, services)?)?,
         dial: dial_of(alloc, &text_of(rt, replies)?).ok()?,
         lanes: Lanes {
             bay: 2,
-            log: log_of(alloc)?,
-            hook: log_of(alloc)?,
+            log: log_of(alloc, fails)?,
+            hook: log_of(alloc, Vec::new(alloc))?,
             log_lines: 0,
             hook_lines: 0,
         },
         clock: MemClock::new(Moment::epoch(), 1),
         diary: MemDiary::new(alloc),
-    };
-    let input = text_of(rt, client)?;
-    let mut conn = MemConn::new(alloc, [10, 0, 0, 7], script(alloc, &input).ok()?).ok()?;
-    let end = serve_connection(alloc, &settings, &paths, &mut bay, &mut conn);
-    print!(rt; "== {client}: {end:?}\n").ok()?;
+    })
+}
+
+// What the diary notes, what the client got, what the backends were sent, and what the log says.
+fn tell(rt: &HostRuntime, bay: &OwnBay, output: &[u8]) -> Option<()> {
+    let alloc = rt.alloc();
     for exchange in bay.diary.exchanges() {
         show(rt, exchange_line(alloc, exchange)?.as_bytes())?;
     }
     print!(rt; "== replies\n").ok()?;
-    show(rt, conn.output())?;
+    show(rt, output)?;
     for call in bay.dial.calls()? {
         let [a, b, c, d] = call.to.ip;
         print!(rt; "== {a}.{b}.{c}.{d}:{} is sent\n", call.to.port).ok()?;
@@ -111,15 +155,26 @@ fn run(rt: &HostRuntime, client: &str, replies: &str, services: &str) -> Option<
     show(rt, bay.lanes.log.sink.out().bytes())
 }
 
+fn run(rt: &HostRuntime, row: &str) -> Option<()> {
+    let alloc = rt.alloc();
+    let mut names = row.split('|');
+    let client = names.next()?;
+    let replies = names.next()?;
+    let services = names.next()?;
+    let policy = names.next()?;
+    let (mode, fails) = log_mode(alloc, names.next()?)?;
+    let settings = own_settings(rt, policy, mode)?;
+    let paths = LocalPaths::new(alloc).ok()?;
+    let mut bay = own_bay(rt, services, replies, fails)?;
+    let mut conn = client_of(rt, client)?;
+    let end = serve_connection(alloc, &settings, &paths, &mut bay, &mut conn);
+    print!(rt; "== {client}, {replies}, {mode:?}: {end:?}\n").ok()?;
+    tell(rt, &bay, conn.output())
+}
+
 fn main(rt: HostRuntime) -> ExitCode {
     for row in RUNS.lines() {
-        let Some((client, rest)) = row.split_once('|') else {
-            return ExitCode::from(1);
-        };
-        let Some((replies, services)) = rest.split_once('|') else {
-            return ExitCode::from(1);
-        };
-        let Some(()) = run(&rt, client, replies, services) else {
+        let Some(()) = run(&rt, row) else {
             return ExitCode::from(1);
         };
     }

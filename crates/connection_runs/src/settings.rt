@@ -1,6 +1,6 @@
 // The settings and the table of a run.
 ghost use Rattle.std.specs.Prelude.{◌≡◌, ◌≤◌, IfSome, length};
-ghost use Rattle.audit_core.specs.declared.sinks.SinkMode.TheVariants.{Blocking, Off};
+ghost use Rattle.audit_core.specs.declared.sinks.SinkMode.TheVariants.{Off};
 ghost use Rattle.front_base.specs.declared.file.TheConstants.{MOST_FILE_BYTES};
 
 use apiservice_rows::read_rows;
@@ -24,9 +24,15 @@ fn file_bytes(text: &str) -> Option<&[u8]>
     }
 }
 
-/// The settings that these files state, with a log that is written to at once.
-pub fn settings_of(alloc: Global, tokens: &str, policy: &str, endpoints: &str) -> Option<Settings>
-    ensures { IfSome result (λ set. (set.max_event ≡ 102400) × (set.log ≡ Blocking) × (set.hook ≡ Off)) }
+/// The settings that these files state, with such a log and no webhook.
+pub fn settings_of(
+    alloc: Global,
+    tokens: &str,
+    policy: &str,
+    endpoints: &str,
+    log: SinkMode,
+) -> Option<Settings>
+    ensures { IfSome result (λ set. (set.max_event ≡ 102400) × (set.log ≡ log) × (set.hook ≡ Off)) }
 {
     let tokens = read_tokens(alloc, file_bytes(tokens)?).ok()?;
     let policy = read_policy(alloc, file_bytes(policy)?).ok()?;
@@ -36,7 +42,7 @@ pub fn settings_of(alloc: Global, tokens: &str, policy: &str, endpoints: &str) -
         policy,
         endpoints,
         max_event: 102_400,
-        log: SinkMode::Blocking,
+        log,
         hook: SinkMode::Off,
     })
 }

@@ -11,7 +11,7 @@ use Rattle.front_ports.specs.Cause.{Rose}
 use Rattle.front_ports.specs.Written.{AppendsFront}
 
 -- a prefix of the first text is one of both
-front_of_first : (w0 w : Option (List ℕ)) (head body : List ℕ) → AppendsFront w0 w head → AppendsFront w0 w (head ++ body)
+pub front_of_first : (w0 w : Option (List ℕ)) (head body : List ℕ) → AppendsFront w0 w head → AppendsFront w0 w (head ++ body)
 front_of_first w0 w head body p =
     let k = min p.0 (length head) in
     let e : take k (head ++ body) ≡ take p.0 head = take-append-le k head body (omega arith) ∙ take_min p.0 head in

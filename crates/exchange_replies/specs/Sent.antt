@@ -4,12 +4,11 @@ use Rattle.audit_core.specs.declared.link_note.LinkNote.{LinkNote}
 use Rattle.audit_core.specs.declared.link_note.LinkNote.TheVariants as note
 use Rattle.audit_core.specs.declared.routed.Handling.{Handling}
 use Rattle.audit_core.specs.declared.routed.Handling.TheVariants.{Refused, Served, Proxied}
-use Rattle.body_frames.specs.declared.frame.Frame.{Frame}
 use Rattle.exchange_replies.specs.declared.reached.Reached.{Reached}
 use Rattle.exchange_replies.specs.declared.reached.Reached.TheVariants as reached
 use Rattle.forward_link.specs.Exchange.{Answered, HandedBack}
 use Rattle.forward_link.specs.Forwarded.{forwarded_head}
-use Rattle.forward_link.specs.Says.{whole, stream, bad, cut}
+use Rattle.forward_link.specs.Says.{whole, bad, cut}
 use Rattle.forward_link.specs.Target.{address_of}
 use Rattle.front_base.specs.AuditId.{AuditId}
 use Rattle.front_base.specs.declared.address.Address.{Address}
@@ -22,7 +21,6 @@ use Rattle.http_edge.specs.declared.request.Request.{Request}
 use Rattle.http_head.specs.Framing.{framing}
 use Rattle.http_head.specs.declared.body.Framing.{Framing}
 use Rattle.http_head.specs.declared.body.Framing.TheVariants as framing_case
-use Rattle.http_head.specs.declared.reply.ReplyHead.{ReplyHead}
 
 -- ---- what is sent
 
@@ -61,13 +59,6 @@ pub record DialState : Type 0 where
   pub faults : ℕ
   pub link_faults : ℕ
 
--- the bytes of the link say that no reply came that may be handed on whole
-abbrev pub IsUnfit : Bool → Bool → Sent → DialState → DialState → Type 0
-IsUnfit is_head long own m n =
-    Answered is_head long m.calls n.calls own.to own.text bad
-    ⊎ ((head : ReplyHead) × (frame : Frame) × (after : List ℕ)
-    × Answered is_head long m.calls n.calls own.to own.text (stream head frame after))
-
 -- it was sent on, and this came of it: one call was made, and the answer is what all bytes of its link say, unless a count of
 -- faults rose
 abbrev pub ReachesBy : Bool → Bool → Sent → DialState → DialState → Reached → Type 0
@@ -76,7 +67,8 @@ ReachesBy is_head long own m n (reached.Whole head body) =
     Answered is_head long m.calls n.calls own.to own.text (whole head body)
 ReachesBy is_head long own m n reached.DialFailed =
     Grows m.calls n.calls (failed_call own.to ∷ []) × Rose m.faults n.faults
-ReachesBy is_head long own m n reached.BadReply = IsUnfit is_head long own m n
+ReachesBy is_head long own m n reached.BadReply =
+    Answered is_head long m.calls n.calls own.to own.text bad
 ReachesBy is_head long own m n reached.Cut =
     Answered is_head long m.calls n.calls own.to own.text cut
 ReachesBy is_head long own m n reached.LinkFault =

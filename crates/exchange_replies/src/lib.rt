@@ -1,25 +1,29 @@
 //! How a request that is handled so is answered: by the backend that it is sent on to, or by this server itself.
 //!
-//! The main contracts are those of `send_on` and `answer`. `send_on` sends a request on once where it is to be sent on, to
-//! the address and with the bytes of `sent_on`, and answers what all bytes of the link say. `answer` writes the bytes of
-//! `client_text`: of a backend's whole reply the head without what is for this server alone, and the body; otherwise a reply of
-//! this server's own. A reply that would have to be handed on in pieces counts as none that may be handed on.
+//! The main contracts are those of `forward` and `reply_to`. `forward` sends a request on once where it is to be sent on, to
+//! the address and with the bytes of `sent_on`, and answers what all bytes of the link say, or the head of a reply that streams
+//! beside its open link. `reply_to` writes the reply and hands that link back: of a backend's whole reply the head without what
+//! is for this server alone, and the body; of one that streams the head, and the body decoded from all bytes of the link, as
+//! far as they go; otherwise a reply of this server's own. It answers how the reply ended, and what was kept of its body.
 //!
-//! Nothing is promised of when a reply comes.
+//! Nothing is promised of when a reply or a piece of it comes, nor that a piece is written before the next is read.
 #![tactic(auto)]
 
 mod client;
 mod own;
 mod reached;
 mod sending;
+mod sent_on;
 mod statuses;
+mod streaming;
 mod writing;
 
-pub use client::{answer, is_head};
 pub use own::refusal_text;
 pub use reached::Reached;
-pub use sending::send_on;
+pub use sending::forward;
+pub use sent_on::SentOn;
 pub use statuses::statuses_are_final;
+pub use streaming::{ReplyEnd, give_back, reply_to};
 pub use writing::{Wrote, put_text};
 
 #[cfg(test)]

@@ -5,7 +5,7 @@ use audit_core::LinkNote;
 use front_base::Bytes;
 use http_head::ReplyHead;
 
-/// What came of a request's link.
+/// What came of a request's link, where no reply streams.
 #[derive(Debug, Drop)]
 pub enum Reached {
     /// The request was not to be sent on.
@@ -14,7 +14,7 @@ pub enum Reached {
     Whole { head: ReplyHead, body: Bytes },
     /// The backend could not be dialed.
     DialFailed,
-    /// What came is no reply that may be handed on whole.
+    /// What came is no reply that may be handed on.
     BadReply,
     /// The link ended before the reply did.
     Cut,

@@ -17,13 +17,15 @@ use Rattle.http_edge.specs.declared.request.Request.{Request}
 use Rattle.http_edge.specs.declared.request.Stop.{Stop}
 use Rattle.http_edge.specs.declared.request.Stop.TheVariants as stop
 use Rattle.session_core.specs.Bays.{BayState}
-use Rattle.session_core.specs.Connection.{ConnState, Ran, FirstOf, refusal_of, refusal_by, ServedAll, ServedTaken, ServedCut, ServedMost, ServedFirst, HaltsAt, Serves}
+use Rattle.session_core.specs.Connection.{ConnState, Ran, FirstOf, refusal_of, refusal_by, ServedAll, ServedTaken, ServedCut, ServedBroken, ServedMost, ServedFirst, HaltsAt, Serves}
 use Rattle.session_core.specs.Ends.{SoFar, end_of_stop, refusal_at}
-use Rattle.session_core.specs.Exchange.{Exchanged, Halted, Unbegun}
+use Rattle.session_core.specs.Exchange.{Exchanged, ExchangedTo, Halted, Unbegun}
 use Rattle.session_core.specs.Parts.{Outcomes}
 use Rattle.session_core.specs.declared.session.Outcome.TheVariants as outcome
 use Rattle.session_core.specs.declared.conn_end.ConnEnd.{ConnEnd}
 use Rattle.session_core.specs.declared.conn_end.ConnEnd.TheVariants as conn_end
+use Rattle.stream_relay.specs.declared.stream.Relayed.{Relayed}
+use Rattle.stream_relay.specs.declared.stream.Relayed.TheVariants as relayed
 use Rattle.session_core.proofs.ChainLemmas.{grows_none}
 use Rattle.session_core.proofs.ListLemmas.{StartsStay, RefusalsStay, reads_more, reads_one, list_stop, list_asked, first_of, first_one, stop_whole}
 
@@ -231,7 +233,7 @@ module _ (law : StartsStay) (set : Settings) (peer : List ℕ) (m k n : BayState
     written = subst (Appends w0 u) (sym (append-nil (s.out ++ text))) (Appends-trans w0 w u s.out text s.written h);
   }
 
-  pub cut_last : (rf wf rf' wf' : ℕ) (text : List ℕ) → Exchanged set peer r k text n → AppendsFront w u text
+  pub cut_last : (rf wf rf' wf' : ℕ) (text : List ℕ) → ExchangedTo set peer r k text n relayed.WriteFault → AppendsFront w u text
       → ServedCut set peer m n (record { left = a; written = w0; read_faults = rf; write_faults = wf })
       (record { left = c; written = u; read_faults = rf'; write_faults = wf' })
   cut_last rf wf rf' wf' text x h = record {
@@ -245,6 +247,21 @@ module _ (law : StartsStay) (set : Settings) (peer : List ℕ) (m k n : BayState
     cut = x;
     count = h.0;
     written = Appends-trans w0 w u s.out (take h.0 text) s.written h.1;
+  }
+
+  pub broken_last : (end : Relayed) (rf wf rf' wf' : ℕ) (text : List ℕ) → ExchangedTo set peer r k text n end → Appends w u text
+      → ServedBroken set peer m n (record { left = a; written = w0; read_faults = rf; write_faults = wf })
+      (record { left = c; written = u; read_faults = rf'; write_faults = wf' }) end
+  broken_last end rf wf rf' wf' text x h = record {
+    requests = s.requests;
+    last = r;
+    first = first_with;
+    out = s.out;
+    middle = k;
+    ran = s.ran;
+    text = text;
+    broken = x;
+    written = Appends-trans w0 w u s.out text s.written h;
   }
 
   pub most : (rf wf rf' wf' : ℕ) → k.number ≡ MOST_REQUESTS
@@ -302,13 +319,26 @@ module _ (law : StartsStay) (set : Settings) (peer p1 : List ℕ) (m k n : BaySt
   abbrev pub to : Option (List ℕ) → ConnState
   to l = record { left = l; written = u; read_faults = rf3; write_faults = wf3 }
 
-  exchanged_by : (text : List ℕ) → Exchanged set p1 r k text n → Exchanged set peer r k text n
-  exchanged_by text x = subst (λ (p : List ℕ). Exchanged set p r k text n) ep x
+  exchanged_by : (text : List ℕ) (end : Relayed) → ExchangedTo set p1 r k text n end → ExchangedTo set peer r k text n end
+  exchanged_by text end x = subst (λ (p : List ℕ). ExchangedTo set p r k text n end) ep x
+
+  -- all that came of a reply that streamed was written
+  broken_by : (end : Relayed) (text : List ℕ) → ExchangedTo set p1 r k text n end → Appends w1 u text → ServedBroken set peer m n from (to l3) end
+  broken_by end text x h =
+      subst (λ (l : Option (List ℕ)). ServedBroken set peer m n from (to l) end) (sym el)
+      (broken_last law set peer m k n a c1 y w0 w u r st end rf0 wf0 rf3 wf3 text (exchanged_by text end x)
+      (subst (λ (v : Option (List ℕ)). Appends v u text) ew h))
+
+  pub backend_end : Outcomes set p1 r k n w1 u (Rose wf1 wf3) outcome.BackendCut → ServedBroken set peer m n from (to l3) relayed.BackendCut
+  backend_end o = broken_by relayed.BackendCut o.0 o.1 o.2
+
+  pub spent_end : Outcomes set p1 r k n w1 u (Rose wf1 wf3) outcome.StreamSpent → ServedBroken set peer m n from (to l3) relayed.StreamSpent
+  spent_end o = broken_by relayed.StreamSpent o.0 o.1 o.2
 
   pub cut_end : wf0 ≤ wf1 → Outcomes set p1 r k n w1 u (Rose wf1 wf3) outcome.Cut → ServedCut set peer m n from (to l3) × Rose wf0 wf3
   cut_end le o = (
     subst (λ (l : Option (List ℕ)). ServedCut set peer m n from (to l)) (sym el)
-        (cut_last law set peer m k n a c1 y w0 w u r st rf0 wf0 rf3 wf3 o.0 (exchanged_by o.0 o.1)
+        (cut_last law set peer m k n a c1 y w0 w u r st rf0 wf0 rf3 wf3 o.0 (exchanged_by o.0 relayed.WriteFault o.1)
         (subst (λ (v : Option (List ℕ)). AppendsFront v u o.0) ew o.2)),
     rose_earlier wf0 wf1 wf3 le o.3,
   )
@@ -326,13 +356,13 @@ module _ (law : StartsStay) (set : Settings) (peer p1 : List ℕ) (m k n : BaySt
   pub asked_end : asks r ≡ true → Outcomes set p1 r k n w1 u (Rose wf1 wf3) outcome.Whole → ServedAll set peer m n from (to l3) end.Asked
   asked_end e o =
       subst (λ (l : Option (List ℕ)). ServedAll set peer m n from (to l) end.Asked) (sym el)
-      (asked_all law set peer m k n a c1 y w0 w u r st rf0 wf0 rf3 wf3 o.0 e (exchanged_by o.0 o.1)
+      (asked_all law set peer m k n a c1 y w0 w u r st rf0 wf0 rf3 wf3 o.0 e (exchanged_by o.0 relayed.Done o.1)
       (subst (λ (v : Option (List ℕ)). Appends v u o.0) ew o.2))
 
   pub more_end : asks r ≡ false → Outcomes set p1 r k n w1 u (Rose wf1 wf3) outcome.Whole → SoFar set peer m n a l3 y w0 u
   more_end e o =
       subst (λ (l : Option (List ℕ)). SoFar set peer m n a l y w0 u) (sym el)
-      (more_so_far law set peer m k n a c1 y w0 w u r st o.0 e (exchanged_by o.0 o.1)
+      (more_so_far law set peer m k n a c1 y w0 w u r st o.0 e (exchanged_by o.0 relayed.Done o.1)
       (subst (λ (v : Option (List ℕ)). Appends v u o.0) ew o.2))
 
 pub most_end : (law : StartsStay) (set : Settings) (peer : List ℕ) (m k : BayState) (a c : Option (List ℕ)) (y : List ℕ) (w0 w u : Option (List ℕ)) (r : Request)

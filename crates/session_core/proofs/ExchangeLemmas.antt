@@ -1,8 +1,6 @@
 -- An exchange from its parts.
-use Rattle.std.proofs.Common.{◌≡◌, ◌≤◌, ◌⊎◌, ℕ, Bool, true, false, if◌then◌else◌, List, [], ◌∷◌, ◌++◌, length, take, Option, refl, sym, ap, subst, ◌∙◌, arith, append_assoc, append-nil, inl, inr}
+use Rattle.std.proofs.Common.{◌≡◌, ◌≤◌, ◌⊎◌, ℕ, Bool, true, false, if◌then◌else◌, List, [], ◌∷◌, ◌++◌, length, Option, refl, sym, ap, subst, ◌∙◌, arith, append_assoc, append-nil, inl, inr}
 use Rattle.std.specs.Prelude.{Result, Ok, Err, OnOk, OnErr, IfOk}
-use Rattle.std.proofs.KnownBytes.{Appends-nil}
-use Rattle.std.specs.Io.KnownBytes.{Appends}
 use Rattle.audit_core.specs.Answer.{status_of}
 use Rattle.audit_core.specs.Offers.{Due, offers_due, has_refused}
 use Rattle.audit_core.specs.Owed.{omits, owed}
@@ -15,13 +13,13 @@ use Rattle.audit_core.specs.declared.routed.Routed.{Routed}
 use Rattle.audit_core.specs.declared.settings.Settings.{Settings}
 use Rattle.event_offers.specs.Lanes.{LanesState}
 use Rattle.event_offers.specs.Offering.{Noted, stage_events, started_events, events_by}
-use Rattle.exchange_replies.specs.Client.{client_text}
-use Rattle.exchange_replies.specs.Sent as sent
-use Rattle.exchange_replies.specs.Sent.{is_head, sent_on, Reaches, StopsSending, DialState}
-use Rattle.exchange_replies.specs.Writing.{Writes}
-use Rattle.exchange_replies.specs.declared.reached.Reached.{Reached}
+use Rattle.audit_core.specs.declared.routed.Handling.{Handling}
+use Rattle.exchange_replies.specs.Sent.{is_head, sent_on, StopsSending, DialState}
+use Rattle.exchange_replies.specs.Streams.{Came, once, streamed, Forwards, RepliedTo, RepliedPart, Replies, WritesPart, note_of_sent}
 use Rattle.exchange_replies.specs.declared.reached.Reached.TheVariants as reached_case
-use Rattle.exchange_replies.specs.declared.writing.Wrote.{Wrote}
+use Rattle.exchange_replies.specs.declared.sent_on.SentOn.{SentOn}
+use Rattle.forward_link.specs.Exchange.{LinkState}
+use Rattle.front_base.specs.AuditId.{AuditId}
 use Rattle.front_base.specs.Info.{is_long_running}
 use Rattle.exchange_replies.specs.Statuses.{IsFinalHandling}
 use Rattle.front_base.specs.declared.level.Level.{Level}
@@ -32,8 +30,8 @@ use Rattle.http_edge.specs.declared.request.Request.{Request}
 use Rattle.policy_rules.specs.declared.decision.Decision.{Decision}
 use Rattle.session_core.specs.Bays.{BayState, CanOffer}
 use Rattle.session_core.specs.Exchange.{errand_after, RoutesHalt}
-use Rattle.session_core.specs.Parts.{first_due, routes_and_lanes, Handled, HandleHalts, Reaching, ReachHalts, sending, Replied, ReplyHalts, IsTimedBy, with_moments, later_due, clock_and_lanes, all_but_numbers, final_facts, Served, ServingHalts}
-use Rattle.session_core.specs.Steps.{WorkState, Knows, IsReplyKept, with_reply, first_work}
+use Rattle.session_core.specs.Parts.{first_due, routes_and_lanes, Handled, HandleHalts, Reaching, ReachHalts, sending, Replied, ReplyHalts, IsTimedBy, with_moments, known_facts, object_due, later_due, dial_clock_and_lanes, all_but_numbers, Served, ServingHalts}
+use Rattle.session_core.specs.Steps.{WorkState, linked, with_status, with_reply, first_work}
 use Rattle.session_core.proofs.ChainLemmas.{grows_none, Join, noted_join}
 use Rattle.session_core.proofs.ReplyLemmas.{Stay, FewLog, FewHook, may_after, one_by}
 use Rattle.stage_event.specs.Begun.{filled}
@@ -41,6 +39,26 @@ use Rattle.stage_event.specs.Events.{event}
 use Rattle.stage_event.specs.declared.event.Event.{Event}
 use Rattle.stage_event.specs.declared.facts.Facts.{Facts}
 use Rattle.stage_event.specs.declared.facts.Kept.{Kept}
+use Rattle.stream_relay.specs.declared.stream.Relayed.{Relayed}
+use Rattle.stream_relay.specs.declared.stream.Relayed.TheVariants as relayed
+
+-- a link that failed later failed
+
+pub replies_later : (r : Request) (id : AuditId) (handling : Handling) (rose later : Type 0) (came : Came) (end : Relayed) (text : List ℕ)
+    → (rose → later) → Replies r id handling rose came end text → Replies r id handling later came end text
+replies_later r id handling rose later (once reached) end text go h = h
+replies_later r id handling rose later (streamed head frame after) relayed.Done text go h = h
+replies_later r id handling rose later (streamed head frame after) relayed.StreamSpent text go h = h
+replies_later r id handling rose later (streamed head frame after) relayed.WriteFault text go h = h
+replies_later r id handling rose later (streamed head frame after) relayed.BackendCut text go (inl h) = inl h
+replies_later r id handling rose later (streamed head frame after) relayed.BackendCut text go (inr h) =
+    inr (record { seen = h.seen; more = h.more; split = h.split; text_is = h.text_is; failed = go h.failed })
+
+part_later : (r : Request) (id : AuditId) (handling : Handling) (rose later : Type 0) (came : Came) (w0 w1 : Option (List ℕ))
+    → (rose → later) → WritesPart r id handling rose came w0 w1 → WritesPart r id handling later came w0 w1
+part_later r id handling rose later came w0 w1 go (inl e) = inl e
+part_later r id handling rose later came w0 w1 go (inr h) =
+    inr (h.0, h.1, replies_later r id handling rose later came h.1 h.0 go h.2, h.3)
 
 -- the event of the arrival doesn't depend on what is known later
 abbrev pub HidesLater : Type 0
@@ -88,15 +106,12 @@ module _ (join : Join) (hides : HidesLater) (stages : Stages) (both : DueOfBoth)
 
   -- ---- the bay
 
-  module _ (m k l n : BayState) (e1 : k ≡ routes_and_lanes m k) (e2 : l ≡ record k { dial = l.dial }) (e3 : n ≡ clock_and_lanes l n) where
+  module _ (m k l n : BayState) (e1 : k ≡ routes_and_lanes m k) (e2 : l ≡ record k { dial = l.dial }) (e3 : n ≡ dial_clock_and_lanes l n) where
     seen_is : n.seen ≡ k.seen
     seen_is = ap (λ (s : BayState). s.seen) e3 ∙ ap (λ (s : BayState). s.seen) e2
 
     own_is : n.own ≡ k.own
     own_is = ap (λ (s : BayState). s.own) e3 ∙ ap (λ (s : BayState). s.own) e2
-
-    dial_is : n.dial ≡ l.dial
-    dial_is = ap (λ (s : BayState). s.dial) e3
 
     opens : k.dial ≡ m.dial
     opens = ap (λ (s : BayState). s.dial) e1
@@ -112,47 +127,39 @@ module _ (join : Join) (hides : HidesLater) (stages : Stages) (both : DueOfBoth)
 
     bay_is : n ≡ all_but_numbers m n
     bay_is =
-        e3 ∙ ap (λ (s : BayState). clock_and_lanes s n) (e2 ∙ ap (λ (s : BayState). let t : BayState = record s { dial = l.dial } in t) e1)
-        ∙ ap (λ x. let t : BayState = record m { seen = x; own = k.own; dial = l.dial; lanes = n.lanes; last = n.last; given = n.given } in t) (sym seen_is)
-        ∙ ap (λ x. let t : BayState = record m { seen = n.seen; own = x; dial = l.dial; lanes = n.lanes; last = n.last; given = n.given } in t) (sym own_is)
-        ∙ ap (λ x. let t : BayState = record m { seen = n.seen; own = n.own; dial = x; lanes = n.lanes; last = n.last; given = n.given } in t) (sym dial_is)
+        e3 ∙ ap (λ (s : BayState). dial_clock_and_lanes s n) (e2 ∙ ap (λ (s : BayState). let t : BayState = record s { dial = l.dial } in t) e1)
+        ∙ ap (λ x. let t : BayState = record m { seen = x; own = k.own; dial = n.dial; lanes = n.lanes; last = n.last; given = n.given } in t) (sym seen_is)
+        ∙ ap (λ x. let t : BayState = record m { seen = n.seen; own = x; dial = n.dial; lanes = n.lanes; last = n.last; given = n.given } in t) (sym own_is)
 
   -- ---- the work
 
-  module _ (r : Request) (reached : Reached) (w a b : WorkState) (h : a ≡ record w { routed = a.routed; notes = a.notes }) (k : Knows r reached a b) where
-    abbrev pub reply_known : Facts
-    reply_known = with_reply (status_of a.routed.handling (sent.note_of reached)) k.kept w.facts
+  abbrev pub work_known : WorkState → WorkState → LinkNote → WorkState
+  work_known w a note = record {
+    routed = a.routed;
+    decision = w.decision;
+    facts = with_status (status_of a.routed.handling note) w.facts;
+    link = note;
+    notes = a.notes;
+  }
 
-    abbrev pub work_known : WorkState
-    work_known = record {
-      routed = a.routed;
-      decision = w.decision;
-      facts = reply_known;
-      link = sent.note_of reached;
-      notes = a.notes;
-    }
-
-    knows_is : b ≡ work_known
-    knows_is =
-        k.is
-        ∙ ap (λ (s : WorkState). let t : WorkState = record {
-          routed = a.routed;
-          decision = s.decision;
-          facts = with_reply (status_of a.routed.handling (sent.note_of reached)) k.kept s.facts;
-          link = sent.note_of reached;
-          notes = a.notes;
-        } in t) h
-
-    kept_is : IsReplyKept r (record w { routed = a.routed }) (sent.note_of reached) (sent.body_of reached) k.kept
-    kept_is = subst (λ (s : WorkState). IsReplyKept r s (sent.note_of reached) (sent.body_of reached) k.kept) h k.kept_is
+  link_known : (w a b : WorkState) (note : LinkNote) → a ≡ record w { routed = a.routed; notes = a.notes } → b ≡ linked note a → b ≡ work_known w a note
+  link_known w a b note h e =
+      e ∙ ap (λ (s : WorkState). let t : WorkState = record {
+        routed = a.routed;
+        decision = s.decision;
+        facts = with_status (status_of a.routed.handling note) s.facts;
+        link = note;
+        notes = a.notes;
+      } in t) h
 
   -- what was sent, by the first facts
-  sent_first : (r : Request) (w a : WorkState) (x y z : DialState) (reached : Reached) → a ≡ record w { routed = a.routed; notes = a.notes } → x ≡ z
-      → Reaches (is_head r) (is_long_running a.facts.info) (sending r a) x y reached
-      → Reaches (is_head r) (is_long_running w.facts.info) (sent_on r w.facts.user w.facts.id a.routed.handling) z y reached
-  sent_first r w a x y z reached h e s =
-      subst (λ (d : DialState). Reaches (is_head r) (is_long_running w.facts.info) (sent_on r w.facts.user w.facts.id a.routed.handling) d y reached) e
-      (subst (λ (f : Facts). Reaches (is_head r) (is_long_running f.info) (sent_on r f.user f.id a.routed.handling) x y reached)
+  sent_first : {K : Type 0} (state : K → LinkState) (r : Request) (w a : WorkState) (x y z : DialState) (sent : SentOn K)
+      → a ≡ record w { routed = a.routed; notes = a.notes } → x ≡ z
+      → Forwards state (is_head r) (is_long_running a.facts.info) (sending r a) x y sent
+      → Forwards state (is_head r) (is_long_running w.facts.info) (sent_on r w.facts.user w.facts.id a.routed.handling) z y sent
+  sent_first state r w a x y z sent h e s =
+      subst (λ (d : DialState). Forwards state (is_head r) (is_long_running w.facts.info) (sent_on r w.facts.user w.facts.id a.routed.handling) d y sent) e
+      (subst (λ (f : Facts). Forwards state (is_head r) (is_long_running f.info) (sent_on r f.user f.id a.routed.handling) x y sent)
       (ap (λ (s : WorkState). s.facts) h) s)
 
   stops_first : (r : Request) (w a : WorkState) (x y z : DialState) → a ≡ record w { routed = a.routed; notes = a.notes } → x ≡ z
@@ -163,22 +170,37 @@ module _ (join : Join) (hides : HidesLater) (stages : Stages) (both : DueOfBoth)
 
   -- ---- all of it
 
-  pub served : (r : Request) (own : Errand) (m k l n : BayState) (w a b v : WorkState) (reached : Reached) (w0 w1 : Option (List ℕ))
-      (rose : Type 0) (wrote : Wrote) → Handled set own m w k a → Reaching r k a l b reached → Replied set l b n v
-      → Writes w0 w1 (client_text r b.facts.id b.routed.handling reached) rose wrote
-      → Served set r own m w n v w0 w1 rose wrote
-  served r own m k l n w a b v reached w0 w1 rose wrote h g p writes =
-      let is : b ≡ work_known r reached w a b h.work_is g.knows = knows_is r reached w a b h.work_is g.knows in
-      let status = status_of a.routed.handling (sent.note_of reached) in
-      let kept = g.knows.kept in
+  pub served : {K : Type 0} (state : K → LinkState) (r : Request) (own : Errand) (m k l n : BayState) (w a b v : WorkState) (sent : SentOn K)
+      (w0 w1 : Option (List ℕ)) (rose : Type 0) (end : Relayed) → Handled set own m w k a → Reaching state r k a l b sent
+      → Replied state set r sent l b n v w0 w1 rose end → Served set r own m w n v w0 w1 rose end
+  served state r own m k l n w a b v sent w0 w1 rose end h g p =
+      let note = note_of_sent sent in
+      let is : b ≡ work_known w a note = link_known w a b note h.work_is g.work_is in
+      let status = status_of a.routed.handling note in
+      let kept = p.kept in
+      let opens : k.dial ≡ m.dial = opens m k l n h.bay_is g.bay_is p.bay_is in
+      let faults : m.dial.link_faults ≤ l.dial.link_faults = omega (arith, g.later, ap (λ (d : DialState). d.link_faults) opens) in
+      let to : RepliedTo state r w.facts.id a.routed.handling (object_due w) sent l.dial n.dial w0 w1 rose (record { end = end; kept = kept }) =
+      subst (λ (t : WorkState). RepliedTo state r t.facts.id t.routed.handling (object_due t) sent l.dial n.dial w0 w1 rose (record { end = end; kept = kept })) is p.to in
       let first : Noted (first_due set w) m.lanes w.notes k.lanes a.notes = h.noted in
       let later : Noted (later_due set w.decision (known status kept p.started p.complete w.facts)) k.lanes a.notes n.lanes v.notes =
       subst (λ (s : LanesState). Noted (later_due set w.decision (known status kept p.started p.complete w.facts)) s a.notes n.lanes v.notes)
       (lanes_is m k l n h.bay_is g.bay_is p.bay_is)
-      (subst (λ (t : WorkState). Noted (later_due set t.decision (with_moments p.started p.complete t.facts)) l.lanes t.notes n.lanes v.notes) is p.noted) in
+      (subst (λ (t : WorkState). Noted (later_due set t.decision (known_facts kept p.started p.complete t.facts)) l.lanes t.notes n.lanes v.notes) is p.noted) in
+      let noted : Noted (offers_due set (owed w.decision (known status kept p.started p.complete w.facts))) m.lanes w.notes n.lanes v.notes =
+      subst (λ (d : List Due). Noted d m.lanes w.notes n.lanes v.notes)
+      (sym (due_known w.decision w.facts status p.started p.complete kept))
+      (noted_join join (first_due set w) (later_due set w.decision (known status kept p.started p.complete w.facts)) m.lanes k.lanes n.lanes w.notes a.notes v.notes first later) in
+      let work : v ≡ record {
+        routed = a.routed;
+        decision = w.decision;
+        facts = known status kept p.started p.complete w.facts;
+        link = note;
+        notes = v.notes;
+      } = p.work_is ∙ ap (λ (t : WorkState). let s : WorkState = record t { facts = known_facts kept p.started p.complete t.facts; notes = v.notes } in s) is in
       record {
         routed = a.routed;
-        reached = reached;
+        came = to.came;
         reply = kept;
         started = p.started;
         complete = p.complete;
@@ -186,19 +208,26 @@ module _ (join : Join) (hides : HidesLater) (stages : Stages) (both : DueOfBoth)
             (after_same own a.notes v.notes (p.refuses ∙ ap (λ (t : WorkState). has_refused set t.notes) is))
             (subst (λ x. Decides set.endpoints (errand_after set a.notes own) m.opening m.seen m.own x n.own a.routed) (sym (seen_is m k l n h.bay_is g.bay_is p.bay_is))
             (subst (λ x. Decides set.endpoints (errand_after set a.notes own) m.opening m.seen m.own k.seen x a.routed) (sym (own_is m k l n h.bay_is g.bay_is p.bay_is)) h.decides));
-        sent_is = subst (λ (d : DialState). Reaches (is_head r) (is_long_running w.facts.info) (sent_on r w.facts.user w.facts.id a.routed.handling) m.dial d reached)
-            (sym (dial_is m k l n h.bay_is g.bay_is p.bay_is))
-            (sent_first r w a k.dial l.dial m.dial reached h.work_is (opens m k l n h.bay_is g.bay_is p.bay_is) g.sent_is);
-        kept_is = kept_is r reached w a b h.work_is g.knows;
-        noted = subst (λ (d : List Due). Noted d m.lanes w.notes n.lanes v.notes)
-            (sym (due_known w.decision w.facts status p.started p.complete kept))
-            (noted_join join (first_due set w) (later_due set w.decision (known status kept p.started p.complete w.facts)) m.lanes k.lanes n.lanes w.notes a.notes v.notes first later);
+        sent_is = to.comes (is_long_running w.facts.info) (sent_on r w.facts.user w.facts.id a.routed.handling) m.dial
+            (sent_first state r w a k.dial l.dial m.dial sent h.work_is opens g.sent_is);
+        text = to.text;
+        replies = replies_later r w.facts.id a.routed.handling _ _ to.came end to.text
+            (λ rose. omega (arith, faults, rose)) to.replies;
+        kept_is = to.kept;
+        noted = subst (λ (y : LinkNote). Noted (offers_due set (owed w.decision (known (status_of a.routed.handling y) kept p.started p.complete w.facts))) m.lanes w.notes n.lanes v.notes)
+            (sym to.link_is) noted;
         timed = subst (λ x. IsTimedBy (is_long_running w.facts.info) x n.given m.last n.last w.facts.started p.started p.complete) (given_is m k l n h.bay_is g.bay_is p.bay_is)
             (subst (λ x. IsTimedBy (is_long_running w.facts.info) l.given n.given x n.last w.facts.started p.started p.complete) (last_is m k l n h.bay_is g.bay_is p.bay_is)
             (subst (λ (t : WorkState). IsTimedBy (is_long_running t.facts.info) l.given n.given l.last n.last t.facts.started p.started p.complete) is p.timed));
-        writes = subst (λ (t : WorkState). Writes w0 w1 (client_text r t.facts.id t.routed.handling reached) rose wrote) is writes;
+        writes = to.writes;
         bay_is = bay_is m k l n h.bay_is g.bay_is p.bay_is;
-        work_is = p.work_is ∙ ap (λ (t : WorkState). let s : WorkState = record t { facts = with_moments p.started p.complete t.facts; notes = v.notes } in s) is;
+        work_is = work ∙ ap (λ (y : LinkNote). let t : WorkState = record {
+          routed = a.routed;
+          decision = w.decision;
+          facts = known (status_of a.routed.handling y) kept p.started p.complete w.facts;
+          link = y;
+          notes = v.notes;
+        } in t) (sym to.link_is);
       }
 
   -- ---- where memory ran out
@@ -219,7 +248,7 @@ module _ (join : Join) (hides : HidesLater) (stages : Stages) (both : DueOfBoth)
       let dial : n.dial ≡ m.dial = ap (λ (s : BayState). s.dial) h.bay_is in
       record {
         routed = w.routed;
-        reached = reached_case.NotUsed;
+        came = once reached_case.NotUsed;
         link = w.link;
         status = w.facts.status;
         reply = w.facts.reply;
@@ -235,8 +264,7 @@ module _ (join : Join) (hides : HidesLater) (stages : Stages) (both : DueOfBoth)
         moments = [];
         given = subst (λ (o : Option (List ℕ)). Grows m.given o []) (sym (ap (λ (s : BayState). s.given) h.bay_is)) (grows_none m.given);
         few = omega arith;
-        count = 0;
-        written = Appends-nil w0;
+        written = inl refl;
         bay_is = quiet_bay m n h.bay_is;
         work_is = h.work_is;
       }
@@ -253,12 +281,6 @@ module _ (join : Join) (hides : HidesLater) (stages : Stages) (both : DueOfBoth)
 
     dial_first : k.dial ≡ m.dial
     dial_first = ap (λ (s : BayState). s.dial) h.bay_is
-
-    sent_then : Reaches (is_head r) (is_long_running a.facts.info) (sending r a) k.dial l.dial g.reached ⊎ StopsSending (sending r a) k.dial l.dial
-        → Reaches (is_head r) (is_long_running w.facts.info) (sent_on r w.facts.user w.facts.id a.routed.handling) m.dial l.dial g.reached
-        ⊎ StopsSending (sent_on r w.facts.user w.facts.id a.routed.handling) m.dial l.dial
-    sent_then (inl s) = inl (sent_first r w a k.dial l.dial m.dial g.reached h.work_is dial_first s)
-    sent_then (inr s) = inr (stops_first r w a k.dial l.dial m.dial h.work_is dial_first s)
 
     bay_then : l ≡ all_but_numbers m l
     bay_then =
@@ -277,7 +299,7 @@ module _ (join : Join) (hides : HidesLater) (stages : Stages) (both : DueOfBoth)
     pub halts_reach : ServingHalts set r own m w l b w0 w0
     halts_reach = record {
       routed = a.routed;
-      reached = g.reached;
+      came = once reached_case.NotUsed;
       link = w.link;
       status = w.facts.status;
       reply = w.facts.reply;
@@ -291,34 +313,38 @@ module _ (join : Join) (hides : HidesLater) (stages : Stages) (both : DueOfBoth)
       decides = inl (subst (λ (x : List OfferNote). Decides set.endpoints (errand_after set x own) m.opening m.seen m.own l.seen l.own a.routed) (sym notes_then)
           (subst (λ x. Decides set.endpoints (errand_after set a.notes own) m.opening m.seen m.own x l.own a.routed) (sym seen_then)
           (subst (λ x. Decides set.endpoints (errand_after set a.notes own) m.opening m.seen m.own k.seen x a.routed) (sym own_then) h.decides)));
-      sent_is = sent_then g.sent_is;
+      sent_is = inr (stops_first r w a k.dial l.dial m.dial h.work_is dial_first g.sent_is);
       moments = [];
       given = subst (λ (o : Option (List ℕ)). Grows m.given o [])
           (sym (ap (λ (s : BayState). s.given) g.bay_is ∙ ap (λ (s : BayState). s.given) h.bay_is)) (grows_none m.given);
       few = omega arith;
-      count = 0;
-      written = Appends-nil w0;
+      written = inl refl;
       bay_is = bay_then;
       work_is = g.work_is ∙ h.work_is ∙ ap (λ x. let t : WorkState = record w { routed = a.routed; notes = x } in t) (sym notes_then);
     }
 
-  pub halts_reply : (r : Request) (own : Errand) (m k l n : BayState) (w a b v : WorkState) (reached : Reached) (w0 w1 : Option (List ℕ))
-      → Handled set own m w k a → Reaching r k a l b reached → ReplyHalts set r reached l b n v w0 w1
+  pub halts_reply : {K : Type 0} (state : K → LinkState) (r : Request) (own : Errand) (m k l n : BayState) (w a b v : WorkState) (sent : SentOn K)
+      (w0 w1 : Option (List ℕ)) → Handled set own m w k a → Reaching state r k a l b sent → ReplyHalts state set r sent l b n v w0 w1
       → ServingHalts set r own m w n v w0 w1
-  halts_reply r own m k l n w a b v reached w0 w1 h g p =
-      let is : b ≡ work_known r reached w a b h.work_is g.knows = knows_is r reached w a b h.work_is g.knows in
-      let status = status_of a.routed.handling (sent.note_of reached) in
-      let kept = g.knows.kept in
+  halts_reply state r own m k l n w a b v sent w0 w1 h g p =
+      let note = note_of_sent sent in
+      let is : b ≡ work_known w a note = link_known w a b note h.work_is g.work_is in
+      let status = status_of a.routed.handling note in
+      let kept = p.kept in
+      let opens : k.dial ≡ m.dial = opens m k l n h.bay_is g.bay_is p.bay_is in
+      let faults : m.dial.link_faults ≤ l.dial.link_faults = omega (arith, g.later, ap (λ (d : DialState). d.link_faults) opens) in
+      let part : RepliedPart state r w.facts.id a.routed.handling sent l.dial n.dial w0 w1 =
+      subst (λ (t : WorkState). RepliedPart state r t.facts.id t.routed.handling sent l.dial n.dial w0 w1) is p.part in
       let facts = known status kept p.started p.complete w.facts in
       let later : Noted p.due k.lanes a.notes n.lanes v.notes =
       subst (λ (s : LanesState). Noted p.due s a.notes n.lanes v.notes) (lanes_is m k l n h.bay_is g.bay_is p.bay_is)
       (subst (λ (t : WorkState). Noted p.due l.lanes t.notes n.lanes v.notes) is p.noted) in
       let rest_is : later_due set w.decision facts ≡ p.due ++ p.rest =
-      subst (λ (t : WorkState). later_due set t.decision (with_moments p.started p.complete t.facts) ≡ p.due ++ p.rest) is p.due_is in
+      subst (λ (t : WorkState). later_due set t.decision (known_facts kept p.started p.complete t.facts) ≡ p.due ++ p.rest) is p.due_is in
       record {
         routed = a.routed;
-        reached = reached;
-        link = sent.note_of reached;
+        came = part.came;
+        link = note;
         status = status;
         reply = kept;
         started = p.started;
@@ -332,48 +358,45 @@ module _ (join : Join) (hides : HidesLater) (stages : Stages) (both : DueOfBoth)
             (after_same own a.notes v.notes (p.refuses ∙ ap (λ (t : WorkState). has_refused set t.notes) is))
             (subst (λ x. Decides set.endpoints (errand_after set a.notes own) m.opening m.seen m.own x n.own a.routed) (sym (seen_is m k l n h.bay_is g.bay_is p.bay_is))
             (subst (λ x. Decides set.endpoints (errand_after set a.notes own) m.opening m.seen m.own k.seen x a.routed) (sym (own_is m k l n h.bay_is g.bay_is p.bay_is)) h.decides)));
-        sent_is = inl (subst (λ (d : DialState). Reaches (is_head r) (is_long_running w.facts.info) (sent_on r w.facts.user w.facts.id a.routed.handling) m.dial d reached)
-            (sym (dial_is m k l n h.bay_is g.bay_is p.bay_is))
-            (sent_first r w a k.dial l.dial m.dial reached h.work_is (opens m k l n h.bay_is g.bay_is p.bay_is) g.sent_is));
+        sent_is = inl (part.comes (is_long_running w.facts.info) (sent_on r w.facts.user w.facts.id a.routed.handling) m.dial
+            (sent_first state r w a k.dial l.dial m.dial sent h.work_is opens g.sent_is));
         moments = p.moments;
         given = subst (λ (o : Option (List ℕ)). Grows o n.given p.moments) (given_is m k l n h.bay_is g.bay_is p.bay_is) p.given;
         few = p.few;
-        count = p.count;
-        written = subst (λ (t : WorkState). Appends w0 w1 (take p.count (client_text r t.facts.id t.routed.handling reached))) is p.written;
+        written = part_later r w.facts.id a.routed.handling _ _ part.came w0 w1 (λ rose. omega (arith, faults, rose)) part.written;
         bay_is = bay_is m k l n h.bay_is g.bay_is p.bay_is;
-        work_is = p.work_is ∙ ap (λ (t : WorkState). let s : WorkState = record t { facts = with_moments p.started p.complete t.facts; notes = v.notes } in s) is;
+        work_is = p.work_is ∙ ap (λ (t : WorkState). let s : WorkState = record t { facts = known_facts kept p.started p.complete t.facts; notes = v.notes } in s) is;
       }
 
   -- ---- as results tell them
 
-  pub served_by : (r : Request) (own : Errand) (m k l n : BayState) (w a b v : WorkState) (reached : Reached) (w0 w1 : Option (List ℕ))
-      (rose : Type 0) (res : Result Wrote NoMemory) → Handled set own m w k a → Reaching r k a l b reached → OnOk res (Replied set l b n v)
-      → IfOk res (Writes w0 w1 (client_text r b.facts.id b.routed.handling reached) rose)
-      → IfOk res (Served set r own m w n v w0 w1 rose)
-  served_by r own m k l n w a b v reached w0 w1 rose (Ok wrote) h g p writes =
-      served r own m k l n w a b v reached w0 w1 rose wrote h g p writes
-  served_by r own m k l n w a b v reached w0 w1 rose (Err e) h g p writes = tt
+  pub served_by : {K : Type 0} (state : K → LinkState) (r : Request) (own : Errand) (m k l n : BayState) (w a b v : WorkState) (sent : SentOn K)
+      (w0 w1 : Option (List ℕ)) (rose : Type 0) (res : Result Relayed NoMemory) → Handled set own m w k a → Reaching state r k a l b sent
+      → IfOk res (Replied state set r sent l b n v w0 w1 rose) → IfOk res (Served set r own m w n v w0 w1 rose)
+  served_by state r own m k l n w a b v sent w0 w1 rose (Ok end) h g p =
+      served state r own m k l n w a b v sent w0 w1 rose end h g p
+  served_by state r own m k l n w a b v sent w0 w1 rose (Err e) h g p = tt
 
-  pub halts_by : (r : Request) (own : Errand) (m k l n : BayState) (w a b v : WorkState) (reached : Reached) (w0 w1 : Option (List ℕ))
-      (res : Result Wrote NoMemory) → Handled set own m w k a → Reaching r k a l b reached
-      → OnErr res (ReplyHalts set r reached l b n v w0 w1) → OnErr res (ServingHalts set r own m w n v w0 w1)
-  halts_by r own m k l n w a b v reached w0 w1 (Ok wrote) h g p = tt
-  halts_by r own m k l n w a b v reached w0 w1 (Err e) h g p = halts_reply r own m k l n w a b v reached w0 w1 h g p
+  pub halts_by : {K : Type 0} (state : K → LinkState) (r : Request) (own : Errand) (m k l n : BayState) (w a b v : WorkState) (sent : SentOn K)
+      (w0 w1 : Option (List ℕ)) (res : Result Relayed NoMemory) → Handled set own m w k a → Reaching state r k a l b sent
+      → OnErr res (ReplyHalts state set r sent l b n v w0 w1) → OnErr res (ServingHalts set r own m w n v w0 w1)
+  halts_by state r own m k l n w a b v sent w0 w1 (Ok end) h g p = tt
+  halts_by state r own m k l n w a b v sent w0 w1 (Err e) h g p = halts_reply state r own m k l n w a b v sent w0 w1 h g p
 
 -- ---- more may be offered
 
 pub may_first : (set : Settings) (m : BayState) → CanOffer set m 3 → CanOffer set m 1
 may_first set m h = record { max = h.max; lanes = h.lanes; log = omega (arith, h.log); hook = omega (arith, h.hook) }
 
-pub may_reply : Stay → FewLog → FewHook → (set : Settings) (r : Request) (own : Errand) (m k l : BayState) (w a b : WorkState) (reached : Reached)
-    → CanOffer set m 3 → Handled set own m w k a → Reaching r k a l b reached → CanOffer set l 2
-may_reply stay log hook set r own m k l w a b reached h d g =
+pub may_reply : {K : Type 0} (state : K → LinkState) → Stay → FewLog → FewHook → (set : Settings) (r : Request) (own : Errand) (m k l : BayState)
+    (w a b : WorkState) (sent : SentOn K) → CanOffer set m 3 → Handled set own m w k a → Reaching state r k a l b sent → CanOffer set l 2
+may_reply state stay log hook set r own m k l w a b sent h d g =
     let at : CanOffer set k 2 = may_after stay log hook set 2 m k _ w.notes a.notes
     (one_by w.decision.level (omits w.decision.omit RequestReceived) (event RequestReceived w.decision.level w.facts)) h d.noted in
     subst (λ (s : BayState). CanOffer set s 2) (sym g.bay_is)
     (record { max = at.max; lanes = at.lanes; log = at.log; hook = at.hook })
 
-pub final_still : (r : Request) (m n : BayState) (a b : WorkState) (reached : Reached) → Reaching r m a n b reached
+pub final_still : {K : Type 0} (state : K → LinkState) (r : Request) (m n : BayState) (a b : WorkState) (sent : SentOn K) → Reaching state r m a n b sent
     → IsFinalHandling a.routed.handling → IsFinalHandling b.routed.handling
-final_still r m n a b reached g h =
-    subst (λ (s : WorkState). IsFinalHandling s.routed.handling) (sym g.knows.is) h
+final_still state r m n a b sent g h =
+    subst (λ (s : WorkState). IsFinalHandling s.routed.handling) (sym g.work_is) h

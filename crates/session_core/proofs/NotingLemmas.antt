@@ -1,9 +1,8 @@
 -- An exchange that is noted.
-use Rattle.std.proofs.Common.{◌≡◌, ◌≤◌, ◌<◌, ◌+◌, ◌*◌, ◌⊎◌, ℕ, Bool, true, false, if◌then◌else◌, List, [], ◌∷◌, ◌++◌, length, take, Option, refl, sym, ap, subst, ◌∙◌, arith, append-nil, length-append, inl, inr}
+use Rattle.std.proofs.Common.{◌≡◌, ◌≤◌, ◌<◌, ◌+◌, ◌*◌, ◌⊎◌, ℕ, Bool, true, false, if◌then◌else◌, List, [], ◌∷◌, ◌++◌, length, Option, refl, sym, ap, subst, ◌∙◌, arith, append-nil, length-append, inl, inr}
 use Rattle.std.specs.Prelude.{Result, Ok, Err, OnErr, IfOk}
-use Rattle.std.specs.Io.KnownBytes.{Appends}
 use Rattle.audit_core.specs.Errand.{errand_in, user_in, info_in}
-use Rattle.audit_core.specs.Exchange.{IsKeptIf, decision_in, facts_by}
+use Rattle.audit_core.specs.Exchange.{IsKeptIf, decision_in, facts_by, sent_body}
 use Rattle.audit_core.specs.Offers.{Due, offers_due}
 use Rattle.audit_core.specs.Owed.{owed, omits}
 use Rattle.audit_core.specs.Routing.{Decides}
@@ -12,26 +11,29 @@ use Rattle.audit_core.specs.declared.settings.Settings.{Settings}
 use Rattle.audit_core.specs.declared.stamp.Stamp.{Stamp}
 use Rattle.event_offers.specs.Lanes.{LanesState, AreLanesOf}
 use Rattle.event_offers.specs.Offering.{Noted, OffersAll, stage_events, started_events, event_unless, events_by}
-use Rattle.exchange_replies.specs.Client.{client_text}
-use Rattle.exchange_replies.specs.Sent as sent
-use Rattle.exchange_replies.specs.Sent.{sent_on, Reaches, StopsSending}
-use Rattle.exchange_replies.specs.Writing.{Writes}
-use Rattle.exchange_replies.specs.declared.writing.Wrote.{Wrote}
-use Rattle.exchange_replies.specs.declared.writing.Wrote.TheVariants as wrote
+use Rattle.audit_core.specs.declared.answered.Answered.{Answered}
+use Rattle.audit_core.specs.declared.routed.Handling.{Handling}
+use Rattle.audit_core.specs.declared.routed.Handling.TheVariants.{Refused, Served as ServedHere, Proxied}
+use Rattle.audit_core.specs.Answer as answer
+use Rattle.body_frames.specs.declared.frame.Frame.{Frame}
+use Rattle.exchange_replies.specs.Sent.{is_head, sent_on, StopsSending, DialState}
+use Rattle.exchange_replies.specs.Streams.{Came, once, streamed, link_of, Comes, IsKeptBy, WritesPart, WritesTo}
 use Rattle.front_base.specs.declared.audit_id.TheConstants.{MOST_REQUESTS}
 use Rattle.front_base.specs.declared.memory.NoMemory.{NoMemory}
 use Rattle.front_base.specs.Info.{is_long_running}
 use Rattle.front_base.specs.declared.level.Level.{Level}
 use Rattle.front_base.specs.declared.level.Level.TheVariants as level
 use Rattle.front_base.specs.declared.stage.Stage.TheVariants.{RequestReceived, ResponseStarted, ResponseComplete}
+use Rattle.front_ports.specs.Cause.{Rose}
 use Rattle.front_ports.specs.Told.{Grows, Adds}
 use Rattle.http_edge.specs.declared.request.Request.{Request}
+use Rattle.http_head.specs.declared.reply.ReplyHead.{ReplyHead}
 use Rattle.policy_rules.specs.declared.decision.Decision.{Decision}
 use Rattle.session_core.specs.Bays.{BayState, next_id, IsReady, CanOffer}
-use Rattle.session_core.specs.Exchange.{Exchanged, Halted, Unbegun, RoutesHalt, errand_after, moments_by, is_long}
+use Rattle.session_core.specs.Exchange.{ExchangedTo, AnsweredBy, Halted, Unbegun, RoutesHalt, errand_after, moments_by, is_long, answered_of}
 use Rattle.session_core.specs.declared.session.Outcome.{Outcome}
 use Rattle.session_core.specs.declared.session.Outcome.TheVariants as outcome
-use Rattle.session_core.specs.Parts.{Outcomes, outcome_of, later_moments, all_but_numbers, Served, ServingHalts, IsTimedBy, final_facts}
+use Rattle.session_core.specs.Parts.{Outcomes, outcome_of, later_moments, all_but_numbers, Served, ServingHalts, final_facts, object_due}
 use Rattle.session_core.specs.Steps.{WorkState, first_facts, first_work, exchange_of}
 use Rattle.session_core.specs.declared.begun.Begun.{Begun}
 use Rattle.session_core.specs.declared.exchange.Exchange.{Exchange}
@@ -43,6 +45,9 @@ use Rattle.stage_event.specs.Events.{event}
 use Rattle.stage_event.specs.declared.event.Event.{Event}
 use Rattle.stage_event.specs.declared.facts.Facts.{Facts}
 use Rattle.stage_event.specs.declared.facts.Kept.{Kept}
+use Rattle.stream_relay.specs.Stream.{body_in}
+use Rattle.stream_relay.specs.declared.stream.Relayed.{Relayed}
+use Rattle.stream_relay.specs.declared.stream.Relayed.TheVariants as relayed
 
 module _ (set : Settings) (peer : List ℕ) (r : Request) (m l : BayState) (gk : Option (List ℕ)) (lastk received : ℕ)
     (nk nn : Option (List Exchange)) (kept : Kept) (v : WorkState) (w0 w1 : Option (List ℕ)) where
@@ -81,25 +86,60 @@ module _ (set : Settings) (peer : List ℕ) (r : Request) (m l : BayState) (gk :
       subst (λ (y : Exchange). Adds m.notes nn (y ∷ [])) is
       (subst (λ (o : Option (List Exchange)). Adds o nn (exchange_of r v ∷ [])) (e ∙ f) h)
 
-  pub exchanged : (rose : Type 0) (wrote : Wrote) → lastk ≡ received → m.last ≤ received → Grows m.given gk (received ∷ []) → nk ≡ m.notes
+  -- a reply that streamed came from a backend
+  body_same : (handling : Handling) (long : Bool) (x y : DialState) (head : ReplyHead) (frame : Frame) (after : List ℕ)
+      → Comes (is_head r) long (sent_on r w.facts.user w.facts.id handling) x y (streamed head frame after)
+      → answer.body_of handling (link_of (streamed head frame after)) (body_in frame after) ≡ body_in frame after
+  body_same (Refused code) long x y head frame after h = absurd h
+  body_same (ServedHere local reply change) long x y head frame after h = absurd h
+  body_same (Proxied target) long x y head frame after h = refl
+
+  answered_by : (handling : Handling) (long : Bool) (x y : DialState) (came : Came) (end : Relayed) (stamp : Stamp) (own : Answered)
+      → Comes (is_head r) long (sent_on r w.facts.user w.facts.id handling) x y came
+      → own.handling ≡ handling → own.decision ≡ decision_in set r
+      → IsKeptIf (request_due (decision_in set r).level (info_in r)) r.body own.facts.request
+      → IsKeptBy r handling (object_due w) came end own.facts.reply
+      → own.facts ≡ facts_by stamp r (info_in r) (user_in set r) (answer.status_of handling (link_of came)) own.facts.request own.facts.reply
+      → AnsweredBy set stamp r handling came end own
+  answered_by handling long x y (once reached) end stamp own c h d q k f =
+      record { handling_is = h; decision_is = d; facts_are = record { request_is = q; reply_is = k; facts_are = f } }
+  answered_by handling long x y (streamed head frame after) relayed.Done stamp own c h d q k f =
+      record {
+        handling_is = h;
+        decision_is = d;
+        facts_are = record {
+          request_is = q;
+          reply_is = subst (λ l. IsKeptIf (object_due w) (sent_body r.head.method l) own.facts.reply)
+              (sym (body_same handling long x y head frame after c)) k;
+          facts_are = f;
+        };
+      }
+  answered_by handling long x y (streamed head frame after) relayed.BackendCut stamp own c h d q k f =
+      record { handling_is = h; decision_is = d; request_is = q; reply_is = k; facts_are = f }
+  answered_by handling long x y (streamed head frame after) relayed.StreamSpent stamp own c h d q k f =
+      record { handling_is = h; decision_is = d; request_is = q; reply_is = k; facts_are = f }
+  answered_by handling long x y (streamed head frame after) relayed.WriteFault stamp own c h d q k f =
+      record { handling_is = h; decision_is = d; request_is = q; reply_is = k; facts_are = f }
+
+  pub exchanged : (rose : Type 0) (end : Relayed) → lastk ≡ received → m.last ≤ received → Grows m.given gk (received ∷ []) → nk ≡ m.notes
       → IsKeptIf (request_due (decision_in set r).level (info_in r)) r.body kept
-      → Served set r (errand_in set r) k w l v w0 w1 rose wrote → Adds l.notes nn (exchange_of r v ∷ [])
-      → (text : List ℕ) × Exchanged set peer r m text n × Writes w0 w1 text rose wrote
-  exchanged rose wrote at later grows same kept_is s adds =
+      → Served set r (errand_in set r) k w l v w0 w1 rose end → Adds l.notes nn (exchange_of r v ∷ [])
+      → (text : List ℕ) × ExchangedTo set peer r m text n end × WritesTo w0 w1 text rose end
+  exchanged rose end at later grows same kept_is s adds =
       let stamp : Stamp = record { id = next_id m; peer = peer; received = received; started = s.started; complete = s.complete } in
       let x : Exchange = exchange_of r (record {
         routed = s.routed;
         decision = decision_in set r;
-        facts = final_facts w s.routed (sent.note_of s.reached) s.reply s.started s.complete;
-        link = sent.note_of s.reached;
+        facts = final_facts w s.routed (link_of s.came) s.reply s.started s.complete;
+        link = link_of s.came;
         notes = v.notes;
       }) in (
-        client_text r (next_id m) s.routed.handling s.reached,
+        s.text,
         record {
           x = x;
           request_is = refl;
           routed = s.decides;
-          reached = s.reached;
+          came = s.came;
           sent = s.sent_is;
           link_is = refl;
           stamp = stamp;
@@ -114,13 +154,9 @@ module _ (set : Settings) (peer : List ℕ) (r : Request) (m l : BayState) (gk :
             last = sym s.timed.complete;
             short = s.timed.short;
           };
-          answered = record {
-            handling_is = refl;
-            decision_is = refl;
-            facts_are = record { request_is = kept_is; reply_is = s.kept_is; facts_are = refl };
-          };
+          answered = answered_by s.routed.handling (is_long r) m.dial l.dial s.came end stamp (answered_of x) s.sent_is refl refl kept_is s.kept_is refl;
           offered = offered_is _ k.lanes l.lanes v.notes s.noted;
-          text_is = refl;
+          text_is = s.replies;
           noted = adds_at x (ap (λ (b : BayState). b.notes) s.bay_is) same (ap (exchange_of r) s.work_is) adds;
           number_is = ap (λ (b : BayState). b.number) s.bay_is;
           boot_is = ap (λ (b : BayState). b.boot) s.bay_is;
@@ -151,11 +187,10 @@ module _ (set : Settings) (peer : List ℕ) (r : Request) (m l : BayState) (gk :
         due_is = ap (λ (t : WorkState). offers_due set (owed t.decision t.facts)) s.work_is ∙ s.due_is;
         offered = offered_is s.due k.lanes l.lanes v.notes s.noted;
         routed = subst (λ (t : WorkState). RoutesHalt set (errand_after set v.notes (errand_in set r)) m n t.routed) (sym s.work_is) s.decides;
-        reached = s.reached;
-        sent = subst (λ (t : WorkState). Reaches (sent.is_head r) (is_long r) (sent_on r (user_in set r) (next_id m) t.routed.handling) m.dial l.dial s.reached
+        came = s.came;
+        sent = subst (λ (t : WorkState). Comes (is_head r) (is_long r) (sent_on r (user_in set r) (next_id m) t.routed.handling) m.dial l.dial s.came
             ⊎ StopsSending (sent_on r (user_in set r) (next_id m) t.routed.handling) m.dial l.dial) (sym s.work_is) s.sent_is;
-        count = s.count;
-        written = subst (λ (t : WorkState). Appends w0 w1 (take s.count (client_text r (next_id m) t.routed.handling s.reached))) (sym s.work_is) s.written;
+        written = subst (λ (t : WorkState). WritesPart r (next_id m) t.routed.handling (Rose m.dial.link_faults l.dial.link_faults) s.came w0 w1) (sym s.work_is) s.written;
         moments = received ∷ s.moments;
         given = grows_join m.given gk l.given (received ∷ []) s.moments grows s.given;
         few = omega (arith, s.few);
@@ -196,9 +231,9 @@ ready_after stay log hook stages set m n d facts due rest notes h few e o number
   hook = omega (arith, number, h.hook, hook set (owed d facts) due rest m.lanes n.lanes notes e o, three stages d facts);
 }
 
-pub ready_exchanged : Stay → FewLog → FewHook → Stages → (set : Settings) (peer : List ℕ) (r : Request) (m n : BayState) (text : List ℕ)
-    → IsReady set m → m.number < MOST_REQUESTS → Exchanged set peer r m text n → IsReady set n
-ready_exchanged stay log hook stages set peer r m n text h few x =
+pub ready_exchanged : Stay → FewLog → FewHook → Stages → (set : Settings) (peer : List ℕ) (r : Request) (m n : BayState) (text : List ℕ) (end : Relayed)
+    → IsReady set m → m.number < MOST_REQUESTS → ExchangedTo set peer r m text n end → IsReady set n
+ready_exchanged stay log hook stages set peer r m n text end h few x =
     ready_after stay log hook stages set m n x.x.decision x.x.facts (offers_due set (owed x.x.decision x.x.facts)) [] x.x.offers h few
     (sym (append-nil (offers_due set (owed x.x.decision x.x.facts)))) x.offered x.number_is
 
@@ -213,8 +248,10 @@ ready_unbegun set m n w0 w1 h u =
 
 pub ready_by : Stay → FewLog → FewHook → Stages → (set : Settings) (peer : List ℕ) (r : Request) (m n : BayState) (w0 w1 : Option (List ℕ)) (rose : Type 0)
     (own : Outcome) → IsReady set m → m.number < MOST_REQUESTS → Outcomes set peer r m n w0 w1 rose own → IsReady set n
-ready_by stay log hook stages set peer r m n w0 w1 rose outcome.Whole h few o = ready_exchanged stay log hook stages set peer r m n o.0 h few o.1
-ready_by stay log hook stages set peer r m n w0 w1 rose outcome.Cut h few o = ready_exchanged stay log hook stages set peer r m n o.0 h few o.1
+ready_by stay log hook stages set peer r m n w0 w1 rose outcome.Whole h few o = ready_exchanged stay log hook stages set peer r m n o.0 relayed.Done h few o.1
+ready_by stay log hook stages set peer r m n w0 w1 rose outcome.Cut h few o = ready_exchanged stay log hook stages set peer r m n o.0 relayed.WriteFault h few o.1
+ready_by stay log hook stages set peer r m n w0 w1 rose outcome.BackendCut h few o = ready_exchanged stay log hook stages set peer r m n o.0 relayed.BackendCut h few o.1
+ready_by stay log hook stages set peer r m n w0 w1 rose outcome.StreamSpent h few o = ready_exchanged stay log hook stages set peer r m n o.0 relayed.StreamSpent h few o.1
 ready_by stay log hook stages set peer r m n w0 w1 rose outcome.NoMemory h few (inl u) = ready_unbegun set m n w0 w1 h u
 ready_by stay log hook stages set peer r m n w0 w1 rose outcome.NoMemory h few (inr x) = ready_halted stay log hook stages set peer r m n w0 w1 h few x
 
@@ -244,19 +281,25 @@ module _ (set : Settings) (peer : List ℕ) (r : Request) (m l : BayState) (gk :
   first = first_work (decision_in set r) (first_facts set
       (record { id = next_id m; peer = peer; received = received; started = received; complete = received }) r kept)
 
-  whole : (wrote : Wrote) → Served set r (errand_in set r) from first l v w0 w1 rose wrote
-      → Outcomes set peer r m (record l { notes = nn }) w0 w1 rose (outcome_of (Ok wrote))
-  whole wrote.Whole s =
-      let x = exchanged set peer r m l gk lastk received nk nn kept v w0 w1 rose wrote.Whole at later grows same kept_is s adds in
+  whole : (end : Relayed) → Served set r (errand_in set r) from first l v w0 w1 rose end
+      → Outcomes set peer r m (record l { notes = nn }) w0 w1 rose (outcome_of (Ok end))
+  whole relayed.Done s =
+      let x = exchanged set peer r m l gk lastk received nk nn kept v w0 w1 rose relayed.Done at later grows same kept_is s adds in
       (x.0, x.1, x.2)
-  whole wrote.Cut s =
-      let x = exchanged set peer r m l gk lastk received nk nn kept v w0 w1 rose wrote.Cut at later grows same kept_is s adds in
+  whole relayed.WriteFault s =
+      let x = exchanged set peer r m l gk lastk received nk nn kept v w0 w1 rose relayed.WriteFault at later grows same kept_is s adds in
       (x.0, x.1, x.2.0, x.2.1)
+  whole relayed.BackendCut s =
+      let x = exchanged set peer r m l gk lastk received nk nn kept v w0 w1 rose relayed.BackendCut at later grows same kept_is s adds in
+      (x.0, x.1, x.2)
+  whole relayed.StreamSpent s =
+      let x = exchanged set peer r m l gk lastk received nk nn kept v w0 w1 rose relayed.StreamSpent at later grows same kept_is s adds in
+      (x.0, x.1, x.2)
 
-  pub outcomes : (res : Result Wrote NoMemory) → IfOk res (Served set r (errand_in set r) from first l v w0 w1 rose)
+  pub outcomes : (res : Result Relayed NoMemory) → IfOk res (Served set r (errand_in set r) from first l v w0 w1 rose)
       → OnErr res (ServingHalts set r (errand_in set r) from first l v w0 w1)
       → Outcomes set peer r m (record l { notes = nn }) w0 w1 rose (outcome_of res)
-  outcomes (Ok wrote) s h = whole wrote s
+  outcomes (Ok end) s h = whole end s
   outcomes (Err e) s h = inr (halted set peer r m l gk lastk received nk nn kept v w0 w1 at grows same h adds)
 
   -- what was judged is what the exchange began with
@@ -265,7 +308,7 @@ module _ (set : Settings) (peer : List ℕ) (r : Request) (m l : BayState) (gk :
     decision = decision_in set r;
     facts = first_facts set (record { id = next_id m; peer = peer; received = received; started = received; complete = received }) r kept;
   }) (work : w2 ≡ first_work b.decision b.facts) where
-    pub outcomes_by : (res : Result Wrote NoMemory) → IfOk res (Served set r b.errand from w2 l v w0 w1 rose)
+    pub outcomes_by : (res : Result Relayed NoMemory) → IfOk res (Served set r b.errand from w2 l v w0 w1 rose)
         → OnErr res (ServingHalts set r b.errand from w2 l v w0 w1)
         → Outcomes set peer r m (record l { notes = nn }) w0 w1 rose (outcome_of res)
     outcomes_by res s h =

@@ -1,5 +1,5 @@
 -- The reply and the later events.
-use Rattle.std.proofs.Common.{◌≡◌, ◌≤◌, ◌+◌, ℕ, Bool, true, false, if◌then◌else◌, List, [], ◌∷◌, ◌++◌, length, take, Option, refl, sym, ap, subst, ◌∙◌, arith, append-nil, length-append}
+use Rattle.std.proofs.Common.{◌≡◌, ◌≤◌, ◌+◌, ℕ, Bool, true, false, if◌then◌else◌, List, [], ◌∷◌, ◌++◌, length, take, Option, refl, sym, ap, subst, ◌∙◌, arith, append-nil, length-append, inl, inr}
 use Rattle.std.proofs.Math.Seq.{take-length}
 use Rattle.std.proofs.KnownBytes.{Appends-nil}
 use Rattle.std.specs.Io.KnownBytes.{Appends}
@@ -9,27 +9,52 @@ use Rattle.audit_core.specs.declared.offers.OfferNote.{OfferNote}
 use Rattle.audit_core.specs.declared.settings.Settings.{Settings}
 use Rattle.event_offers.specs.Lanes.{LanesState, AreLanesOf}
 use Rattle.event_offers.specs.Offering.{Noted, OffersAll, stage_events, events_by, event_unless}
-use Rattle.exchange_replies.specs.Client.{client_text}
-use Rattle.exchange_replies.specs.Writing.{Writes}
-use Rattle.exchange_replies.specs.declared.reached.Reached.{Reached}
-use Rattle.exchange_replies.specs.declared.writing.Wrote.{Wrote}
-use Rattle.exchange_replies.specs.declared.writing.Wrote.TheVariants.{Whole, Cut}
+use Rattle.audit_core.specs.declared.routed.Handling.{Handling}
+use Rattle.exchange_replies.specs.Sent.{DialState, is_head}
+use Rattle.exchange_replies.specs.Streams.{RepliedTo, RepliedPart, GivenBack, WritesTo}
+use Rattle.exchange_replies.specs.declared.sent_on.SentOn.{SentOn}
+use Rattle.exchange_replies.specs.declared.streaming.ReplyEnd.{ReplyEnd}
+use Rattle.forward_link.specs.Exchange.{LinkState}
+use Rattle.front_base.specs.AuditId.{AuditId}
 use Rattle.front_base.specs.Info.{is_long_running}
 use Rattle.front_base.specs.declared.level.Level.{Level}
 use Rattle.front_base.specs.declared.level.Level.TheVariants as level
 use Rattle.front_base.specs.declared.stage.Stage.TheVariants.{ResponseStarted, ResponseComplete}
 use Rattle.front_ports.specs.Told.{Grows}
+use Rattle.front_ports.specs.Written.{AppendsFront}
 use Rattle.http_edge.specs.declared.request.Request.{Request}
 use Rattle.policy_rules.specs.declared.decision.Decision.{Decision}
 use Rattle.session_core.specs.Bays.{BayState, CanOffer}
-use Rattle.session_core.specs.Parts.{StartedBy, StageReached, StageHalts, StartHalts, CompleteHalts, Started, Completed, Replied, ReplyHalts, IsTimedBy, with_start, with_end, with_moments, later_due, later_moments, clock_and_lanes}
-use Rattle.session_core.specs.Steps.{WorkState}
+use Rattle.session_core.specs.Parts.{StartedBy, StageReached, StageHalts, StartHalts, CompleteHalts, Started, Completed, Replied, ReplyHalts, IsTimedBy, with_start, with_end, known_facts, object_due, later_due, later_moments, clock_and_lanes, dial_clock_and_lanes}
+use Rattle.session_core.specs.Steps.{WorkState, with_kept, with_object}
 use Rattle.session_core.proofs.ChainLemmas.{grows_join, grows_none, Join, noted_join, noted_none, RefusesNone, refuses_same}
 use Rattle.stage_event.specs.Begun.{filled}
 use Rattle.stage_event.specs.Events.{event}
 use Rattle.stage_event.specs.declared.event.Event.{Event}
 use Rattle.stage_event.specs.declared.facts.Facts.{Facts}
 use Rattle.stage_event.specs.declared.facts.Kept.{Kept}
+use Rattle.stream_relay.specs.declared.stream.Relayed.{Relayed}
+use Rattle.stream_relay.specs.declared.stream.Relayed.TheVariants as relayed
+
+-- ---- what was written is some prefix
+
+front_of : (w0 w1 : Option (List ℕ)) (text : List ℕ) (rose : Type 0) (end : Relayed) → WritesTo w0 w1 text rose end → AppendsFront w0 w1 text
+front_of w0 w1 text rose relayed.Done h = (length text, subst (Appends w0 w1) (sym (take-length text)) h)
+front_of w0 w1 text rose relayed.BackendCut h = (length text, subst (Appends w0 w1) (sym (take-length text)) h)
+front_of w0 w1 text rose relayed.StreamSpent h = (length text, subst (Appends w0 w1) (sym (take-length text)) h)
+front_of w0 w1 text rose relayed.WriteFault h = h.0
+
+pub part_of : {K : Type 0} (state : K → LinkState) (r : Request) (id : AuditId) (handling : Handling) (due : Bool) (sent : SentOn K) (k n : DialState)
+    (w0 w1 : Option (List ℕ)) (rose : Type 0) (own : ReplyEnd) → RepliedTo state r id handling due sent k n w0 w1 rose own
+    → RepliedPart state r id handling sent k n w0 w1
+part_of state r id handling due sent k n w0 w1 rose own t = record {
+  came = t.came;
+  comes = t.comes;
+  link_is = t.link_is;
+  written = inr (t.text, own.end, t.replies, front_of w0 w1 t.text rose own.end t.writes);
+}
+
+-- ---- the events
 
 -- the event of the reply's start doesn't depend on when it was complete
 abbrev pub HidesEnd : Type 0
@@ -42,14 +67,14 @@ module _ (join : Join) (none : RefusesNone) (hides : HidesEnd) (set : Settings) 
   abbrev pub start_due : Bool → Decision → Facts → List Due
   start_due long d facts = offers_due set (if long then stage_events d facts ResponseStarted else [])
 
-  -- what the start of a reply did, whatever the moment of its end is
+  -- what the start of a reply did, whatever is kept of it and whenever it ends
   pub record Begins (long : Bool) (m : BayState) (w : WorkState) (n : BayState) (v : WorkState) : Type 0 where
     pub started : ℕ
     pub moments : List ℕ
     pub given : Grows m.given n.given moments
     pub few : length moments ≤ 1
     pub moments_are : (complete : ℕ) → later_moments long started complete ≡ moments ++ complete ∷ []
-    pub noted : (complete : ℕ) → Noted (start_due long w.decision (with_moments started complete w.facts)) m.lanes w.notes n.lanes v.notes
+    pub noted : (complete : ℕ) (reply : Kept) → Noted (start_due long w.decision (known_facts reply started complete w.facts)) m.lanes w.notes n.lanes v.notes
     pub refuses : has_refused set v.notes ≡ has_refused set w.notes
     pub first : long ≡ true → m.last ≤ started
     pub short : long ≡ false → started ≡ w.facts.started
@@ -58,10 +83,10 @@ module _ (join : Join) (none : RefusesNone) (hides : HidesEnd) (set : Settings) 
     pub bay_is : n ≡ clock_and_lanes m n
     pub work_is : v ≡ record w { facts = with_start started w.facts; notes = v.notes }
 
-  same_events : (d : Decision) (facts : Facts) (started complete : ℕ)
-      → stage_events d (with_start started facts) ResponseStarted ≡ stage_events d (with_moments started complete facts) ResponseStarted
-  same_events d facts started complete =
-      ap (events_by d.level (omits d.omit ResponseStarted)) (sym (hides d.level (with_start started facts) facts.reply complete))
+  same_events : (d : Decision) (facts : Facts) (started complete : ℕ) (reply : Kept)
+      → stage_events d (with_start started facts) ResponseStarted ≡ stage_events d (known_facts reply started complete facts) ResponseStarted
+  same_events d facts started complete reply =
+      ap (events_by d.level (omits d.omit ResponseStarted)) (sym (hides d.level (with_start started facts) reply complete))
 
   pub begins : (long : Bool) (m n : BayState) (w v : WorkState) → StartedBy long set m w n v → Begins long m w n v
   begins false m n w v h = record {
@@ -70,7 +95,7 @@ module _ (join : Join) (none : RefusesNone) (hides : HidesEnd) (set : Settings) 
     given = subst (λ (s : BayState). Grows m.given s.given []) (sym h.0) (grows_none m.given);
     few = omega arith;
     moments_are = λ c. refl;
-    noted = λ c. subst (λ (s : BayState). Noted [] m.lanes w.notes s.lanes v.notes) (sym h.0)
+    noted = λ c reply. subst (λ (s : BayState). Noted [] m.lanes w.notes s.lanes v.notes) (sym h.0)
         (subst (λ (s : WorkState). Noted [] m.lanes w.notes m.lanes s.notes) (sym h.1) (noted_none m.lanes w.notes));
     refuses = ap (λ (s : WorkState). has_refused set s.notes) h.1;
     first = λ e. absurd (cc e);
@@ -86,8 +111,8 @@ module _ (join : Join) (none : RefusesNone) (hides : HidesEnd) (set : Settings) 
     given = h.given;
     few = omega arith;
     moments_are = λ c. refl;
-    noted = λ c. subst (λ (l : List Event). Noted (offers_due set l) m.lanes w.notes n.lanes v.notes)
-        (same_events w.decision w.facts n.last c) h.noted;
+    noted = λ c reply. subst (λ (l : List Event). Noted (offers_due set l) m.lanes w.notes n.lanes v.notes)
+        (same_events w.decision w.facts n.last c reply) h.noted;
     refuses = refuses_same none set w.decision (with_start n.last w.facts) ResponseStarted m.lanes n.lanes w.notes v.notes refl h.noted;
     first = λ e. h.later;
     short = λ e. absurd (cc e);
@@ -97,114 +122,171 @@ module _ (join : Join) (none : RefusesNone) (hides : HidesEnd) (set : Settings) 
     work_is = h.work_is;
   }
 
-  -- what was written is some prefix
-  some_front : (w0 w1 : Option (List ℕ)) (text : List ℕ) (rose : Type 0) (wrote : Wrote) → Writes w0 w1 text rose wrote
-      → (count : ℕ) × Appends w0 w1 (take count text)
-  some_front w0 w1 text rose Whole h = (length text, subst (Appends w0 w1) (sym (take-length text)) h)
-  some_front w0 w1 text rose Cut h = h.0
+  -- ---- the reply and the end, after the start
 
-  -- the end, after the start
-  module _ (m k n : BayState) (w u v : WorkState) (b : Begins (is_long_running w.facts.info) m w k u) where
-    abbrev pub done : ℕ → Facts
-    done complete = with_moments b.started complete w.facts
+  module _ {K : Type 0} (state : K → LinkState) (r : Request) (sent : SentOn K) (m k l : BayState) (w u : WorkState)
+      (b : Begins (is_long_running w.facts.info) m w k u) (el : l ≡ record k { dial = l.dial }) where
+    first_dial : k.dial ≡ m.dial
+    first_dial = ap (λ (s : BayState). s.dial) b.bay_is
 
-    ended : (complete : ℕ) → Noted (offers_due set (stage_events u.decision (with_end complete u.facts) ResponseComplete)) k.lanes u.notes n.lanes v.notes
-        → Noted (offers_due set (stage_events w.decision (done complete) ResponseComplete)) k.lanes u.notes n.lanes v.notes
-    ended complete h =
-        subst (λ (s : WorkState). Noted (offers_due set (stage_events s.decision (with_end complete s.facts) ResponseComplete)) k.lanes s.notes n.lanes v.notes) b.work_is h
+    lanes_then : l.lanes ≡ k.lanes
+    lanes_then = ap (λ (s : BayState). s.lanes) el
 
-    bay_after : n ≡ clock_and_lanes k n → n ≡ clock_and_lanes m n
-    bay_after e = e ∙ ap (λ (s : BayState). clock_and_lanes s n) b.bay_is
+    given_then : l.given ≡ k.given
+    given_then = ap (λ (s : BayState). s.given) el
 
-    pub replied : Completed set k u n v → Replied set m w n v
-    replied h = record {
+    last_then : l.last ≡ k.last
+    last_then = ap (λ (s : BayState). s.last) el
+
+    bay_then : l ≡ dial_clock_and_lanes m l
+    bay_then =
+        el ∙ ap (λ (s : BayState). let t : BayState = record s { dial = l.dial } in t) b.bay_is
+        ∙ ap (λ x. let t : BayState = record m { dial = l.dial; lanes = x; last = k.last; given = k.given } in t) (sym lanes_then)
+        ∙ ap (λ x. let t : BayState = record m { dial = l.dial; lanes = l.lanes; last = x; given = k.given } in t) (sym last_then)
+        ∙ ap (λ x. let t : BayState = record m { dial = l.dial; lanes = l.lanes; last = l.last; given = x } in t) (sym given_then)
+
+    -- memory ran out before the reply was complete
+    pub halts_write : (w0 w1 : Option (List ℕ)) → RepliedPart state r u.facts.id u.routed.handling sent k.dial l.dial w0 w1
+        → ReplyHalts state set r sent m w l u w0 w1
+    halts_write w0 w1 t = record {
+      part = subst (λ (d : DialState). RepliedPart state r w.facts.id w.routed.handling sent d l.dial w0 w1) first_dial
+          (subst (λ (s : WorkState). RepliedPart state r s.facts.id s.routed.handling sent k.dial l.dial w0 w1) b.work_is t);
+      kept = w.facts.reply;
       started = b.started;
-      complete = n.last;
-      noted = noted_join join (start_due (is_long_running w.facts.info) w.decision (done n.last))
-          (offers_due set (stage_events w.decision (done n.last) ResponseComplete)) m.lanes k.lanes n.lanes w.notes u.notes v.notes
-          (b.noted n.last) (ended n.last h.noted);
-      refuses = refuses_same none set u.decision (with_end n.last u.facts) ResponseComplete k.lanes n.lanes u.notes v.notes refl h.noted ∙ b.refuses;
-      timed = record {
-        given = subst (Grows m.given n.given) (sym (b.moments_are n.last))
-            (grows_join m.given k.given n.given b.moments (n.last ∷ []) b.given h.given);
-        started = b.first;
-        short = b.short;
-        complete = refl;
-        later = omega (arith, b.later, h.later);
-        between = λ e. omega (arith, b.last e, h.later);
-      };
-      bay_is = bay_after h.bay_is;
-      work_is = h.work_is ∙ ap (λ (s : WorkState). let t : WorkState = record s { facts = with_end n.last s.facts; notes = v.notes } in t) b.work_is;
+      complete = w.facts.complete;
+      due = start_due (is_long_running w.facts.info) w.decision (with_start b.started w.facts);
+      rest = offers_due set (stage_events w.decision (with_start b.started w.facts) ResponseComplete);
+      due_is = refl;
+      noted = subst (λ (x : LanesState). Noted (start_due (is_long_running w.facts.info) w.decision (with_start b.started w.facts)) m.lanes w.notes x u.notes) (sym lanes_then)
+          (b.noted w.facts.complete w.facts.reply);
+      refuses = b.refuses;
+      moments = b.moments;
+      given = subst (λ (x : Option (List ℕ)). Grows m.given x b.moments) (sym given_then) b.given;
+      few = omega (arith, b.few);
+      bay_is = bay_then;
+      work_is = b.work_is;
     }
 
-    pub halts_end : (r : Request) (reached : Reached) (w0 w1 : Option (List ℕ)) (rose : Type 0) (wrote : Wrote)
-        → Writes w0 w1 (client_text r u.facts.id u.routed.handling reached) rose wrote
-        → CompleteHalts k u n v → ReplyHalts set r reached m w n v w0 w1
-    halts_end r reached w0 w1 rose wrote written h =
-        let front = some_front w0 w1 (client_text r w.facts.id w.routed.handling reached) rose wrote
-        (subst (λ (s : WorkState). Writes w0 w1 (client_text r s.facts.id s.routed.handling reached) rose wrote) b.work_is written) in
-        let lanes : n.lanes ≡ k.lanes = ap (λ (s : BayState). s.lanes) h.bay_is in
-        let notes : v.notes ≡ u.notes = ap (λ (s : WorkState). s.notes) h.work_is in record {
-          started = b.started;
-          complete = n.last;
-          due = start_due (is_long_running w.facts.info) w.decision (done n.last);
-          rest = offers_due set (stage_events w.decision (done n.last) ResponseComplete);
-          due_is = refl;
-          noted = subst (λ (l : LanesState). Noted (start_due (is_long_running w.facts.info) w.decision (done n.last)) m.lanes w.notes l v.notes) (sym lanes)
-              (subst (λ (l : List OfferNote). Noted (start_due (is_long_running w.facts.info) w.decision (done n.last)) m.lanes w.notes k.lanes l) (sym notes) (b.noted n.last));
-          refuses = ap (has_refused set) notes ∙ b.refuses;
-          moments = b.moments ++ n.last ∷ [];
-          given = grows_join m.given k.given n.given b.moments (n.last ∷ []) b.given h.given;
-          few = omega (arith, length-append b.moments (n.last ∷ []), b.few);
-          count = front.0;
-          written = front.1;
-          bay_is = bay_after (h.bay_is ∙ ap (λ l. let t : BayState = record k { lanes = l; last = n.last; given = n.given } in t) (sym lanes));
-          work_is = subst (λ (s : WorkState). s ≡ record w { facts = done n.last; notes = s.notes }) (sym h.work_is)
-              (ap (λ (s : WorkState). let t : WorkState = record s { facts = with_end n.last s.facts } in t) b.work_is);
-        }
+    module _ (due : Bool) (due_is : due ≡ object_due w) (end : Relayed) (kept : Kept) (w0 w1 : Option (List ℕ)) (rose : Type 0)
+        (t : RepliedTo state r u.facts.id u.routed.handling due sent k.dial l.dial w0 w1 rose (record { end = end; kept = kept }))
+        (n : BayState) (x v : WorkState) (ex : x ≡ with_object kept u) where
+      abbrev pub own : ReplyEnd
+      own = record { end = end; kept = kept }
 
-  -- nothing was offered at the start
-  pub halts_start : (r : Request) (reached : Reached) (m n : BayState) (w v : WorkState) (w0 : Option (List ℕ))
-      → StartHalts m w n v → ReplyHalts set r reached m w n v w0 w0
-  halts_start r reached m n w v w0 h =
-      let lanes : n.lanes ≡ m.lanes = ap (λ (s : BayState). s.lanes) h.bay_is in
-      let notes : v.notes ≡ w.notes = ap (λ (s : WorkState). s.notes) h.work_is in record {
-        started = n.last;
-        complete = w.facts.complete;
-        due = [];
-        rest = later_due set w.decision (with_start n.last w.facts);
-        due_is = refl;
-        noted = subst (λ (l : LanesState). Noted [] m.lanes w.notes l v.notes) (sym lanes)
-            (subst (λ (l : List OfferNote). Noted [] m.lanes w.notes m.lanes l) (sym notes) (noted_none m.lanes w.notes));
-        refuses = ap (has_refused set) notes;
-        moments = n.last ∷ [];
-        given = h.given;
-        few = omega arith;
-        count = 0;
-        written = Appends-nil w0;
-        bay_is = h.bay_is ∙ ap (λ l. let t : BayState = record m { lanes = l; last = n.last; given = n.given } in t) (sym lanes);
-        work_is = subst (λ (s : WorkState). s ≡ record w { facts = with_start n.last w.facts; notes = s.notes }) (sym h.work_is) refl;
+      abbrev pub done : ℕ → Facts
+      done complete = known_facts kept b.started complete w.facts
+
+      x_is : x ≡ record w { facts = with_kept kept (with_start b.started w.facts); notes = u.notes }
+      x_is = ex ∙ ap (with_object kept) b.work_is
+
+      to_first : RepliedTo state r w.facts.id w.routed.handling (object_due w) sent m.dial l.dial w0 w1 rose own
+      to_first =
+          subst (λ (d : DialState). RepliedTo state r w.facts.id w.routed.handling (object_due w) sent d l.dial w0 w1 rose own) first_dial
+          (subst (λ (y : Bool). RepliedTo state r w.facts.id w.routed.handling y sent k.dial l.dial w0 w1 rose own) due_is
+          (subst (λ (s : WorkState). RepliedTo state r s.facts.id s.routed.handling due sent k.dial l.dial w0 w1 rose own) b.work_is t))
+
+      ended : (complete : ℕ) → Noted (offers_due set (stage_events x.decision (with_end complete x.facts) ResponseComplete)) l.lanes x.notes n.lanes v.notes
+          → Noted (offers_due set (stage_events w.decision (done complete) ResponseComplete)) k.lanes u.notes n.lanes v.notes
+      ended complete h =
+          subst (λ (y : LanesState). Noted (offers_due set (stage_events w.decision (done complete) ResponseComplete)) y u.notes n.lanes v.notes) lanes_then
+          (subst (λ (s : WorkState). Noted (offers_due set (stage_events s.decision (with_end complete s.facts) ResponseComplete)) l.lanes s.notes n.lanes v.notes) x_is h)
+
+      bay_after : n ≡ clock_and_lanes l n → n ≡ dial_clock_and_lanes m n
+      bay_after e =
+          e ∙ ap (λ (s : BayState). clock_and_lanes s n) bay_then
+          ∙ ap (λ d. let s : BayState = record m { dial = d; lanes = n.lanes; last = n.last; given = n.given } in s) (sym (ap (λ (s : BayState). s.dial) e))
+
+      dial_after : n ≡ clock_and_lanes l n → n.dial ≡ l.dial
+      dial_after e = ap (λ (s : BayState). s.dial) e
+
+      given_all : Grows l.given n.given (n.last ∷ []) → Grows m.given n.given (b.moments ++ n.last ∷ [])
+      given_all g =
+          grows_join m.given k.given n.given b.moments (n.last ∷ []) b.given
+          (subst (λ (y : Option (List ℕ)). Grows y n.given (n.last ∷ [])) given_then g)
+
+      pub replied : Completed set l x n v → Replied state set r sent m w n v w0 w1 rose end
+      replied h = record {
+        kept = kept;
+        to = subst (λ (d : DialState). RepliedTo state r w.facts.id w.routed.handling (object_due w) sent m.dial d w0 w1 rose own)
+            (sym (dial_after h.bay_is)) to_first;
+        started = b.started;
+        complete = n.last;
+        noted = noted_join join (start_due (is_long_running w.facts.info) w.decision (done n.last))
+            (offers_due set (stage_events w.decision (done n.last) ResponseComplete)) m.lanes k.lanes n.lanes w.notes u.notes v.notes
+            (b.noted n.last kept) (ended n.last h.noted);
+        refuses = refuses_same none set x.decision (with_end n.last x.facts) ResponseComplete l.lanes n.lanes x.notes v.notes refl h.noted
+            ∙ ap (λ (s : WorkState). has_refused set s.notes) x_is ∙ b.refuses;
+        timed = record {
+          given = subst (Grows m.given n.given) (sym (b.moments_are n.last)) (given_all h.given);
+          started = b.first;
+          short = b.short;
+          complete = refl;
+          later = omega (arith, b.later, h.later, last_then);
+          between = λ e. omega (arith, b.last e, h.later, last_then);
+        };
+        bay_is = bay_after h.bay_is;
+        work_is = h.work_is ∙ ap (λ (s : WorkState). let y : WorkState = record s { facts = with_end n.last s.facts; notes = v.notes } in y) x_is;
       }
 
-  -- the reply was not written
-  pub halts_answer : (r : Request) (reached : Reached) (m k : BayState) (w u : WorkState) (w0 w1 : Option (List ℕ))
-      → Begins (is_long_running w.facts.info) m w k u → w1 ≡ w0 → ReplyHalts set r reached m w k u w0 w1
-  halts_answer r reached m k w u w0 w1 b e = record {
-    started = b.started;
-    complete = w.facts.complete;
-    due = start_due (is_long_running w.facts.info) w.decision (with_start b.started w.facts);
-    rest = offers_due set (stage_events w.decision (with_start b.started w.facts) ResponseComplete);
-    due_is = refl;
-    noted = b.noted w.facts.complete;
-    refuses = b.refuses;
-    moments = b.moments;
-    given = b.given;
-    few = omega (arith, b.few);
-    count = 0;
-    written = subst (λ (o : Option (List ℕ)). Appends w0 o []) (sym e) (Appends-nil w0);
-    bay_is = b.bay_is;
-    work_is = b.work_is;
-  }
+      -- the reply was written, and its end was not offered
+      pub halts_end : CompleteHalts l x n v → ReplyHalts state set r sent m w n v w0 w1
+      halts_end h =
+          let lanes : n.lanes ≡ l.lanes = ap (λ (s : BayState). s.lanes) h.bay_is in
+          let notes : v.notes ≡ x.notes = ap (λ (s : WorkState). s.notes) h.work_is in
+          let first : x.notes ≡ u.notes = ap (λ (s : WorkState). s.notes) x_is in
+          let at : n ≡ clock_and_lanes l n =
+          h.bay_is ∙ ap (λ y. let s : BayState = record l { lanes = y; last = n.last; given = n.given } in s) (sym lanes) in
+          let all = to_first in record {
+            part = subst (λ (d : DialState). RepliedPart state r w.facts.id w.routed.handling sent m.dial d w0 w1) (sym (dial_after at))
+                (part_of state r w.facts.id w.routed.handling (object_due w) sent m.dial l.dial w0 w1 rose own all);
+            kept = kept;
+            started = b.started;
+            complete = n.last;
+            due = start_due (is_long_running w.facts.info) w.decision (done n.last);
+            rest = offers_due set (stage_events w.decision (done n.last) ResponseComplete);
+            due_is = refl;
+            noted = subst (λ (y : LanesState). Noted (start_due (is_long_running w.facts.info) w.decision (done n.last)) m.lanes w.notes y v.notes) (sym (lanes ∙ lanes_then))
+                (subst (λ (y : List OfferNote). Noted (start_due (is_long_running w.facts.info) w.decision (done n.last)) m.lanes w.notes k.lanes y) (sym (notes ∙ first)) (b.noted n.last kept));
+            refuses = ap (has_refused set) (notes ∙ first) ∙ b.refuses;
+            moments = b.moments ++ n.last ∷ [];
+            given = given_all h.given;
+            few = omega (arith, length-append b.moments (n.last ∷ []), b.few);
+            bay_is = bay_after at;
+            work_is = subst (λ (s : WorkState). s ≡ record w { facts = done n.last; notes = s.notes }) (sym h.work_is)
+                (ap (λ (s : WorkState). let y : WorkState = record s { facts = with_end n.last s.facts } in y) x_is
+                ∙ ap (λ y. let z : WorkState = record w { facts = done n.last; notes = y } in z) (sym first));
+          }
+
+  -- nothing was offered at the start, and nothing was written
+  pub halts_start : {K : Type 0} (state : K → LinkState) (r : Request) (sent : SentOn K) (m k l : BayState) (w v : WorkState) (w0 : Option (List ℕ))
+      → StartHalts m w k v → l ≡ record k { dial = l.dial } → GivenBack state (is_head r) sent k.dial l.dial
+      → ReplyHalts state set r sent m w l v w0 w0
+  halts_start state r sent m k l w v w0 h el g =
+      let lanes : l.lanes ≡ m.lanes = ap (λ (s : BayState). s.lanes) el ∙ ap (λ (s : BayState). s.lanes) h.bay_is in
+      let dial : k.dial ≡ m.dial = ap (λ (s : BayState). s.dial) h.bay_is in
+      let last : l.last ≡ k.last = ap (λ (s : BayState). s.last) el in
+      let given : l.given ≡ k.given = ap (λ (s : BayState). s.given) el in
+      let notes : v.notes ≡ w.notes = ap (λ (s : WorkState). s.notes) h.work_is in record {
+        part = subst (λ (d : DialState). RepliedPart state r w.facts.id w.routed.handling sent d l.dial w0 w0) dial
+            (record { came = g.came; comes = g.comes; link_is = g.link_is; written = inl refl });
+        kept = w.facts.reply;
+        started = k.last;
+        complete = w.facts.complete;
+        due = [];
+        rest = later_due set w.decision (with_start k.last w.facts);
+        due_is = refl;
+        noted = subst (λ (y : LanesState). Noted [] m.lanes w.notes y v.notes) (sym lanes)
+            (subst (λ (y : List OfferNote). Noted [] m.lanes w.notes m.lanes y) (sym notes) (noted_none m.lanes w.notes));
+        refuses = ap (has_refused set) notes;
+        moments = k.last ∷ [];
+        given = subst (λ (y : Option (List ℕ)). Grows m.given y (k.last ∷ [])) (sym given) h.given;
+        few = omega arith;
+        bay_is = el ∙ ap (λ (s : BayState). let y : BayState = record s { dial = l.dial } in y) h.bay_is
+            ∙ ap (λ y. let s : BayState = record m { dial = l.dial; lanes = y; last = k.last; given = k.given } in s) (sym lanes)
+            ∙ ap (λ y. let s : BayState = record m { dial = l.dial; lanes = l.lanes; last = y; given = k.given } in s) (sym last)
+            ∙ ap (λ y. let s : BayState = record m { dial = l.dial; lanes = l.lanes; last = l.last; given = y } in s) (sym given);
+        work_is = subst (λ (s : WorkState). s ≡ record w { facts = with_start k.last w.facts; notes = s.notes }) (sym h.work_is) refl;
+      }
 
 -- ---- more may be offered
 
@@ -249,5 +331,5 @@ pub may_end : Stay → FewLog → FewHook → (join : Join) (none : RefusesNone)
 may_end stay log hook join none hides set m k w u h b =
     may_after stay log hook set 1 m k _ w.notes u.notes
     (one_if (is_long_running w.facts.info) _
-    (one_by w.decision.level (omits w.decision.omit ResponseStarted) (event ResponseStarted w.decision.level (with_moments b.started 0 w.facts))))
-    h (b.noted 0)
+    (one_by w.decision.level (omits w.decision.omit ResponseStarted) (event ResponseStarted w.decision.level (known_facts w.facts.reply b.started 0 w.facts))))
+    h (b.noted 0 w.facts.reply)

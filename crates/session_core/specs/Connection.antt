@@ -10,9 +10,11 @@ use Rattle.http_edge.specs.declared.request.End.{End}
 use Rattle.http_edge.specs.declared.request.End.TheVariants as end_case
 use Rattle.http_edge.specs.declared.request.Request.{Request}
 use Rattle.session_core.specs.Bays.{BayState}
-use Rattle.session_core.specs.Exchange.{Exchanged, Halted, Unbegun}
+use Rattle.session_core.specs.Exchange.{Exchanged, ExchangedTo, Halted, Unbegun}
 use Rattle.session_core.specs.declared.conn_end.ConnEnd.{ConnEnd}
 use Rattle.session_core.specs.declared.conn_end.ConnEnd.TheVariants as conn_end
+use Rattle.stream_relay.specs.declared.stream.Relayed.{Relayed}
+use Rattle.stream_relay.specs.declared.stream.Relayed.TheVariants as relayed
 
 -- what a connection tells: the bytes that are left to read, those that were written, and how often a read or a write failed
 pub record ConnState : Type 0 where
@@ -75,7 +77,7 @@ pub record ServedTaken (set : Settings) (peer : List ℕ) (m n : BayState) (c d 
   pub ran : Ran set peer m requests out n
   pub written : Appends c.written d.written out
 
--- the first requests were served, and one more, of whose reply a prefix was written
+-- the first requests were served, and one more, of whose reply a prefix was written, since a write failed
 pub record ServedCut (set : Settings) (peer : List ℕ) (m n : BayState) (c d : ConnState) : Type 0 where
   pub requests : List Request
   pub last : Request
@@ -84,9 +86,21 @@ pub record ServedCut (set : Settings) (peer : List ℕ) (m n : BayState) (c d : 
   pub middle : BayState
   pub ran : Ran set peer m requests out middle
   pub text : List ℕ
-  pub cut : Exchanged set peer last middle text n
+  pub cut : ExchangedTo set peer last middle text n relayed.WriteFault
   pub count : ℕ
   pub written : Appends c.written d.written (out ++ take count text)
+
+-- the first requests were served, and one more, whose reply streamed and ended so: all of its body that came was written
+pub record ServedBroken (set : Settings) (peer : List ℕ) (m n : BayState) (c d : ConnState) (end : Relayed) : Type 0 where
+  pub requests : List Request
+  pub last : Request
+  pub first : IfSome c.left (λ input. FirstOf input (requests ++ last ∷ []))
+  pub out : List ℕ
+  pub middle : BayState
+  pub ran : Ran set peer m requests out middle
+  pub text : List ℕ
+  pub broken : ExchangedTo set peer last middle text n end
+  pub written : Appends c.written d.written (out ++ text)
 
 -- all numbers were used up, and one more request stands next
 pub record ServedMost (set : Settings) (peer : List ℕ) (m n : BayState) (c d : ConnState) : Type 0 where
@@ -122,5 +136,7 @@ abbrev pub Serves : Settings → List ℕ → BayState → BayState → ConnStat
 Serves set peer m n c d (conn_end.Stopped end) = ServedAll set peer m n c d end
 Serves set peer m n c d conn_end.ReadFault = ServedTaken set peer m n c d × Rose c.read_faults d.read_faults
 Serves set peer m n c d conn_end.WriteFault = ServedCut set peer m n c d × Rose c.write_faults d.write_faults
+Serves set peer m n c d conn_end.BackendCut = ServedBroken set peer m n c d relayed.BackendCut
+Serves set peer m n c d conn_end.StreamSpent = ServedBroken set peer m n c d relayed.StreamSpent
 Serves set peer m n c d conn_end.NumbersSpent = ServedMost set peer m n c d
 Serves set peer m n c d conn_end.NoMemory = ServedFirst set peer m n c d

@@ -1,30 +1,35 @@
 -- What one request does (Kubernetes, "API Aggregation Layer" and "Auditing").
-use Rattle.std.specs.Prelude.{◌≡◌, ◌≤◌, ◌+◌, ◌⊎◌, ℕ, Bool, true, false, if◌then◌else◌, List, [], ◌∷◌, ◌++◌, length, take, Option}
-use Rattle.std.specs.Io.KnownBytes.{Appends}
+use Rattle.std.specs.Prelude.{◌≡◌, ◌≤◌, ◌+◌, ◌⊎◌, ℕ, Bool, true, false, if◌then◌else◌, List, [], ◌∷◌, ◌++◌, length, Option}
 use Rattle.apiservice_rows.specs.Row.{Row}
 use Rattle.apiservice_table.specs.Changes.{IsLater}
 use Rattle.apiservice_table.specs.declared.change.Change.{Change}
 use Rattle.audit_core.specs.Errand.{errand_in, user_in, info_in}
-use Rattle.audit_core.specs.Exchange.{IsAnswered, decision_in, facts_by}
+use Rattle.audit_core.specs.Answer.{status_of}
+use Rattle.audit_core.specs.Exchange.{IsAnswered, IsKeptIf, decision_in, facts_by}
 use Rattle.audit_core.specs.Offers.{Due, offers_due, has_refused}
 use Rattle.audit_core.specs.Owed.{owed}
 use Rattle.audit_core.specs.Routing.{Decides}
 use Rattle.audit_core.specs.declared.answered.Answered.{Answered}
 use Rattle.audit_core.specs.declared.errand.Errand.{Errand}
 use Rattle.audit_core.specs.declared.errand.Errand.TheVariants as errand
+use Rattle.audit_core.specs.declared.link_note.LinkNote.{LinkNote}
 use Rattle.audit_core.specs.declared.offers.OfferNote.{OfferNote}
+use Rattle.audit_core.specs.declared.routed.Handling.{Handling}
 use Rattle.audit_core.specs.declared.routed.Routed.{Routed}
 use Rattle.audit_core.specs.declared.settings.Settings.{Settings}
 use Rattle.audit_core.specs.declared.stamp.Stamp.{Stamp}
 use Rattle.event_offers.specs.Offering.{OffersAll}
-use Rattle.exchange_replies.specs.Client.{client_text}
-use Rattle.exchange_replies.specs.Sent.{is_head, sent_on, Reaches, StopsSending, note_of, body_of}
-use Rattle.exchange_replies.specs.declared.reached.Reached.{Reached}
+use Rattle.exchange_replies.specs.Sent.{is_head, sent_on, StopsSending}
+use Rattle.exchange_replies.specs.Streams.{Came, once, streamed, link_of, reply_body, Comes, IsCutOff, Replies, WritesPart}
 use Rattle.front_base.specs.Info.{is_long_running}
+use Rattle.front_ports.specs.Cause.{Rose}
 use Rattle.front_ports.specs.Told.{Grows, Adds}
 use Rattle.http_edge.specs.declared.request.Request.{Request}
 use Rattle.session_core.specs.Bays.{BayState, next_id}
 use Rattle.session_core.specs.declared.exchange.Exchange.{Exchange}
+use Rattle.stage_event.specs.Due.{request_due, reply_due}
+use Rattle.stream_relay.specs.declared.stream.Relayed.{Relayed}
+use Rattle.stream_relay.specs.declared.stream.Relayed.TheVariants as relayed
 
 -- ---- how it is handled
 
@@ -57,34 +62,59 @@ pub record IsTimed (long : Bool) (m n : BayState) (stamp : Stamp) : Type 0 where
   pub last : n.last ≡ stamp.complete
   pub short : long ≡ false → stamp.started ≡ stamp.received
 
+-- ---- what is known of it
+
+-- the facts of one whose reply streamed and was cut: of its body nothing is kept
+pub record IsAnsweredCut (set : Settings) (stamp : Stamp) (r : Request) (handling : Handling) (note : LinkNote) (x : Answered)
+    : Type 0 where
+  pub handling_is : x.handling ≡ handling
+  pub decision_is : x.decision ≡ decision_in set r
+  pub request_is : IsKeptIf (request_due (decision_in set r).level (info_in r)) r.body x.facts.request
+  pub reply_is : IsCutOff (reply_due (decision_in set r).level (info_in r)) x.facts.reply
+  pub facts_are : x.facts ≡ facts_by stamp r (info_in r) (user_in set r) (status_of handling note) x.facts.request x.facts.reply
+
+-- the facts of one whose link came to that and whose reply ended so
+abbrev pub AnsweredBy : Settings → Stamp → Request → Handling → Came → Relayed → Answered → Type 0
+AnsweredBy set stamp r handling (once reached) end x =
+    IsAnswered set stamp r handling (link_of (once reached)) (reply_body (once reached)) x
+AnsweredBy set stamp r handling (streamed head frame after) relayed.Done x =
+    IsAnswered set stamp r handling (link_of (streamed head frame after)) (reply_body (streamed head frame after)) x
+AnsweredBy set stamp r handling (streamed head frame after) _ x =
+    IsAnsweredCut set stamp r handling (link_of (streamed head frame after)) x
+
 -- ---- all that it does
 
 -- a request of that peer was served by a bay: it was judged, offered, handled, sent on or not, answered with that text, and
--- noted
-pub record Exchanged (set : Settings) (peer : List ℕ) (r : Request) (m : BayState) (text : List ℕ) (n : BayState) : Type 0 where
+-- noted. By its end the text is that of the whole reply, which may not have been written whole, or of a reply that was cut
+pub record ExchangedTo (set : Settings) (peer : List ℕ) (r : Request) (m : BayState) (text : List ℕ) (n : BayState) (end : Relayed)
+    : Type 0 where
   pub x : Exchange
   pub request_is : x.request ≡ r
   -- the rows that were seen decide, and the change that it makes stands next
   pub routed : Decides set.endpoints (errand_after set x.offers (errand_in set r)) m.opening m.seen m.own n.seen n.own (routed_of x)
-  -- it was sent on where it is to be, and what came is what all bytes of the link say
-  pub reached : Reached
-  pub sent : Reaches (is_head r) (is_long r) (sent_on r (user_in set r) (next_id m) x.handling) m.dial n.dial reached
-  pub link_is : x.link ≡ note_of reached
+  -- it was sent on where it is to be, its link was handed back, and what came is what all bytes of the link say
+  pub came : Came
+  pub sent : Comes (is_head r) (is_long r) (sent_on r (user_in set r) (next_id m) x.handling) m.dial n.dial came
+  pub link_is : x.link ≡ link_of came
   -- its facts are those of the request and its answer
   pub stamp : Stamp
   pub id_is : stamp.id ≡ next_id m
   pub peer_is : stamp.peer ≡ peer
   pub timed : IsTimed (is_long r) m n stamp
-  pub answered : IsAnswered set stamp r x.handling x.link (body_of reached) (answered_of x)
+  pub answered : AnsweredBy set stamp r x.handling came end (answered_of x)
   -- each event that it owes was offered to each sink that is on
   pub offered : OffersAll (offers_due set (owed x.decision x.facts)) m.lanes x.offers n.lanes
   -- the client's bytes
-  pub text_is : text ≡ client_text r (next_id m) x.handling reached
+  pub text_is : Replies r (next_id m) x.handling (Rose m.dial.link_faults n.dial.link_faults) came end text
   -- the diary and the bay's own numbers
   pub noted : Adds m.notes n.notes (x ∷ [])
   pub number_is : n.number ≡ m.number + 1
   pub boot_is : n.boot ≡ m.boot
   pub opening_is : n.opening ≡ m.opening
+
+-- the same of one whose reply came whole
+abbrev pub Exchanged : Settings → List ℕ → Request → BayState → List ℕ → BayState → Type 0
+Exchanged set peer r m text n = ExchangedTo set peer r m text n relayed.Done
 
 -- ---- where memory ran out
 
@@ -103,7 +133,7 @@ RoutesHalt set own m n routed =
     ⊎ (IsLater m.seen n.seen × (n.own ≡ m.own))
 
 -- what memory stopped did a part of that, and was noted: a prefix of its offers was made, it was sent on once at most, and a prefix of
--- its reply was written
+-- its reply was written. Its link was handed back
 pub record Halted (set : Settings) (peer : List ℕ) (r : Request) (m n : BayState) (w0 w : Option (List ℕ)) : Type 0 where
   pub x : Exchange
   pub request_is : x.request ≡ r
@@ -113,11 +143,10 @@ pub record Halted (set : Settings) (peer : List ℕ) (r : Request) (m n : BaySta
   pub due_is : offers_due set (owed x.decision x.facts) ≡ due ++ rest
   pub offered : OffersAll due m.lanes x.offers n.lanes
   pub routed : RoutesHalt set (errand_after set x.offers (errand_in set r)) m n (routed_of x)
-  pub reached : Reached
-  pub sent : Reaches (is_head r) (is_long r) (sent_on r (user_in set r) (next_id m) x.handling) m.dial n.dial reached
+  pub came : Came
+  pub sent : Comes (is_head r) (is_long r) (sent_on r (user_in set r) (next_id m) x.handling) m.dial n.dial came
       ⊎ StopsSending (sent_on r (user_in set r) (next_id m) x.handling) m.dial n.dial
-  pub count : ℕ
-  pub written : Appends w0 w (take count (client_text r (next_id m) x.handling reached))
+  pub written : WritesPart r (next_id m) x.handling (Rose m.dial.link_faults n.dial.link_faults) came w0 w
   pub moments : List ℕ
   pub given : Grows m.given n.given moments
   pub few : length moments ≤ 3

@@ -1,5 +1,5 @@
 -- What the parts of one exchange do.
-use Rattle.std.specs.Prelude.{◌≡◌, ◌≤◌, ◌⊎◌, ℕ, Bool, true, false, if◌then◌else◌, List, [], ◌∷◌, ◌++◌, length, take, Option, Result, Ok, Err}
+use Rattle.std.specs.Prelude.{◌≡◌, ◌≤◌, ◌⊎◌, ℕ, Bool, true, false, if◌then◌else◌, List, [], ◌∷◌, ◌++◌, length, Option, Result, Ok, Err}
 use Rattle.std.specs.Io.KnownBytes.{Appends}
 use Rattle.apiservice_table.specs.Changes.{IsLater}
 use Rattle.audit_core.specs.Answer.{status_of}
@@ -11,28 +11,30 @@ use Rattle.audit_core.specs.declared.link_note.LinkNote.{LinkNote}
 use Rattle.audit_core.specs.declared.routed.Routed.{Routed}
 use Rattle.audit_core.specs.declared.settings.Settings.{Settings}
 use Rattle.event_offers.specs.Offering.{Noted, stage_events, started_events}
-use Rattle.exchange_replies.specs.Client.{client_text}
 use Rattle.exchange_replies.specs.Sent as sent
-use Rattle.exchange_replies.specs.Sent.{is_head, sent_on, Reaches, StopsSending}
-use Rattle.exchange_replies.specs.Writing.{Writes}
-use Rattle.exchange_replies.specs.declared.reached.Reached.{Reached}
-use Rattle.exchange_replies.specs.declared.writing.Wrote.{Wrote}
-use Rattle.exchange_replies.specs.declared.writing.Wrote.TheVariants as wrote
+use Rattle.exchange_replies.specs.Sent.{is_head, sent_on, StopsSending}
+use Rattle.exchange_replies.specs.Streams.{Came, Comes, Forwards, IsKeptBy, RepliedTo, RepliedPart, Replies, WritesPart, WritesTo, link_of, note_of_sent}
+use Rattle.exchange_replies.specs.declared.sent_on.SentOn.{SentOn}
+use Rattle.forward_link.specs.Exchange.{LinkState}
 use Rattle.front_base.specs.Info.{is_long_running}
 use Rattle.front_base.specs.declared.stage.Stage.{Stage}
 use Rattle.front_base.specs.declared.stage.Stage.TheVariants as stage
 use Rattle.front_base.specs.declared.memory.NoMemory.{NoMemory}
+use Rattle.front_ports.specs.Cause.{Rose}
 use Rattle.front_ports.specs.Told.{Grows}
 use Rattle.front_ports.specs.Written.{AppendsFront}
 use Rattle.http_edge.specs.declared.request.Request.{Request}
 use Rattle.policy_rules.specs.declared.decision.Decision.{Decision}
 use Rattle.session_core.specs.Bays.{BayState}
-use Rattle.session_core.specs.Exchange.{errand_after, RoutesHalt, Exchanged, Halted, Unbegun}
-use Rattle.session_core.specs.Steps.{WorkState, Knows, IsReplyKept, with_reply}
+use Rattle.session_core.specs.Exchange.{errand_after, RoutesHalt, Exchanged, ExchangedTo, Halted, Unbegun}
+use Rattle.session_core.specs.Steps.{WorkState, linked, with_kept, with_reply}
 use Rattle.session_core.specs.declared.session.Outcome.{Outcome}
 use Rattle.session_core.specs.declared.session.Outcome.TheVariants as outcome
+use Rattle.stage_event.specs.Due.{reply_due}
 use Rattle.stage_event.specs.declared.facts.Facts.{Facts}
 use Rattle.stage_event.specs.declared.facts.Kept.{Kept}
+use Rattle.stream_relay.specs.declared.stream.Relayed.{Relayed}
+use Rattle.stream_relay.specs.declared.stream.Relayed.TheVariants as relayed
 
 -- ---- the first events, and how it is handled
 
@@ -62,20 +64,20 @@ pub record HandleHalts (set : Settings) (m : BayState) (w : WorkState) (n : BayS
 
 -- ---- the link
 
--- what was to be sent on was, and what came is known
+-- what was to be sent on was, and how its link is noted is known
 abbrev pub sending : Request → WorkState → Option sent.Sent
 sending r w = sent_on r w.facts.user w.facts.id w.routed.handling
 
-pub record Reaching (r : Request) (m : BayState) (w : WorkState) (n : BayState) (v : WorkState) (reached : Reached) : Type 0 where
-  pub sent_is : Reaches (is_head r) (is_long_running w.facts.info) (sending r w) m.dial n.dial reached
-  pub knows : Knows r reached w v
+pub record Reaching {K : Type 0} (state : K → LinkState) (r : Request) (m : BayState) (w : WorkState) (n : BayState)
+    (v : WorkState) (sent : SentOn K) : Type 0 where
+  pub sent_is : Forwards state (is_head r) (is_long_running w.facts.info) (sending r w) m.dial n.dial sent
+  pub later : m.dial.link_faults ≤ n.dial.link_faults
+  pub work_is : v ≡ linked (note_of_sent sent) w
   pub bay_is : n ≡ record m { dial = n.dial }
 
 -- memory ran out, maybe after some bytes were sent
 pub record ReachHalts (r : Request) (m : BayState) (w : WorkState) (n : BayState) (v : WorkState) : Type 0 where
-  pub reached : Reached
-  pub sent_is : Reaches (is_head r) (is_long_running w.facts.info) (sending r w) m.dial n.dial reached
-      ⊎ StopsSending (sending r w) m.dial n.dial
+  pub sent_is : StopsSending (sending r w) m.dial n.dial
   pub bay_is : n ≡ record m { dial = n.dial }
   pub work_is : v ≡ w
 
@@ -139,32 +141,49 @@ Started set m w n v = StartedBy (is_long_running w.facts.info) set m w n v
 abbrev pub Completed : Settings → BayState → WorkState → BayState → WorkState → Type 0
 Completed set m w n v = StageReached set stage.ResponseComplete m w n v (with_end n.last w.facts)
 
-pub record Replied (set : Settings) (m : BayState) (w : WorkState) (n : BayState) (v : WorkState) : Type 0 where
+-- the facts once the reply is complete
+abbrev pub known_facts : Kept → ℕ → ℕ → Facts → Facts
+known_facts reply started complete facts = with_moments started complete (with_kept reply facts)
+
+-- the dial, the clock and the lanes changed, and nothing else of the bay
+abbrev pub dial_clock_and_lanes : BayState → BayState → BayState
+dial_clock_and_lanes m n = record m { dial = n.dial; lanes = n.lanes; last = n.last; given = n.given }
+
+-- where an event shows the reply's body
+abbrev pub object_due : WorkState → Bool
+object_due w = reply_due w.decision.level w.facts.info
+
+-- the reply was written by that end, between the later events, and this was kept
+pub record Replied {K : Type 0} (state : K → LinkState) (set : Settings) (r : Request) (sent : SentOn K) (m : BayState) (w : WorkState)
+    (n : BayState) (v : WorkState) (w0 w1 : Option (List ℕ)) (rose : Type 0) (end : Relayed) : Type 0 where
+  pub kept : Kept
+  pub to : RepliedTo state r w.facts.id w.routed.handling (object_due w) sent m.dial n.dial w0 w1 rose
+      (record { end = end; kept = kept })
   pub started : ℕ
   pub complete : ℕ
-  pub noted : Noted (later_due set w.decision (with_moments started complete w.facts)) m.lanes w.notes n.lanes v.notes
+  pub noted : Noted (later_due set w.decision (known_facts kept started complete w.facts)) m.lanes w.notes n.lanes v.notes
   pub refuses : has_refused set v.notes ≡ has_refused set w.notes
   pub timed : IsTimedBy (is_long_running w.facts.info) m.given n.given m.last n.last w.facts.started started complete
-  pub bay_is : n ≡ clock_and_lanes m n
-  pub work_is : v ≡ record w { facts = with_moments started complete w.facts; notes = v.notes }
+  pub bay_is : n ≡ dial_clock_and_lanes m n
+  pub work_is : v ≡ record w { facts = known_facts kept started complete w.facts; notes = v.notes }
 
--- memory ran out: some of the later events were offered, and some prefix of the reply was written
-pub record ReplyHalts (set : Settings) (r : Request) (reached : Reached) (m : BayState) (w : WorkState) (n : BayState)
-    (v : WorkState) (w0 w1 : Option (List ℕ)) : Type 0 where
+-- memory ran out: some of the later events were offered, some prefix of the reply was written, and the link was handed back
+pub record ReplyHalts {K : Type 0} (state : K → LinkState) (set : Settings) (r : Request) (sent : SentOn K) (m : BayState)
+    (w : WorkState) (n : BayState) (v : WorkState) (w0 w1 : Option (List ℕ)) : Type 0 where
+  pub part : RepliedPart state r w.facts.id w.routed.handling sent m.dial n.dial w0 w1
+  pub kept : Kept
   pub started : ℕ
   pub complete : ℕ
   pub due : List Due
   pub rest : List Due
-  pub due_is : later_due set w.decision (with_moments started complete w.facts) ≡ due ++ rest
+  pub due_is : later_due set w.decision (known_facts kept started complete w.facts) ≡ due ++ rest
   pub noted : Noted due m.lanes w.notes n.lanes v.notes
   pub refuses : has_refused set v.notes ≡ has_refused set w.notes
   pub moments : List ℕ
   pub given : Grows m.given n.given moments
   pub few : length moments ≤ 2
-  pub count : ℕ
-  pub written : Appends w0 w1 (take count (client_text r w.facts.id w.routed.handling reached))
-  pub bay_is : n ≡ clock_and_lanes m n
-  pub work_is : v ≡ record w { facts = with_moments started complete w.facts; notes = v.notes }
+  pub bay_is : n ≡ dial_clock_and_lanes m n
+  pub work_is : v ≡ record w { facts = known_facts kept started complete w.facts; notes = v.notes }
 
 -- ---- all of it
 
@@ -185,26 +204,28 @@ final_facts w routed link reply started complete =
     with_moments started complete (with_reply (status_of routed.handling link) reply w.facts)
 
 pub record Served (set : Settings) (r : Request) (own : Errand) (m : BayState) (w : WorkState) (n : BayState) (v : WorkState)
-    (w0 w1 : Option (List ℕ)) (rose : Type 0) (wrote : Wrote) : Type 0 where
+    (w0 w1 : Option (List ℕ)) (rose : Type 0) (end : Relayed) : Type 0 where
   pub routed : Routed
-  pub reached : Reached
+  pub came : Came
   pub reply : Kept
   pub started : ℕ
   pub complete : ℕ
   pub decides : Decides set.endpoints (errand_after set v.notes own) m.opening m.seen m.own n.seen n.own routed
-  pub sent_is : Reaches (is_head r) (is_long_running w.facts.info)
-      (sent_on r w.facts.user w.facts.id routed.handling) m.dial n.dial reached
-  pub kept_is : IsReplyKept r (record w { routed = routed }) (sent.note_of reached) (sent.body_of reached) reply
-  pub noted : Noted (offers_due set (owed w.decision (final_facts w routed (sent.note_of reached) reply started complete)))
+  pub sent_is : Comes (is_head r) (is_long_running w.facts.info)
+      (sent_on r w.facts.user w.facts.id routed.handling) m.dial n.dial came
+  pub text : List ℕ
+  pub replies : Replies r w.facts.id routed.handling (Rose m.dial.link_faults n.dial.link_faults) came end text
+  pub kept_is : IsKeptBy r routed.handling (object_due w) came end reply
+  pub noted : Noted (offers_due set (owed w.decision (final_facts w routed (link_of came) reply started complete)))
       m.lanes w.notes n.lanes v.notes
   pub timed : IsTimedBy (is_long_running w.facts.info) m.given n.given m.last n.last w.facts.started started complete
-  pub writes : Writes w0 w1 (client_text r w.facts.id routed.handling reached) rose wrote
+  pub writes : WritesTo w0 w1 text rose end
   pub bay_is : n ≡ all_but_numbers m n
   pub work_is : v ≡ record {
     routed = routed;
     decision = w.decision;
-    facts = final_facts w routed (sent.note_of reached) reply started complete;
-    link = sent.note_of reached;
+    facts = final_facts w routed (link_of came) reply started complete;
+    link = link_of came;
     notes = v.notes;
   }
 
@@ -212,7 +233,7 @@ pub record Served (set : Settings) (r : Request) (own : Errand) (m : BayState) (
 pub record ServingHalts (set : Settings) (r : Request) (own : Errand) (m : BayState) (w : WorkState) (n : BayState)
     (v : WorkState) (w0 w1 : Option (List ℕ)) : Type 0 where
   pub routed : Routed
-  pub reached : Reached
+  pub came : Came
   pub link : LinkNote
   pub status : ℕ
   pub reply : Kept
@@ -223,14 +244,13 @@ pub record ServingHalts (set : Settings) (r : Request) (own : Errand) (m : BaySt
   pub due_is : offers_due set (owed w.decision (with_moments started complete (with_reply status reply w.facts))) ≡ due ++ rest
   pub noted : Noted due m.lanes w.notes n.lanes v.notes
   pub decides : RoutesHalt set (errand_after set v.notes own) m n routed
-  pub sent_is : Reaches (is_head r) (is_long_running w.facts.info)
-      (sent_on r w.facts.user w.facts.id routed.handling) m.dial n.dial reached
+  pub sent_is : Comes (is_head r) (is_long_running w.facts.info)
+      (sent_on r w.facts.user w.facts.id routed.handling) m.dial n.dial came
       ⊎ StopsSending (sent_on r w.facts.user w.facts.id routed.handling) m.dial n.dial
   pub moments : List ℕ
   pub given : Grows m.given n.given moments
   pub few : length moments ≤ 2
-  pub count : ℕ
-  pub written : Appends w0 w1 (take count (client_text r w.facts.id routed.handling reached))
+  pub written : WritesPart r w.facts.id routed.handling (Rose m.dial.link_faults n.dial.link_faults) came w0 w1
   pub bay_is : n ≡ all_but_numbers m n
   pub work_is : v ≡ record {
     routed = routed;
@@ -242,9 +262,11 @@ pub record ServingHalts (set : Settings) (r : Request) (own : Errand) (m : BaySt
 
 -- ---- how it ends
 
-abbrev pub outcome_of : Result Wrote NoMemory → Outcome
-outcome_of (Ok wrote.Whole) = outcome.Whole
-outcome_of (Ok wrote.Cut) = outcome.Cut
+abbrev pub outcome_of : Result Relayed NoMemory → Outcome
+outcome_of (Ok relayed.Done) = outcome.Whole
+outcome_of (Ok relayed.WriteFault) = outcome.Cut
+outcome_of (Ok relayed.BackendCut) = outcome.BackendCut
+outcome_of (Ok relayed.StreamSpent) = outcome.StreamSpent
 outcome_of (Err fault) = outcome.NoMemory
 
 abbrev pub Outcomes : Settings → List ℕ → Request → BayState → BayState → Option (List ℕ) → Option (List ℕ) → Type 0 → Outcome
@@ -252,7 +274,11 @@ abbrev pub Outcomes : Settings → List ℕ → Request → BayState → BayStat
 Outcomes set peer r m n w0 w1 rose outcome.Whole =
     (text : List ℕ) × Exchanged set peer r m text n × Appends w0 w1 text
 Outcomes set peer r m n w0 w1 rose outcome.Cut =
-    (text : List ℕ) × Exchanged set peer r m text n × AppendsFront w0 w1 text × rose
+    (text : List ℕ) × ExchangedTo set peer r m text n relayed.WriteFault × AppendsFront w0 w1 text × rose
+Outcomes set peer r m n w0 w1 rose outcome.BackendCut =
+    (text : List ℕ) × ExchangedTo set peer r m text n relayed.BackendCut × Appends w0 w1 text
+Outcomes set peer r m n w0 w1 rose outcome.StreamSpent =
+    (text : List ℕ) × ExchangedTo set peer r m text n relayed.StreamSpent × Appends w0 w1 text
 Outcomes set peer r m n w0 w1 rose outcome.NoMemory =
     Unbegun m n w0 w1 ⊎ Halted set peer r m n w0 w1
 

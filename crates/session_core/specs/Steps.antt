@@ -1,8 +1,8 @@
 -- What is known of a request while it is served.
 use Rattle.std.specs.Prelude.{◌≡◌, ℕ, List, [], Option, None}
-use Rattle.audit_core.specs.Answer.{status_of, body_of}
+use Rattle.audit_core.specs.Answer.{status_of}
 use Rattle.audit_core.specs.Errand.{errand_in, user_in, info_in}
-use Rattle.audit_core.specs.Exchange.{IsKeptIf, decision_in, facts_by, sent_body}
+use Rattle.audit_core.specs.Exchange.{IsKeptIf, decision_in, facts_by}
 use Rattle.audit_core.specs.declared.link_note.LinkNote.{LinkNote}
 use Rattle.audit_core.specs.declared.link_note.LinkNote.TheVariants.{NotUsed}
 use Rattle.audit_core.specs.declared.offers.OfferNote.{OfferNote}
@@ -10,8 +10,6 @@ use Rattle.audit_core.specs.declared.routed.Handling.TheVariants.{Refused}
 use Rattle.audit_core.specs.declared.routed.Routed.{Routed}
 use Rattle.audit_core.specs.declared.settings.Settings.{Settings}
 use Rattle.audit_core.specs.declared.stamp.Stamp.{Stamp}
-use Rattle.exchange_replies.specs.Sent as sent
-use Rattle.exchange_replies.specs.declared.reached.Reached.{Reached}
 use Rattle.front_base.specs.declared.level.Level.{Level}
 use Rattle.front_base.specs.declared.level.Level.TheVariants as level
 use Rattle.http_edge.specs.declared.request.Request.{Request}
@@ -19,7 +17,7 @@ use Rattle.policy_rules.specs.declared.decision.Decision.{Decision}
 use Rattle.session_core.specs.declared.begun.Begun.{Begun}
 use Rattle.session_core.specs.declared.exchange.Exchange.{Exchange}
 use Rattle.session_core.specs.declared.work.Work.{Work}
-use Rattle.stage_event.specs.Due.{request_due, reply_due}
+use Rattle.stage_event.specs.Due.{request_due}
 use Rattle.stage_event.specs.declared.facts.Facts.{Facts}
 use Rattle.stage_event.specs.declared.facts.Kept.{Kept}
 use Rattle.stage_event.specs.declared.facts.Kept.TheVariants.{NotAsked}
@@ -89,20 +87,20 @@ exchange_of r w = record {
 
 -- ---- when its reply is known
 
--- this is kept of the reply's body, where an event shows it
-abbrev pub IsReplyKept : Request → WorkState → LinkNote → List ℕ → Kept → Type 0
-IsReplyKept r w note body kept =
-    IsKeptIf (reply_due w.decision.level w.facts.info) (sent_body r.head.method (body_of w.routed.handling note body)) kept
+abbrev pub with_status : ℕ → Facts → Facts
+with_status status facts = record facts { status = status }
+
+abbrev pub with_kept : Kept → Facts → Facts
+with_kept reply facts = record facts { reply = reply }
 
 -- the facts with the status and what is kept of the reply
 abbrev pub with_reply : ℕ → Kept → Facts → Facts
 with_reply status reply facts = record facts { status = status; reply = reply }
 
--- what came of its link is noted, and its facts have the status and what is kept of the reply then
-pub record Knows (r : Request) (reached : Reached) (w v : WorkState) : Type 0 where
-  pub kept : Kept
-  pub kept_is : IsReplyKept r w (sent.note_of reached) (sent.body_of reached) kept
-  pub is : v ≡ record w {
-    link = sent.note_of reached;
-    facts = with_reply (status_of w.routed.handling (sent.note_of reached)) kept w.facts;
-  }
+-- how its link is noted, and the status that its reply has then
+abbrev pub linked : LinkNote → WorkState → WorkState
+linked note w = record w { link = note; facts = with_status (status_of w.routed.handling note) w.facts }
+
+-- what is kept of its reply's body
+abbrev pub with_object : Kept → WorkState → WorkState
+with_object reply w = record w { facts = with_kept reply w.facts }

@@ -5,7 +5,7 @@
 //! that a connection does that for each request of its input in order, and why it ends. Which request an input has is the
 //! definition of `http_edge`; how a request is handled and what it owes are those of `audit_core`.
 //!
-//! Nothing is promised of time. A reply that would have to be handed on in pieces is answered 502.
+//! A reply that is handed on as it comes may be cut by its backend, and the connection ends then. Nothing is promised of time.
 #![tactic(auto)]
 
 mod bay;
@@ -22,6 +22,3 @@ pub use conn_end::ConnEnd;
 pub use diary::{Diary, MemDiary, NoDiary};
 pub use exchange::Exchange;
 pub use serving::serve_connection;
-
-#[cfg(test)]
-mod tests;

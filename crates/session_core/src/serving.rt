@@ -69,7 +69,8 @@ fn stopped<O: ByteSink>(alloc: Global, out: &mut O, stop: Stop) -> ConnEnd
 ///
 /// `Stopped` tells why the input has no more requests. `ReadFault` and `WriteFault` come only where a count of faults rose:
 /// then the requests that stand whole in what was read were served, or those up to the one whose reply was cut. After
-/// `NumbersSpent` the bay has no number for the request that stands next. After `NoMemory` the connection is given up; the
+/// `BackendCut` and `StreamSpent` the reply to the last one, which was handed on as it came, has all of its body that came
+/// from the backend. After `NumbersSpent` the bay has no number for the request that stands next. After `NoMemory` the connection is given up; the
 /// request in hand has a prefix of its offers, and is noted unless it left no trace.
 ///
 /// The bay may serve the next connection after each of these ends.
@@ -115,6 +116,8 @@ pub fn serve_connection<C: Conn, R: Routes, D: Dial, A: Lane, B: Lane, K: Clock,
         match serve_request(alloc, settings, paths, bay, conn, request) {
             Outcome::Whole => {}
             Outcome::Cut => return ConnEnd::WriteFault,
+            Outcome::BackendCut => return ConnEnd::BackendCut,
+            Outcome::StreamSpent => return ConnEnd::StreamSpent,
             Outcome::NoMemory => return ConnEnd::NoMemory,
         }
         if last {

@@ -1,10 +1,9 @@
 // One request, from its arrival to its last event.
-ghost use Rattle.std.specs.Prelude.{◌≡◌, ◌≤◌, ◌<◌, IfOk, OnOk, OnErr, [], true};
+ghost use Rattle.std.specs.Prelude.{◌≡◌, ◌≤◌, ◌<◌, ◌+◌, IfOk, OnOk, OnErr, [], true};
 ghost use Rattle.audit_core.specs.Exchange.{decision_in};
 ghost use Rattle.event_offers.specs.Lanes.{AreLanesOf};
-ghost use Rattle.exchange_replies.specs.Client.{client_text};
-ghost use Rattle.exchange_replies.specs.Statuses.{IsFinalErrand, IsFinalHandling, IsFinalReached};
-ghost use Rattle.exchange_replies.specs.Writing.{Writes};
+ghost use Rattle.exchange_replies.specs.Statuses.{IsFinalErrand, IsFinalHandling};
+ghost use Rattle.exchange_replies.specs.Streams.{IsFinalSent};
 ghost use Rattle.front_base.specs.declared.audit_id.TheConstants.{MOST_REQUESTS};
 ghost use Rattle.front_ports.specs.Cause.{Rose};
 ghost use Rattle.session_core.specs.Bays.{bay_state, CanOffer, IsReady};
@@ -20,13 +19,14 @@ use audit_core::{Errand, Settings, Stamp, handle_errand};
 use event_offers::{
     lanes_stay, later_stages_refuse_nothing, offer_stage, offers_join, stages_make_up_what_is_owed,
 };
-use exchange_replies::{Reached, Wrote, answer, send_on, statuses_are_final};
+use exchange_replies::{SentOn, forward, give_back, reply_to, statuses_are_final};
 use front_base::{AuditId, MOST_REQUESTS, NoMemory, Stage};
 use front_ports::{ByteSink, Clock, Conn, Dial};
 use http_edge::Request;
 use local_replies::LocalPaths;
-use stage_event::stages_hide;
+use stage_event::{reply_due, stages_hide};
 use std::alloc::Global;
+use stream_relay::Relayed;
 use truncate_backend::Lane;
 
 // Offers the event of its arrival, and decides how it is handled.
@@ -62,21 +62,26 @@ fn handle<R: Routes, D: Dial, A: Lane, B: Lane, K: Clock, Y: Diary>(
     Ok(())
 }
 
-// Sends it on where it is to be sent on, and notes what came of it.
+// Sends it on where it is to be sent on, and notes how its link is noted.
 fn reach<R: Routes, D: Dial, A: Lane, B: Lane, K: Clock, Y: Diary>(
     alloc: Global,
     bay: &mut Bay<R, D, A, B, K, Y>,
     request: &Request,
     work: &mut Work,
-) -> Result<Reached, NoMemory>
-    ensures ok { IfOk result (spec.Reaching request.now (bay_state R.Routes D.Dial A.Lane B.Lane K.Clock Y.Diary bay.old) (work_state work.old)
+) -> Result<SentOn<D::K>, NoMemory>
+    ensures ok { IfOk result (spec.Reaching (λ link. record {
+      left = D.K.left link;
+      written = D.K.written link;
+      number = D.K.number link;
+      faults = D.K.read_faults link + D.K.write_faults link;
+    }) request.now (bay_state R.Routes D.Dial A.Lane B.Lane K.Clock Y.Diary bay.old) (work_state work.old)
         (bay_state R.Routes D.Dial A.Lane B.Lane K.Clock Y.Diary bay.new) (work_state work.new)) }
-    ensures status { IfOk result IsFinalReached }
+    ensures status { IfOk result IsFinalSent }
     ensures err { OnErr result (spec.ReachHalts request.now (bay_state R.Routes D.Dial A.Lane B.Lane K.Clock Y.Diary bay.old) (work_state work.old)
         (bay_state R.Routes D.Dial A.Lane B.Lane K.Clock Y.Diary bay.new) (work_state work.new)) }
     ensures diary { bay.new.diary ≡ bay.old.diary }
 {
-    let reached = send_on(
+    let sent = forward(
         alloc,
         &mut bay.dial,
         request,
@@ -85,8 +90,8 @@ fn reach<R: Routes, D: Dial, A: Lane, B: Lane, K: Clock, Y: Diary>(
         &work.handling,
         work.facts.info.is_long_running(),
     )?;
-    work.reach(alloc, request, &reached)?;
-    Ok(reached)
+    work.set_link(sent.note());
+    Ok(sent)
 }
 
 // Offers the event of its reply's start, if it runs long.
@@ -151,18 +156,26 @@ fn reply<O: ByteSink, R: Routes, D: Dial, A: Lane, B: Lane, K: Clock, Y: Diary>(
     bay: &mut Bay<R, D, A, B, K, Y>,
     out: &mut O,
     request: &Request,
-    reached: &Reached,
+    sent: SentOn<D::K>,
     work: &mut Work,
-) -> Result<Wrote, NoMemory>
+) -> Result<Relayed, NoMemory>
     requires offer { CanOffer settings.now (bay_state R.Routes D.Dial A.Lane B.Lane K.Clock Y.Diary bay.old) 2 }
     requires handling { IsFinalHandling work.old.handling }
-    requires reached { IsFinalReached reached.now }
-    ensures ok { OnOk result (spec.Replied settings.now (bay_state R.Routes D.Dial A.Lane B.Lane K.Clock Y.Diary bay.old) (work_state work.old)
-        (bay_state R.Routes D.Dial A.Lane B.Lane K.Clock Y.Diary bay.new) (work_state work.new)) }
-    ensures writes { IfOk result (Writes (O.written out.old) (O.written out.new)
-        (client_text request.now work.old.facts.id work.old.handling reached.now)
+    requires sent { IsFinalSent sent }
+    ensures ok { IfOk result (spec.Replied (λ link. record {
+      left = D.K.left link;
+      written = D.K.written link;
+      number = D.K.number link;
+      faults = D.K.read_faults link + D.K.write_faults link;
+    }) settings.now request.now sent (bay_state R.Routes D.Dial A.Lane B.Lane K.Clock Y.Diary bay.old) (work_state work.old)
+        (bay_state R.Routes D.Dial A.Lane B.Lane K.Clock Y.Diary bay.new) (work_state work.new) (O.written out.old) (O.written out.new)
         (Rose (O.write_faults out.old) (O.write_faults out.new))) }
-    ensures err { OnErr result (spec.ReplyHalts settings.now request.now reached.now (bay_state R.Routes D.Dial A.Lane B.Lane K.Clock Y.Diary bay.old) (work_state work.old)
+    ensures err { OnErr result (spec.ReplyHalts (λ link. record {
+      left = D.K.left link;
+      written = D.K.written link;
+      number = D.K.number link;
+      faults = D.K.read_faults link + D.K.write_faults link;
+    }) settings.now request.now sent (bay_state R.Routes D.Dial A.Lane B.Lane K.Clock Y.Diary bay.old) (work_state work.old)
         (bay_state R.Routes D.Dial A.Lane B.Lane K.Clock Y.Diary bay.new) (work_state work.new) (O.written out.old) (O.written out.new)) }
     ensures diary { bay.new.diary ≡ bay.old.diary }
     ensures later { O.write_faults out.old ≤ O.write_faults out.new }
@@ -172,10 +185,27 @@ fn reply<O: ByteSink, R: Routes, D: Dial, A: Lane, B: Lane, K: Clock, Y: Diary>(
     offers_join();
     lanes_stay();
     later_stages_refuse_nothing();
-    start(alloc, settings, bay, work)?;
-    let wrote = answer(alloc, out, request, work.facts.id, &work.handling, reached)?;
+    let due = reply_due(work.decision.level, &work.facts.info);
+    match start(alloc, settings, bay, work) {
+        Ok(()) => {}
+        Err(NoMemory) => {
+            give_back(&mut bay.dial, sent);
+            return Err(NoMemory);
+        }
+    }
+    let replied = reply_to(
+        alloc,
+        &mut bay.dial,
+        out,
+        request,
+        work.facts.id,
+        &work.handling,
+        sent,
+        due,
+    )?;
+    work.set_reply(replied.kept);
     complete(alloc, settings, bay, work)?;
-    Ok(wrote)
+    Ok(replied.end)
 }
 
 // Serves a request that was judged: it is recorded, handled, sent on or not, and answered.
@@ -187,7 +217,7 @@ fn exchange<O: ByteSink, R: Routes, D: Dial, A: Lane, B: Lane, K: Clock, Y: Diar
     request: &Request,
     errand: Errand,
     work: &mut Work,
-) -> Result<Wrote, NoMemory>
+) -> Result<Relayed, NoMemory>
     requires offer { CanOffer settings.now (bay_state R.Routes D.Dial A.Lane B.Lane K.Clock Y.Diary bay.old) 3 }
     requires status { IsFinalErrand errand }
     requires fresh { (work_state work.old) ≡ first_work work.old.decision work.old.facts }
@@ -205,8 +235,8 @@ fn exchange<O: ByteSink, R: Routes, D: Dial, A: Lane, B: Lane, K: Clock, Y: Diar
     offers_join();
     lanes_stay();
     handle(alloc, settings, bay, errand, work)?;
-    let reached = reach(alloc, bay, request, work)?;
-    reply(alloc, settings, bay, out, request, &reached, work)
+    let sent = reach(alloc, bay, request, work)?;
+    reply(alloc, settings, bay, out, request, sent, work)
 }
 
 /// How a request was served.
@@ -215,15 +245,21 @@ pub enum Outcome {
     Whole,
     /// A prefix of its reply was written, since a write failed.
     Cut,
+    /// The body of its reply was cut by the backend.
+    BackendCut,
+    /// The body of its reply was too large to be handed on whole.
+    StreamSpent,
     NoMemory,
 }
 
-fn outcome_of(served: Result<Wrote, NoMemory>) -> Outcome
+fn outcome_of(served: Result<Relayed, NoMemory>) -> Outcome
     ensures { result ≡ spec.outcome_of served }
 {
     match served {
-        Ok(Wrote::Whole) => Outcome::Whole,
-        Ok(Wrote::Cut) => Outcome::Cut,
+        Ok(Relayed::Done) => Outcome::Whole,
+        Ok(Relayed::WriteFault) => Outcome::Cut,
+        Ok(Relayed::BackendCut) => Outcome::BackendCut,
+        Ok(Relayed::StreamSpent) => Outcome::StreamSpent,
         Err(NoMemory) => Outcome::NoMemory,
     }
 }

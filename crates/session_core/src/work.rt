@@ -1,8 +1,7 @@
 // A request while it is served.
-ghost use Rattle.std.specs.Prelude.{◌≡◌, [], IfOk, OnOk, OnErr};
+ghost use Rattle.std.specs.Prelude.{◌≡◌, []};
 ghost use Rattle.std.specs.List.{list_any};
 ghost use Rattle.audit_core.specs.Offers as offers;
-ghost use Rattle.exchange_replies.specs.Sent.{note_of};
 ghost use Rattle.session_core.specs.Exchange.{errand_after};
 ghost use Rattle.session_core.specs.Steps as spec;
 
@@ -10,13 +9,12 @@ use crate::exchange::Exchange;
 use apiservice_rows::Row;
 use audit_core::{
     Errand, Handling, LinkNote, OfferNote, Offers, Outcome, Routed, Settings, Sink, SinkMode,
-    kept_sent, status_of,
+    status_of,
 };
-use exchange_replies::Reached;
-use front_base::{NoMemory, Stage};
+use front_base::Stage;
 use http_edge::Request;
 use policy_rules::Decision;
-use stage_event::{Facts, Kept, reply_due};
+use stage_event::{Facts, Kept};
 use std::alloc::Global;
 
 /// How a request is handled so far, what is known of it, and what became of its events.
@@ -53,22 +51,19 @@ impl Work {
         self.handling = routed.handling;
     }
 
-    /// What came of its link, and what is known of its reply then.
-    pub fn reach(
-        &mut self,
-        alloc: Global,
-        request: &Request,
-        reached: &Reached,
-    ) -> Result<(), NoMemory>
-        ensures ok { OnOk result (spec.Knows request.now reached.now (spec.work_state self.old) (spec.work_state self.new)) }
-        ensures err { OnErr result (spec.work_state self.new ≡ spec.work_state self.old) }
+    /// How its link is noted, and the status of its reply then.
+    pub fn set_link(&mut self, note: LinkNote)
+        ensures { spec.work_state self.new ≡ spec.linked note (spec.work_state self.old) }
     {
-        let note = reached.note();
-        let reply = kept_if_due(alloc, request, self, note, reached.body())?;
         self.link = note;
         self.facts.status = status_of(&self.handling, note);
+    }
+
+    /// What is kept of its reply's body.
+    pub fn set_reply(&mut self, reply: Kept)
+        ensures { spec.work_state self.new ≡ spec.with_object reply (spec.work_state self.old) }
+    {
         self.facts.reply = reply;
-        Ok(())
     }
 
     /// What is told of it.
@@ -85,28 +80,6 @@ impl Work {
             offers: Offers::new(self.notes),
         }
     }
-}
-
-// What is kept of the reply's body, where an event shows it.
-fn kept_if_due(
-    alloc: Global,
-    request: &Request,
-    work: &Work,
-    note: LinkNote,
-    body: &[u8],
-) -> Result<Kept, NoMemory>
-    ensures { IfOk result (spec.IsReplyKept request.now (spec.work_state work.now) note body.now) }
-{
-    if !reply_due(work.decision.level, &work.facts.info) {
-        return Ok(Kept::NotAsked);
-    }
-    kept_sent(
-        alloc,
-        request.head.method.as_str(),
-        &work.handling,
-        note,
-        body,
-    )
 }
 
 fn is_first(stage: Stage) -> bool

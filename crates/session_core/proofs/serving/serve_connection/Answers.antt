@@ -1,5 +1,5 @@
 use Rattle.std.proofs.Common.{sym, refl, ◌∙◌, arith}
-use Rattle.session_core.proofs.ConnLemmas.{never_begun, none_so_far, stand, stop_end, most_end, cut_end, memory_end, asked_end, more_end, told_kept, faults_kept, mark_kept}
+use Rattle.session_core.proofs.ConnLemmas.{never_begun, none_so_far, stand, stop_end, most_end, cut_end, backend_end, spent_end, memory_end, asked_end, more_end, told_kept, faults_kept, mark_kept}
 use Rattle.session_core.proofs.serving.serve_connection.Goals as goal
 
 pub returns-in_default-clause-serves : goal.returns-in_default-clause-serves
@@ -110,6 +110,66 @@ returns-in-Cut-clause-read_later g c =
 
 pub returns-in-Cut-clause-write_later : goal.returns-in-Cut-clause-write_later
 returns-in-Cut-clause-write_later g c =
+    let i = c.serving.invariant in
+    let aside = sym (g.met.C.Conn.outward_is c.next_request.new.conn) ∙ c.next_request.ensures.aside ∙ g.met.C.Conn.outward_is c.serving.conn in
+    omega (arith, i.write_later, c.serve_request.ensures.later, faults_kept _ _ aside)
+
+pub returns-in-BackendCut-clause-serves : goal.returns-in-BackendCut-clause-serves
+returns-in-BackendCut-clause-serves g c =
+    let i = c.serving.invariant in
+    let law = c.requests_stay.ensures in
+    let aside = sym (g.met.C.Conn.outward_is c.next_request.new.conn) ∙ c.next_request.ensures.aside ∙ g.met.C.Conn.outward_is c.serving.conn in
+    let next = sym (g.met.C.Conn.inward_is c.serve_request.new.conn) ∙ c.serve_request.ensures.aside ∙ g.met.C.Conn.inward_is c.next_request.new.conn in
+    let r = c.in-Ok-next_request.request in
+    let stands = stand law.starts law.refused _ _ _ _ _ _ _ _ _ _ i.so_far c.next_request.new.self r c.in-Ok-next_request.ensures.ok in
+    backend_end law.starts _ _ _ _ _ _ _ _ _ _ _ _ _ _ _ _ _ (g.C.ByteSink.write_faults c.next_request.new.conn) _ r stands
+    (mark_kept _ _ aside ∙ i.peer) (told_kept _ _ aside) (told_kept _ _ next) c.in-BackendCut.ensures.outcome
+
+pub returns-in-BackendCut-clause-peer : goal.returns-in-BackendCut-clause-peer
+returns-in-BackendCut-clause-peer g c =
+    let i = c.serving.invariant in
+    let aside = sym (g.met.C.Conn.outward_is c.next_request.new.conn) ∙ c.next_request.ensures.aside ∙ g.met.C.Conn.outward_is c.serving.conn in
+    let next = sym (g.met.C.Conn.inward_is c.serve_request.new.conn) ∙ c.serve_request.ensures.aside ∙ g.met.C.Conn.inward_is c.next_request.new.conn in
+    mark_kept _ _ next ∙ mark_kept _ _ aside ∙ i.peer
+
+pub returns-in-BackendCut-clause-read_later : goal.returns-in-BackendCut-clause-read_later
+returns-in-BackendCut-clause-read_later g c =
+    let i = c.serving.invariant in
+    let next = sym (g.met.C.Conn.inward_is c.serve_request.new.conn) ∙ c.serve_request.ensures.aside ∙ g.met.C.Conn.inward_is c.next_request.new.conn in
+    omega (arith, i.read_later, c.next_request.ensures.later, faults_kept _ _ next)
+
+pub returns-in-BackendCut-clause-write_later : goal.returns-in-BackendCut-clause-write_later
+returns-in-BackendCut-clause-write_later g c =
+    let i = c.serving.invariant in
+    let aside = sym (g.met.C.Conn.outward_is c.next_request.new.conn) ∙ c.next_request.ensures.aside ∙ g.met.C.Conn.outward_is c.serving.conn in
+    omega (arith, i.write_later, c.serve_request.ensures.later, faults_kept _ _ aside)
+
+pub returns-in-StreamSpent-clause-serves : goal.returns-in-StreamSpent-clause-serves
+returns-in-StreamSpent-clause-serves g c =
+    let i = c.serving.invariant in
+    let law = c.requests_stay.ensures in
+    let aside = sym (g.met.C.Conn.outward_is c.next_request.new.conn) ∙ c.next_request.ensures.aside ∙ g.met.C.Conn.outward_is c.serving.conn in
+    let next = sym (g.met.C.Conn.inward_is c.serve_request.new.conn) ∙ c.serve_request.ensures.aside ∙ g.met.C.Conn.inward_is c.next_request.new.conn in
+    let r = c.in-Ok-next_request.request in
+    let stands = stand law.starts law.refused _ _ _ _ _ _ _ _ _ _ i.so_far c.next_request.new.self r c.in-Ok-next_request.ensures.ok in
+    spent_end law.starts _ _ _ _ _ _ _ _ _ _ _ _ _ _ _ _ _ (g.C.ByteSink.write_faults c.next_request.new.conn) _ r stands
+    (mark_kept _ _ aside ∙ i.peer) (told_kept _ _ aside) (told_kept _ _ next) c.in-StreamSpent.ensures.outcome
+
+pub returns-in-StreamSpent-clause-peer : goal.returns-in-StreamSpent-clause-peer
+returns-in-StreamSpent-clause-peer g c =
+    let i = c.serving.invariant in
+    let aside = sym (g.met.C.Conn.outward_is c.next_request.new.conn) ∙ c.next_request.ensures.aside ∙ g.met.C.Conn.outward_is c.serving.conn in
+    let next = sym (g.met.C.Conn.inward_is c.serve_request.new.conn) ∙ c.serve_request.ensures.aside ∙ g.met.C.Conn.inward_is c.next_request.new.conn in
+    mark_kept _ _ next ∙ mark_kept _ _ aside ∙ i.peer
+
+pub returns-in-StreamSpent-clause-read_later : goal.returns-in-StreamSpent-clause-read_later
+returns-in-StreamSpent-clause-read_later g c =
+    let i = c.serving.invariant in
+    let next = sym (g.met.C.Conn.inward_is c.serve_request.new.conn) ∙ c.serve_request.ensures.aside ∙ g.met.C.Conn.inward_is c.next_request.new.conn in
+    omega (arith, i.read_later, c.next_request.ensures.later, faults_kept _ _ next)
+
+pub returns-in-StreamSpent-clause-write_later : goal.returns-in-StreamSpent-clause-write_later
+returns-in-StreamSpent-clause-write_later g c =
     let i = c.serving.invariant in
     let aside = sym (g.met.C.Conn.outward_is c.next_request.new.conn) ∙ c.next_request.ensures.aside ∙ g.met.C.Conn.outward_is c.serving.conn in
     omega (arith, i.write_later, c.serve_request.ensures.later, faults_kept _ _ aside)

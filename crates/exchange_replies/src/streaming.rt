@@ -1,0 +1,301 @@
+// Replies that are handed on as they come.
+ghost use Rattle.std.specs.Prelude.{◌≡◌, ◌≤◌, ◌+◌, Bool, IfOk, OnErr, List, ℕ, true};
+ghost use Rattle.audit_core.specs.Answer.{body_of};
+ghost use Rattle.audit_core.specs.Exchange.{IsKeptIf, sent_body};
+ghost use Rattle.exchange_replies.specs.Sent as sent;
+ghost use Rattle.exchange_replies.specs.Statuses.{IsFinalHandling, IsFinalReached, IsStatus};
+ghost use Rattle.exchange_replies.specs.Streams as spec;
+ghost use Rattle.front_ports.specs.Cause.{Rose};
+ghost use Rattle.stage_event.specs.Kept.{IsKept};
+ghost use Rattle.stream_relay.specs.Keep.{Keeps};
+
+use crate::client::{answer, is_head};
+use crate::reached::Reached;
+use crate::sent_on::SentOn;
+use crate::writing::{Wrote, put_text};
+use audit_core::{Handling, kept_sent};
+use body_frames::Frame;
+use forward_link::client_head;
+use front_base::{AuditId, NoMemory};
+use front_ports::{ByteSink, Dial, Source};
+use http_edge::{Request, asks};
+use http_head::{ReplyHead, blocks_are_bounded, blocks_stay, push_reply};
+use stage_event::{Kept, kept};
+use std::alloc::Global;
+use stream_relay::{Keep, Relayed, bodies_are_relayed_whole, bodies_end_one_way, relay};
+
+/// How a reply ended, and what was kept of its body.
+#[derive(Debug, Drop)]
+pub struct ReplyEnd {
+    /// Where it isn't `Done`, nothing more may be written to the client.
+    pub end: Relayed,
+    pub kept: Kept,
+}
+
+// The head of a reply that streams, as the client gets it.
+#[tactic(auto, unfolding(crate::specs::Streams::stream_head))]
+fn stream_head(
+    alloc: Global,
+    request: &Request,
+    id: AuditId,
+    head: &ReplyHead,
+    frame: &Frame,
+) -> Result<Vec<u8>, NoMemory>
+    requires { IsStatus head.now.status }
+    ensures { IfOk result (λ text. text.items ≡ spec.stream_head request.now id head.now frame.now) }
+{
+    let old_client = request.head.minor == 0;
+    let client = client_head(alloc, head, id, frame, old_client, asks(request))?;
+    let mut out = Vec::new(alloc);
+    push_reply(&mut out, &client)?;
+    Ok(out)
+}
+
+// Writes a head, and hands its body on.
+fn hand_on<K: Source, O: ByteSink>(
+    alloc: Global,
+    link: &mut K,
+    out: &mut O,
+    request: &Request,
+    id: AuditId,
+    head: &ReplyHead,
+    frame: Frame,
+    rest: &[u8],
+    keep: &mut Keep,
+) -> Result<Relayed, NoMemory>
+    requires { IsStatus head.now.status }
+    ensures ok { IfOk result (spec.HandedOn request.now id head.now frame rest.now (K.left link.old) (K.left link.new)
+        (record { written = O.written out.old; keep = keep.old })
+        (record { written = O.written out.new; keep = keep.new })
+        (Rose (K.read_faults link.old) (K.read_faults link.new))
+        (Rose (O.write_faults out.old) (O.write_faults out.new))) }
+    ensures err { OnErr result (spec.HandedPart request.now id head.now frame rest.now (K.left link.old) (K.left link.new)
+        (O.written out.old) (O.written out.new)) }
+    ensures read_later { K.read_faults link.old ≤ K.read_faults link.new }
+    ensures later { O.write_faults out.old ≤ O.write_faults out.new }
+    ensures aside { K.outward link.new ≡ K.outward link.old }
+    ensures inward { O.inward out.new ≡ O.inward out.old }
+{
+    bodies_end_one_way();
+    bodies_are_relayed_whole();
+    let text = stream_head(alloc, request, id, head, &frame)?;
+    match put_text(out, text.as_slice()) {
+        Wrote::Whole => {}
+        Wrote::Cut => return Ok(Relayed::WriteFault),
+    }
+    let old_client = request.head.minor == 0;
+    relay(alloc, link, frame, rest, out, old_client, keep)
+}
+
+// What is kept of a whole body that was asked for.
+fn kept_whole(alloc: Global, request: &Request, keep: &Keep) -> Result<Kept, NoMemory>
+    ensures { (body : List ℕ) → Keeps true body keep.now
+        → IfOk result (IsKept (sent_body request.now.head.method body)) }
+{
+    if is_head(request) {
+        return kept(alloc, b"".as_slice());
+    }
+    match keep.body() {
+        Some(bytes) => kept(alloc, bytes),
+        None => Ok(Kept::Over),
+    }
+}
+
+// What is kept of a body that ended so.
+fn kept_of(
+    alloc: Global,
+    request: &Request,
+    due: bool,
+    end: Relayed,
+    keep: &Keep,
+) -> Result<Kept, NoMemory>
+    ensures { (body : List ℕ) → (end ≡ Relayed.Done → Keeps due body keep.now)
+        → IfOk result (spec.IsKeptOf request.now due end body) }
+{
+    if !due {
+        return Ok(Kept::NotAsked);
+    }
+    match end {
+        Relayed::Done => kept_whole(alloc, request, keep),
+        Relayed::BackendCut | Relayed::StreamSpent | Relayed::WriteFault => Ok(Kept::CutOff),
+    }
+}
+
+// Hands a reply on, and its link back.
+fn stream<O: ByteSink, D: Dial>(
+    alloc: Global,
+    dial: &mut D,
+    out: &mut O,
+    request: &Request,
+    id: AuditId,
+    head: &ReplyHead,
+    frame: Frame,
+    rest: &[u8],
+    mut link: D::K,
+    due: bool,
+) -> Result<ReplyEnd, NoMemory>
+    requires { IsStatus head.now.status }
+    ensures ok { IfOk result (spec.Streamed request.now id head.now frame rest.now due
+        (record {
+          left = D.K.left link;
+          written = D.K.written link;
+          number = D.K.number link;
+          faults = D.K.read_faults link + D.K.write_faults link;
+        })
+        (record { calls = D.calls dial.old; faults = D.faults dial.old; link_faults = D.link_faults dial.old })
+        (record { calls = D.calls dial.new; faults = D.faults dial.new; link_faults = D.link_faults dial.new })
+        (O.written out.old) (O.written out.new) (Rose (O.write_faults out.old) (O.write_faults out.new))) }
+    ensures err { OnErr result (spec.StreamedPart request.now id head.now frame rest.now
+        (record {
+          left = D.K.left link;
+          written = D.K.written link;
+          number = D.K.number link;
+          faults = D.K.read_faults link + D.K.write_faults link;
+        })
+        (record { calls = D.calls dial.old; faults = D.faults dial.old; link_faults = D.link_faults dial.old })
+        (record { calls = D.calls dial.new; faults = D.faults dial.new; link_faults = D.link_faults dial.new })
+        (O.written out.old) (O.written out.new)) }
+    ensures faults { D.faults dial.new ≡ D.faults dial.old }
+    ensures link_later { D.link_faults dial.old ≤ D.link_faults dial.new }
+    ensures later { O.write_faults out.old ≤ O.write_faults out.new }
+    ensures aside { O.inward out.new ≡ O.inward out.old }
+{
+    blocks_stay();
+    blocks_are_bounded();
+    let mut keep = Keep::new(alloc, due);
+    let handed = hand_on(
+        alloc, &mut link, out, request, id, head, frame, rest, &mut keep,
+    );
+    dial.done(link);
+    let end = handed?;
+    let kept = kept_of(alloc, request, due, end, &keep)?;
+    Ok(ReplyEnd { end, kept })
+}
+
+// What is kept of a reply that came at once, where it is asked for.
+fn kept_if(
+    alloc: Global,
+    request: &Request,
+    handling: &Handling,
+    reached: &Reached,
+    due: bool,
+) -> Result<Kept, NoMemory>
+    ensures { IfOk result (λ kept. IsKeptIf due (sent_body request.now.head.method
+        (body_of handling.now (sent.note_of reached.now) (sent.body_of reached.now))) kept) }
+{
+    if !due {
+        return Ok(Kept::NotAsked);
+    }
+    let method = request.head.method.as_str();
+    kept_sent(alloc, method, handling, reached.note(), reached.body())
+}
+
+// Writes a reply that came at once.
+fn reply_once<O: ByteSink>(
+    alloc: Global,
+    out: &mut O,
+    request: &Request,
+    id: AuditId,
+    handling: &Handling,
+    reached: &Reached,
+    due: bool,
+) -> Result<ReplyEnd, NoMemory>
+    requires handling { IsFinalHandling handling.now }
+    requires reached { IsFinalReached reached.now }
+    ensures ok { IfOk result (spec.RepliedOnce request.now id handling.now due reached.now
+        (O.written out.old) (O.written out.new) (Rose (O.write_faults out.old) (O.write_faults out.new))) }
+    ensures err { OnErr result (O.written out.new ≡ O.written out.old) }
+    ensures later { O.write_faults out.old ≤ O.write_faults out.new }
+    ensures aside { O.inward out.new ≡ O.inward out.old }
+{
+    let kept = kept_if(alloc, request, handling, reached, due)?;
+    let end = match answer(alloc, out, request, id, handling, reached)? {
+        Wrote::Whole => Relayed::Done,
+        Wrote::Cut => Relayed::WriteFault,
+    };
+    Ok(ReplyEnd { end, kept })
+}
+
+/// Writes the reply to a request with that audit ID, which was handled so and sent on to that, and hands its link back, also
+/// where memory runs out. `due` says that an event shows the reply's body. A reply that streams is written as it comes: to a
+/// client of version 1.1 in chunks where its head says no length. After an end other than `Done` nothing more may be written.
+pub fn reply_to<O: ByteSink, D: Dial>(
+    alloc: Global,
+    dial: &mut D,
+    out: &mut O,
+    request: &Request,
+    id: AuditId,
+    handling: &Handling,
+    sent: SentOn<D::K>,
+    due: bool,
+) -> Result<ReplyEnd, NoMemory>
+    requires handling { IsFinalHandling handling.now }
+    requires sent { spec.IsFinalSent sent }
+    ensures ok { IfOk result (spec.RepliedTo (λ link. record {
+      left = D.K.left link;
+      written = D.K.written link;
+      number = D.K.number link;
+      faults = D.K.read_faults link + D.K.write_faults link;
+    }) request.now id handling.now due sent
+        (record { calls = D.calls dial.old; faults = D.faults dial.old; link_faults = D.link_faults dial.old })
+        (record { calls = D.calls dial.new; faults = D.faults dial.new; link_faults = D.link_faults dial.new })
+        (O.written out.old) (O.written out.new) (Rose (O.write_faults out.old) (O.write_faults out.new))) }
+    ensures err { OnErr result (spec.RepliedPart (λ link. record {
+      left = D.K.left link;
+      written = D.K.written link;
+      number = D.K.number link;
+      faults = D.K.read_faults link + D.K.write_faults link;
+    }) request.now id handling.now sent
+        (record { calls = D.calls dial.old; faults = D.faults dial.old; link_faults = D.link_faults dial.old })
+        (record { calls = D.calls dial.new; faults = D.faults dial.new; link_faults = D.link_faults dial.new })
+        (O.written out.old) (O.written out.new)) }
+    ensures link_later { D.link_faults dial.old ≤ D.link_faults dial.new }
+    ensures later { O.write_faults out.old ≤ O.write_faults out.new }
+    ensures aside { O.inward out.new ≡ O.inward out.old }
+{
+    match sent {
+        SentOn::Once(reached) => reply_once(alloc, out, request, id, handling, &reached, due),
+        SentOn::Open {
+            head,
+            frame,
+            rest,
+            link,
+        } => stream(
+            alloc,
+            dial,
+            out,
+            request,
+            id,
+            &head,
+            frame,
+            rest.as_slice(),
+            link,
+            due,
+        ),
+    }
+}
+
+/// Hands the link back of a reply that is not written.
+pub fn give_back<D: Dial>(dial: &mut D, sent: SentOn<D::K>)
+    ensures back { (is_head : Bool) → spec.GivenBack (λ link. record {
+      left = D.K.left link;
+      written = D.K.written link;
+      number = D.K.number link;
+      faults = D.K.read_faults link + D.K.write_faults link;
+    }) is_head sent
+        (record { calls = D.calls dial.old; faults = D.faults dial.old; link_faults = D.link_faults dial.old })
+        (record { calls = D.calls dial.new; faults = D.faults dial.new; link_faults = D.link_faults dial.new }) }
+    ensures link_later { D.link_faults dial.old ≤ D.link_faults dial.new }
+{
+    blocks_stay();
+    blocks_are_bounded();
+    match sent {
+        SentOn::Once(_reached) => {}
+        SentOn::Open {
+            head: _head,
+            frame: _frame,
+            rest: _rest,
+            link,
+        } => dial.done(link),
+    }
+}
