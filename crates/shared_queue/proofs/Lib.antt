@@ -1,0 +1,6 @@
+pub mod Steps
+pub mod Each
+pub mod Homes
+pub mod Ends
+pub mod Drains
+pub mod OneLane
