@@ -1,0 +1,56 @@
+ghost use Rattle.std.specs.Prelude.{◌≡◌, None};
+ghost use Rattle.tcp_plant.specs.Handles.{clock_last};
+
+use front_base::{MOMENT_END, Moment};
+use front_ports::Clock;
+use std::time::Duration;
+use std::{rt, thread};
+
+/// The system's clock. Where the system's time goes back, it stands until that time has passed.
+#[derive(Drop)]
+pub struct SystemClock<'b, R> {
+    rt: &'b R,
+    last: Moment,
+}
+
+impl<'b, R: rt::Clock> SystemClock<'b, R> {
+    pub fn new(rt: &'b R) -> SystemClock<'b, R>
+        ensures { clock_last result ≡ 0 }
+    {
+        SystemClock {
+            rt,
+            last: Moment::epoch(),
+        }
+    }
+}
+
+// The system's time, the start of 1970 where it can't be read, and the greatest moment at most.
+fn system_moment(rt: &impl rt::Clock) -> Moment {
+    let micros = match rt.since_1970() {
+        Ok(time) => u64::try_from(time.as_micros()).unwrap_or(u64::MAX),
+        Err(_) => 0,
+    };
+    match Moment::new(micros.min(MOMENT_END - 1)) {
+        Some(moment) => moment,
+        None => unreachable!(),
+    }
+}
+
+impl<'b, R: rt::Clock> Clock for SystemClock<'b, R> {
+    ghost last = { clock_last };
+
+    ghost given = { λ _. None };
+
+    fn now(&mut self) -> Moment {
+        let moment = system_moment(self.rt);
+        if self.last.micros() < moment.micros() {
+            self.last = moment;
+        }
+        self.last
+    }
+
+    /// Sleeps for a millisecond.
+    fn rest(&mut self) {
+        thread::sleep(self.rt, Duration::from_millis(1));
+    }
+}

@@ -1,0 +1,166 @@
+ghost use Rattle.std.specs.Prelude.{◌≡◌, IfOk};
+ghost use Rattle.truncate_backend.specs.Told.{Rises};
+ghost use Rattle.front_plants.specs.declared.call.PlantFail.TheVariants.{Port};
+ghost use Rattle.tcp_plant.specs.Handles.{plant_tells};
+
+use crate::clock::SystemClock;
+use crate::gate::TcpGate;
+use crate::log_file::LogFile;
+use front_base::Address;
+use front_plants::{MOST_ALLOTTED, Plant, PlantFail};
+use log_sink::LogSink;
+use session_core::NoDiary;
+use std::alloc::Global;
+use std::fs::File;
+use std::io::Print;
+use std::net::{Net, TcpStream};
+use std::random::RandomSource;
+use std::sync::Wait;
+use std::thread::Threads;
+use std::{io, rt};
+use tcp_ports::{TcpDial, TcpDoor};
+use truncate_backend::NoNotes;
+use webhook_sink::{HookFault, WebhookSink};
+
+/// A plant whose handles are sockets, files and the system's clock. It counts the calls whose port failed, and tells no more.
+#[derive(Drop)]
+pub struct TcpPlant<'b, R> {
+    rt: &'b R,
+    gate: &'b TcpGate,
+    boot: u64,
+    // How many dials it made.
+    dials: u64,
+    faults: u64,
+}
+
+// A word of the system's chance.
+fn boot_word<R: RandomSource>(rt: &R) -> io::Result<u64> {
+    let mut bytes = [0u8; 8];
+    rt.fill_bytes(&mut bytes)?;
+    Ok(u64::from_le_bytes(bytes))
+}
+
+impl<'b, R> TcpPlant<'b, R> {
+    /// A plant over this gate, with a boot word of the system's chance.
+    pub fn new(rt: &'b R, gate: &'b TcpGate) -> io::Result<TcpPlant<'b, R>>
+    where
+        R: RandomSource,
+        ensures { IfOk result (λ plant. (plant_tells plant).faults ≡ 0) }
+    {
+        Ok(TcpPlant {
+            rt,
+            gate,
+            boot: boot_word(rt)?,
+            dials: 0,
+            faults: 0,
+        })
+    }
+
+    // Counts a call whose port failed.
+    fn fault(&mut self) -> PlantFail
+        ensures port { result ≡ Port }
+        ensures counted { Rises (plant_tells self.old).faults (plant_tells self.new).faults }
+    {
+        self.faults = self.faults.saturating_add(1);
+        PlantFail::Port
+    }
+}
+
+impl<
+    'b,
+    R: Threads
+        + Wait
+        + Copy
+        + Drop
+        + Net<Stream = TcpStream>
+        + rt::Clock
+        + rt::Files<File = File>
+        + Print,
+> Plant for TcpPlant<'b, R> {
+    type Rt = R;
+
+    type D = TcpDoor<'b, R>;
+
+    type L = TcpDial<'b, R>;
+
+    type K = SystemClock<'b, R>;
+
+    type Y = NoDiary;
+
+    type W = LogSink<LogFile<'b, R>, NoNotes>;
+
+    type H = WebhookSink<TcpDial<'b, R>, NoNotes>;
+
+    ghost tells = { plant_tells };
+
+    fn boot(&mut self) -> u64 {
+        self.boot
+    }
+
+    fn allot(&mut self, _bay: u16) -> u64 {
+        MOST_ALLOTTED
+    }
+
+    /// The door of this bay, at the gate's own address. Another address, and a bay past those of the gate, is a fault.
+    fn door(
+        &mut self,
+        _alloc: Global,
+        listen: Address,
+        bay: u16,
+        connections: u64,
+    ) -> Result<TcpDoor<'b, R>, PlantFail> {
+        let gate = self.gate;
+        if listen != gate.address() {
+            return Err(self.fault());
+        }
+        match gate.client(u64::from(bay)) {
+            Some(client) => Ok(TcpDoor::new(self.rt, &gate.listener, client, connections)),
+            None => Err(self.fault()),
+        }
+    }
+
+    /// The k-th dial is that of bay k, whose links end with the client that its door gave.
+    fn dial(&mut self, _alloc: Global) -> Result<TcpDial<'b, R>, PlantFail> {
+        let gate = self.gate;
+        let client = gate.client(self.dials).unwrap_or(&gate.nobody);
+        self.dials = self.dials.saturating_add(1);
+        Ok(TcpDial::new(self.rt, &gate.listener, client))
+    }
+
+    fn clock(&mut self) -> SystemClock<'b, R> {
+        SystemClock::new(self.rt)
+    }
+
+    fn diary(&mut self, _alloc: Global) -> NoDiary {
+        NoDiary
+    }
+
+    /// The log of this path, as `LogFile::open` has it.
+    fn log(
+        &mut self,
+        alloc: Global,
+        path: &str,
+    ) -> Result<LogSink<LogFile<'b, R>, NoNotes>, PlantFail> {
+        let Ok(file) = LogFile::open(self.rt, path) else {
+            return Err(self.fault());
+        };
+        match LogSink::start(alloc, file, NoNotes) {
+            Ok(log) => Ok(log),
+            Err(_) => Err(PlantFail::NoMemory),
+        }
+    }
+
+    fn hook(
+        &mut self,
+        alloc: Global,
+        url: &str,
+    ) -> Result<WebhookSink<TcpDial<'b, R>, NoNotes>, PlantFail> {
+        let gate = self.gate;
+        let dial = TcpDial::new(self.rt, &gate.listener, &gate.nobody);
+        match WebhookSink::start(alloc, url, dial, NoNotes) {
+            Ok(hook) => Ok(hook),
+            Err(HookFault::BadUrl) => Err(self.fault()),
+            Err(HookFault::NoMemory) => Err(PlantFail::NoMemory),
+        }
+    }
+}
