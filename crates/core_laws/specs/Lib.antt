@@ -1,0 +1,4 @@
+pub mod Exchanges
+pub mod Makers
+pub mod Offered
+pub mod Sinks
