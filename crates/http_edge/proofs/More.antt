@@ -6,9 +6,8 @@ use Rattle.std.proofs.lemmas.List.{take-append-le, length-append}
 use Rattle.std.proofs.Math.Seq.{drop-append-le}
 use Rattle.std.proofs.lemmas.Bool.Decides.{nat_tests}
 use Rattle.std.proofs.KnownBytes.{Consumes-trans}
-use Rattle.std.specs.Io.KnownBytes.{IsAtEnd}
 use Rattle.front_ports.specs.Cause.{Rose}
-use Rattle.http_head.specs.Answer.{AwaitsBlock, IsBlock, IsTooLarge}
+use Rattle.http_head.specs.Answer.{IsBlock, IsTooLarge}
 use Rattle.http_head.specs.Block.{block_in, run_len, line_count, is_text}
 use Rattle.http_head.specs.declared.block.TheConstants.{MOST_HEAD_BYTES, MOST_LINES}
 use Rattle.http_head.specs.declared.request.Head.{Head}
@@ -16,7 +15,7 @@ use Rattle.http_head.specs.Request.{IsHeadOf, IsNoRequest}
 use Rattle.body_frames.specs.declared.frame.BodyFault.{BodyFault}
 use Rattle.body_frames.specs.declared.frame.BodyFault.TheVariants.{BadChunk, TooLarge}
 use Rattle.body_frames.specs.declared.frame.Frame.{Frame}
-use Rattle.body_frames.specs.declared.frame.Frame.TheVariants.{NoBody, Length, Chunked, Close}
+use Rattle.body_frames.specs.declared.frame.Frame.TheVariants.{NoBody, Length, Chunked}
 use Rattle.body_frames.specs.Body as body_spec
 use Rattle.body_frames.specs.Body.{IsBody, IsPart, StartsWithBody, ends_itself}
 use Rattle.wire_intake.specs.Seen.{Seen}

@@ -1,5 +1,5 @@
 -- The requests of an input are one list, with one end.
-use Rattle.std.proofs.Common.{suc, zero, ◌≡◌, ℕ, ◌<◌, ◌≤◌, ◌⊎◌, ◌+◌, ◌++◌, ◌==◌, List, [], ◌∷◌, length, take, drop, map}
+use Rattle.std.proofs.Common.{suc, zero, ◌≡◌, ℕ, ◌<◌, ◌≤◌, ◌⊎◌, ◌++◌, ◌==◌, List, [], ◌∷◌, length, take, drop, map}
 use Rattle.std.proofs.Common.{Option, Some, None, Bool, true, false, cond, refl, sym, ap, ◌∙◌, subst, arith}
 use Rattle.std.proofs.Common.{inl, inr, nat_lt}
 use Rattle.std.proofs.lemmas.List.{length-append, length-drop}
@@ -10,7 +10,7 @@ use Rattle.http_head.specs.EmptyLine.{EndsFirstEmptyLine}
 use Rattle.http_head.specs.declared.block.TheConstants.{MOST_HEAD_BYTES, MOST_LINES}
 use Rattle.http_head.specs.declared.header.Header.{Header}
 use Rattle.http_head.specs.declared.request.Head.{Head}
-use Rattle.http_head.specs.Request.{IsHeadOf, IsRequest, HasParts, header_view}
+use Rattle.http_head.specs.Request.{IsHeadOf, IsRequest, header_view}
 use Rattle.httparse.specs.Grammar.{RequestHead, Field}
 use Rattle.httparse.specs.Spans.{name_and_value}
 use Rattle.body_frames.specs.declared.frame.BodyFault.{BodyFault}
