@@ -38,6 +38,9 @@ list.http|cut.replies|mixed.json|all.json|blocking
 list.http|broken.replies|mixed.json|all.json|blocking
 list.http|huge.replies|mixed.json|all.json|blocking
 list.http|cut.replies|mixed.json|all.json|strict
+watches.http|watches.replies|mixed.json|all.json|blocking
+old.http|cut.replies|mixed.json|all.json|blocking
+list.http|greatest.replies|mixed.json|all.json|blocking
 ";
 
 fn text_of(rt: &HostRuntime, name: &str) -> Option<String> {
