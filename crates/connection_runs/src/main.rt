@@ -41,6 +41,7 @@ list.http|cut.replies|mixed.json|all.json|strict
 watches.http|watches.replies|mixed.json|all.json|blocking
 old.http|cut.replies|mixed.json|all.json|blocking
 list.http|greatest.replies|mixed.json|all.json|blocking
+long.http|long.replies|mixed.json|all.json|blocking
 ";
 
 fn text_of(rt: &HostRuntime, name: &str) -> Option<String> {
