@@ -19,6 +19,3 @@ pub use object::read_row;
 pub use row::Row;
 pub use row_list::{MOST_ROWS, Rows, read_rows};
 pub use service::ServiceRef;
-
-#[cfg(test)]
-mod tests;

@@ -21,6 +21,3 @@ pub use laws::{one_user_knows_the_rows, read_rows_fit};
 pub use routes::Routes;
 pub use table::RouteTable;
 pub use table_routes::TableRoutes;
-
-#[cfg(test)]
-mod tests;

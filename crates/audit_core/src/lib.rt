@@ -44,6 +44,3 @@ pub use settings::Settings;
 pub use settling::settle;
 pub use sinks::{Sink, SinkMode};
 pub use stamp::Stamp;
-
-#[cfg(test)]
-mod tests;

@@ -19,6 +19,3 @@ pub use groups::{Group, Groups};
 pub use kept::Documents;
 pub use laws::{one_stable_sort, orders_are_total};
 pub use lent::sorted_groups;
-
-#[cfg(test)]
-mod tests;

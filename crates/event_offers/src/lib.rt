@@ -18,6 +18,3 @@ pub use laws::{
     only_these_outcomes, stages_make_up_what_is_owed,
 };
 pub use offering::{MOST_OFFERED, offer_event, offer_stage};
-
-#[cfg(test)]
-mod tests;

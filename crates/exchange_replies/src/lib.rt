@@ -25,6 +25,3 @@ pub use sent_on::SentOn;
 pub use statuses::statuses_are_final;
 pub use streaming::{ReplyEnd, give_back, reply_to};
 pub use writing::{Wrote, put_text};
-
-#[cfg(test)]
-mod tests;

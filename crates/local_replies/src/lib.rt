@@ -27,8 +27,3 @@ pub use paths::LocalPaths;
 pub use reply::{Content, LocalReply};
 pub use serve::{serve_errand, serve_local};
 pub use status::{refusal, status_reply, success};
-
-#[cfg(test)]
-mod serve_tests;
-#[cfg(test)]
-mod tests;

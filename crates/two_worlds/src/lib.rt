@@ -23,6 +23,3 @@ pub use laws::{
 };
 pub use state::{Bay, Exchange, Limits, Open, Phase, Shared, SinkState, State, Try, Waiting};
 pub use step::{Step, StepAnswer, TryTold};
-
-#[cfg(test)]
-mod tests;

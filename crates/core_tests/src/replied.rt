@@ -1,5 +1,5 @@
-use crate::{ReplyEnd, forward, refusal_text, reply_to};
 use audit_core::{Handling, LinkNote};
+use exchange_replies::{ReplyEnd, forward, refusal_text, reply_to};
 use forward_link::Target;
 use front_base::{Address, AuditId, Bytes, Text, Texts, User};
 use front_ports::{MemBytes, MemDial, MemLink, Script};

@@ -1,4 +1,4 @@
-use crate::{Local, LocalPaths, LocalReply, refusal, status_reply};
+use local_replies::{Local, LocalPaths, LocalReply, refusal, status_reply};
 use std::alloc::Global;
 use std::test::Fail;
 

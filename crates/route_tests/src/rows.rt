@@ -1,4 +1,4 @@
-use super::*;
+use apiservice_rows::{MOST_ROWS, Row, RowFault, Rows, ServiceRef, read_row, read_rows};
 use std::alloc::{AllocError, Global};
 use std::test::Fail;
 

@@ -1,8 +1,8 @@
 ghost use Rattle.std.specs.Prelude.{◌≡◌, ◌≤◌, IfOk};
 ghost use Rattle.audit_core.specs.declared.sinks.SinkMode.TheVariants as SinkMode;
 
-use crate::{Lanes, offer_stage};
 use audit_core::{OfferNote, Outcome, Settings, Sink, SinkMode};
+use event_offers::{Lanes, offer_stage};
 use front_base::{AuditId, Info, Level, Moment, Stage, Text, Texts, User};
 use front_ports::MemBytes;
 use log_sink::LogSink;

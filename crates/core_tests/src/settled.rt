@@ -1,6 +1,6 @@
-use crate::{Answered, LineForm, LinkNote, Settings, SinkMode, Stamp, push_owed, settle};
 use apiservice_rows::read_rows;
 use apiservice_table::{RouteTable, TableRoutes, read_rows_fit};
+use audit_core::{Answered, LineForm, LinkNote, Settings, SinkMode, Stamp, push_owed, settle};
 use front_base::{AuditId, Bytes, Moment};
 use http_edge::Request;
 use http_head::{Head, HeadAnswer, read_request};

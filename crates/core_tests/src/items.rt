@@ -1,5 +1,5 @@
-use crate::Items;
 use std::test::Fail;
+use two_worlds::Items;
 
 #[test]
 fn items_keep_their_order(rt: HostRuntime) -> Result<(), Fail> {

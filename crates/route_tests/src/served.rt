@@ -1,8 +1,8 @@
-use crate::tests::held;
-use crate::{LocalPaths, LocalReply, serve_local};
+use crate::paths::held;
 use apiservice_rows::Rows;
 use apiservice_table::{RouteTable, Routes, TableRoutes};
 use front_base::{Info, Text, Texts, User};
+use local_replies::{LocalPaths, LocalReply, serve_local};
 use std::alloc::Global;
 use std::test::Fail;
 

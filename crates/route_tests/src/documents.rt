@@ -1,5 +1,5 @@
-use super::*;
 use apiservice_rows::{Rows, read_rows};
+use discovery_merge::{Documents, GroupFault, Groups, group, group_list, sorted_groups};
 use std::alloc::Global;
 use std::test::Fail;
 

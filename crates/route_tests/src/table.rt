@@ -1,5 +1,5 @@
-use super::*;
 use apiservice_rows::{MOST_ROWS, Row, Rows, read_row, read_rows};
+use apiservice_table::{Change, ChangeFault, RouteTable, Routes, TableRoutes, read_rows_fit};
 use front_base::Text;
 use std::alloc::{AllocError, Global};
 use std::test::Fail;
