@@ -1,12 +1,2 @@
-mod ClapLemmas
-mod DistinctLemmas
-mod DoubtLemmas
 mod FaultLemmas
-mod FlagLemmas
 mod LoadLemmas
-mod OptionLemmas
-mod ParserLemmas
-mod RuleLemmas
-mod SpellingLemmas
-mod WalkLemmas
-mod WordLemmas

@@ -20,7 +20,7 @@ use Rattle.policy_rules.specs.Reading.{read_policy}
 use Rattle.policy_rules.specs.declared.policy.Policy.{Policy}
 use Rattle.policy_rules.specs.declared.fault.PolicyFault.{PolicyFault}
 use Rattle.policy_rules.specs.declared.fault.PolicyFault.TheVariants as policy
-use Rattle.front_config.specs.declared.command.FileNames.{FileNames}
+use Rattle.command_options.specs.declared.files.FileNames.{FileNames}
 use Rattle.front_config.specs.declared.fault.LoadFault.{LoadFault}
 use Rattle.front_config.specs.declared.fault.LoadFault.TheVariants.{ReadFault, BadFile, NoMemory}
 use Rattle.front_config.specs.declared.fault.Which.{Which}

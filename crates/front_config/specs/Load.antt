@@ -25,7 +25,7 @@ use Rattle.service_endpoints.specs.File as ends
 use Rattle.service_endpoints.specs.declared.endpoint.Endpoint.{Endpoint}
 use Rattle.service_endpoints.specs.declared.fault.EndpointFault.{EndpointFault}
 use Rattle.service_endpoints.specs.declared.fault.EndpointFault.TheVariants as end
-use Rattle.front_config.specs.declared.command.FileNames.{FileNames}
+use Rattle.command_options.specs.declared.files.FileNames.{FileNames}
 use Rattle.front_config.specs.declared.files.Loaded.{Loaded}
 use Rattle.front_config.specs.declared.fault.FileFault.TheVariants.{TooLong, NotJson, Token, PolicyFile, RowsFile, Endpoint as BadEndpoint}
 use Rattle.front_config.specs.declared.fault.LoadFault.{LoadFault}

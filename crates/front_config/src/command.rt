@@ -1,14 +1,6 @@
 // What a command line asks for.
-use front_base::{Moment, Text};
-
-/// The files that a command line names, by `--token-auth-file`, `--audit-policy-file`, `--apiservices` and `--endpoints`.
-#[derive(Debug, Drop)]
-pub struct FileNames {
-    pub tokens: Option<Text>,
-    pub policy: Option<Text>,
-    pub services: Option<Text>,
-    pub endpoints: Option<Text>,
-}
+use command_options::FileNames;
+use front_base::Moment;
 
 /// What `explain` was told.
 #[derive(Debug, Drop)]

@@ -3,10 +3,10 @@ ghost use Rattle.std.specs.Prelude.{◌≡◌, ◌≤◌, IfOk, IfSome, OnOk, le
 ghost use Rattle.front_ports.specs.FileMap.{KeepsFiles};
 ghost use Rattle.front_config.specs.Load as spec;
 
-use crate::command::FileNames;
 use crate::fault::{FileFault, LoadFault, Which};
 use apiservice_rows::{RowFault, Rows, read_rows};
 use apiservice_table::{RouteTable, read_rows_fit};
+use command_options::FileNames;
 use front_base::{Bytes, MOST_FILE_BYTES, Text};
 use front_ports::{FileFail, Files};
 use policy_rules::{Policy, PolicyFault, read_policy};

@@ -1,7 +1,6 @@
-use crate::{
-    BadWord, Command, FileNames, Loaded, WordFault, WordsFault, bad_word, load, read_words,
-};
+use crate::{Command, Loaded, load, read_words};
 use apiservice_rows::MOST_ROWS;
+use command_options::{FileNames, WordsFault};
 use front_base::{Bytes, MOST_FILE_BYTES, NoMemory, Text};
 use front_ports::MemFiles;
 use std::alloc::{AllocError, Global};
@@ -250,45 +249,6 @@ fn routes_are_asked_for_by_a_flag(rt: HostRuntime) -> Result<(), Fail> {
         let words = words_of(alloc, line)?;
         assert_eq!(rt; routes_asked(alloc, &words)?.as_str(), answer, "{row}");
     }
-    Ok(())
-}
-
-// Command lines that are none, the place of the first bad word, and what is wrong with it.
-const BAD_WORDS: &str = "serve 0 UnknownCommand
-explains|--moment=1 0 UnknownCommand
-explain|x 1 NotOption
-explain|-moment=1 1 NotOption
-explain| 1 NotOption
-explain|--policy=p 1 UnknownOption
-explain|--moment=1|--mom 2 UnknownOption
-explain|-- 1 UnknownOption
-explain|--moment=1|--apiservices|s|--moment|2 4 Twice
-explain|--moment=1|--moment=x 2 Twice
-explain|--apiservices|--moment=1 1 NoValue
-explain|--moment|1|--apiservices= 3 NoValue
-explain|--moment=1|--apiservices 2 NoValue
-explain|--moment| 1 NoValue
-explain|--max-event-size|1x|y 1 NotNumber
-explain|--apiservices=x|--moment=18446744073709551616 2 NotNumber
-explain|--routes|x 2 NotOption
-explain|--routes|--moment=1|--routes 3 Twice
-explain|--routes= 1 HasValue
-explain|--moment=1|--routes=true 2 HasValue
-explain|--moment|--routes 1 NoValue";
-
-#[test]
-fn the_first_bad_word_is_told(rt: HostRuntime) -> Result<(), Fail> {
-    let alloc = rt.alloc();
-    for row in BAD_WORDS.lines() {
-        let (line, answer) = row.split_once(' ').ok_or("two words")?;
-        let words = words_of(alloc, line)?;
-        let BadWord { place, fault } = bad_word(words.as_slice());
-        let own = format!(in alloc; "{place} {fault:?}")?;
-        assert_eq!(rt; own.as_str(), answer, "{row}");
-    }
-    let none: [String; 0] = [];
-    let bad = bad_word(none.as_slice());
-    assert_eq!(rt; bad.fault, WordFault::NoCommand);
     Ok(())
 }
 

@@ -3,7 +3,7 @@ use Rattle.std.proofs.Common.{◌≡◌, ℕ, ◌⊎◌, List, Option, Result, O
 use Rattle.apiservice_rows.specs.Row.{Row}
 use Rattle.front_config.specs.Load as load
 use Rattle.front_config.specs.Load.{Reads, AreRead, load_of}
-use Rattle.front_config.specs.Words as words
+use Rattle.command_options.specs.Options as words
 use Rattle.front_config.specs.Words.{command_of}
 use Rattle.front_config.specs.declared.command.Command.{Command}
 use Rattle.front_config.specs.declared.command.Command.TheVariants.{Explain}
@@ -11,10 +11,10 @@ use Rattle.front_config.specs.declared.command.ExplainWords.{ExplainWords}
 use Rattle.front_config.specs.declared.fault.FileFault.{FileFault}
 use Rattle.front_config.specs.declared.fault.LoadFault.{LoadFault}
 use Rattle.front_config.specs.declared.fault.LoadFault.TheVariants as load_fault
-use Rattle.front_config.specs.declared.fault.Ranged.{Ranged}
+use Rattle.command_options.specs.declared.ranged.Ranged.{Ranged}
 use Rattle.front_config.specs.declared.fault.Which.{Which}
-use Rattle.front_config.specs.declared.fault.WordsFault.{WordsFault}
-use Rattle.front_config.specs.declared.fault.WordsFault.TheVariants as words_fault
+use Rattle.command_options.specs.declared.fault.WordsFault.{WordsFault}
+use Rattle.command_options.specs.declared.fault.WordsFault.TheVariants as words_fault
 use Rattle.front_config.specs.declared.files.Loaded.{Loaded}
 use Rattle.proxy_server.specs.Ports.{Told, Port, FilesPort, AreSound, IsUntouched}
 use Rattle.proxy_server.specs.Desk.{Loads, IsRefused, Configures, Run}

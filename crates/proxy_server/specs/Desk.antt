@@ -10,9 +10,9 @@ use Rattle.front_config.specs.declared.command.ExplainWords.{ExplainWords}
 use Rattle.front_config.specs.declared.fault.FileFault.{FileFault}
 use Rattle.front_config.specs.declared.fault.LoadFault.{LoadFault}
 use Rattle.front_config.specs.declared.fault.LoadFault.TheVariants as load_fault
-use Rattle.front_config.specs.declared.fault.Ranged.{Ranged}
+use Rattle.command_options.specs.declared.ranged.Ranged.{Ranged}
 use Rattle.front_config.specs.declared.fault.Which.{Which}
-use Rattle.front_config.specs.declared.fault.WordsFault.TheVariants as words_fault
+use Rattle.command_options.specs.declared.fault.WordsFault.TheVariants as words_fault
 use Rattle.front_config.specs.declared.files.Loaded.{Loaded}
 use Rattle.audit_core.specs.declared.sinks.SinkMode.TheVariants.{Off}
 use Rattle.proxy_server.specs.Ports.{Port, FilesPort, Told, AreSound, IsUntouched}

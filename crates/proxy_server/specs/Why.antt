@@ -1,11 +1,11 @@
 -- What is told of a run beside its status.
 use Rattle.std.specs.Prelude.{◌≡◌, ℕ, Option, Some, None}
-use Rattle.front_config.specs.declared.command.FileNames.{FileNames}
-use Rattle.front_config.specs.declared.diagnosis.BadWord.{BadWord}
+use Rattle.command_options.specs.declared.files.FileNames.{FileNames}
+use Rattle.command_options.specs.declared.diagnosis.BadWord.{BadWord}
 use Rattle.front_config.specs.declared.fault.LoadFault.{LoadFault}
 use Rattle.front_config.specs.declared.fault.LoadFault.TheVariants as load_fault
-use Rattle.front_config.specs.declared.fault.WordsFault.{WordsFault}
-use Rattle.front_config.specs.declared.fault.WordsFault.TheVariants as words_fault
+use Rattle.command_options.specs.declared.fault.WordsFault.{WordsFault}
+use Rattle.command_options.specs.declared.fault.WordsFault.TheVariants as words_fault
 use Rattle.http_edge.specs.declared.request.End.{End}
 use Rattle.proxy_server.specs.declared.status.Status.{Status}
 use Rattle.proxy_server.specs.declared.status.Status.TheVariants.{Usage, Configuration, ReadFault, NoMemory, WriteFault, Input}

@@ -1,8 +1,9 @@
 // The command `explain`.
 ghost use Rattle.std.specs.Prelude.{◌≡◌, ◌≤◌, ◌⊎◌, Err, IfErr, IfOk, OnOk, map, string_bytes};
-ghost use Rattle.front_config.specs.Words.{Gives, command_of};
+ghost use Rattle.command_options.specs.Options.{Gives};
+ghost use Rattle.front_config.specs.Words.{command_of};
 ghost use Rattle.front_config.specs.declared.command.Command.TheVariants.{Explain};
-ghost use Rattle.front_config.specs.declared.fault.WordsFault.TheVariants as words_fault;
+ghost use Rattle.command_options.specs.declared.fault.WordsFault.TheVariants as words_fault;
 ghost use Rattle.front_ports.specs.FileMap.{KeepsFiles};
 ghost use Rattle.proxy_server.specs.Desk as spec;
 ghost use Rattle.proxy_server.specs.Ports.{files_port, port};
@@ -15,7 +16,8 @@ use crate::setup::Setup;
 use crate::status::Status;
 use apiservice_table::{RouteTable, TableRoutes};
 use audit_core::{Settings, SinkMode};
-use front_config::{Command, ExplainWords, Loaded, WordsFault, load, read_words};
+use command_options::WordsFault;
+use front_config::{Command, ExplainWords, Loaded, load, read_words};
 use front_ports::{ByteSink, Files, Source};
 use local_replies::LocalPaths;
 use std::alloc::Global;
@@ -71,7 +73,7 @@ fn configure<F: Files>(alloc: Global, words: &Vec<String>, files: &mut F) -> Res
 {
     let explain = match explain_words(alloc, words) {
         Ok(explain) => explain,
-        Err(fault) => return Err(words_outcome(words, &fault)),
+        Err(fault) => return Err(words_outcome("explain", words, &fault)),
     };
     match load(alloc, &explain.files, files) {
         Ok(loaded) => Ok(start_of(explain, loaded)),

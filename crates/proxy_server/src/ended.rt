@@ -4,7 +4,8 @@ ghost use Rattle.proxy_server.specs.Why as spec;
 
 use crate::serving::Progress;
 use crate::status::Status;
-use front_config::{FileNames, LoadFault, WordsFault, bad_word};
+use command_options::{FileNames, WordsFault, bad_word};
+use front_config::LoadFault;
 use refusal_text::{Refusal, refusal_text};
 use std::alloc::{AllocError, Global};
 
@@ -35,21 +36,21 @@ impl Ended {
 }
 
 /// The same before the status is a code.
-#[derive(Drop)]
+#[derive(Debug, Drop)]
 pub struct Outcome {
     pub status: Status,
     pub why: Option<Refusal>,
 }
 
-/// How a run ends whose words are refused.
-pub fn words_outcome(words: &Vec<String>, fault: &WordsFault) -> Outcome
+/// How a run of that command ends whose words are refused.
+pub fn words_outcome(command: &str, words: &Vec<String>, fault: &WordsFault) -> Outcome
     ensures status { result.status ≡ spec.status_of_words fault.now }
     ensures why { spec.TellsWords fault.now result.why }
 {
     match fault {
         WordsFault::Usage => Outcome {
             status: Status::Usage,
-            why: Some(Refusal::Words(bad_word(words.as_slice()))),
+            why: Some(Refusal::Words(bad_word(command, words.as_slice()))),
         },
         WordsFault::Limits { option, number } => Outcome {
             status: Status::Configuration,

@@ -26,7 +26,7 @@ mod system_files;
 
 pub use adapters::{ReaderSource, WriterSink};
 pub use desk::run_desk;
-pub use ended::Ended;
+pub use ended::{Ended, Outcome, load_outcome, words_outcome};
 pub use status::Status;
 pub use system_files::SystemFiles;
 

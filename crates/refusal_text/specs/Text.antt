@@ -2,16 +2,16 @@
 use Rattle.std.specs.Prelude.{◌≡◌, ℕ, List, [], ◌++◌, Option, Some, None, codes}
 use Rattle.std.specs.Fmt.{decimal}
 use Rattle.front_config.specs.Load.{name_for}
-use Rattle.front_config.specs.Words.{ranged_name, least, most}
-use Rattle.front_config.specs.declared.command.FileNames.{FileNames}
+use Rattle.command_options.specs.Options.{ranged_name, least, most}
+use Rattle.command_options.specs.declared.files.FileNames.{FileNames}
+use Rattle.command_options.specs.declared.ranged.Ranged.{Ranged}
 use Rattle.front_config.specs.declared.fault.LoadFault.{LoadFault}
 use Rattle.front_config.specs.declared.fault.LoadFault.TheVariants.{ReadFault, BadFile, NoMemory}
-use Rattle.front_config.specs.declared.fault.Ranged.{Ranged}
 use Rattle.front_config.specs.declared.fault.Which.{Which}
 use Rattle.front_config.specs.declared.fault.Which.TheVariants as file
 use Rattle.refusal_text.specs.Place.{place_of}
 use Rattle.refusal_text.specs.declared.refusal.Refusal.{Refusal}
-use Rattle.refusal_text.specs.declared.refusal.Refusal.TheVariants.{Words, NotUtf8, Limits, Files, Request, Input, Output}
+use Rattle.refusal_text.specs.declared.refusal.Refusal.TheVariants.{Words, NotUtf8, Limits, Listen, Webhook, Files, Request, Input, Output}
 
 -- the option that names a file
 abbrev pub option_of : Which → List ℕ
@@ -33,6 +33,14 @@ abbrev pub range_line : Ranged → ℕ → List ℕ
 range_line option n =
     codes "--" ++ (ranged_name option ++ (codes "=" ++ (decimal n ++ (codes ": not in " ++ (decimal (least option) ++ (codes ".." ++ decimal (most option)))))))
 
+-- `--listen=TEXT: ..`, with the text as it was given
+abbrev pub listen_line : List ℕ → List ℕ
+listen_line text = codes "--listen=" ++ (text ++ codes ": not A.B.C.D:PORT or localhost:PORT")
+
+-- `--audit-webhook-url=URL: ..`, with the URL as it was given
+abbrev pub webhook_line : List ℕ → List ℕ
+webhook_line url = codes "--audit-webhook-url=" ++ (url ++ codes ": not http with an IPv4 address or localhost, and no user or fragment")
+
 -- `request NUMBER, at byte BYTE: `
 abbrev pub request_head : ℕ → ℕ → List ℕ
 request_head number byte = codes "request " ++ (decimal number ++ (codes ", at byte " ++ (decimal byte ++ codes ": ")))
@@ -51,6 +59,8 @@ abbrev pub Says : Refusal → List ℕ → Type 0
 Says (Words bad) line = Unit {0}
 Says NotUtf8 line = Unit {0}
 Says (Limits option n) line = line ≡ range_line option n
+Says (Listen text) line = line ≡ listen_line text
+Says (Webhook url) line = line ≡ webhook_line url
 Says (Files names fault) line = SaysFile names fault line
 Says (Request number byte end) line = Begins line (request_head number byte)
 Says Input line = line ≡ codes "standard input: could not be read"

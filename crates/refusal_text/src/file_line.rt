@@ -7,7 +7,8 @@ ghost use Rattle.refusal_text.specs.Text as spec;
 use crate::json_place::json_reason;
 use crate::place::place_of;
 use crate::reason::{endpoint_reason, policy_reason, record_reason, row_reason};
-use front_config::{FileFault, FileNames, LoadFault, Which};
+use command_options::FileNames;
+use front_config::{FileFault, LoadFault, Which};
 use std::alloc::{AllocError, Global};
 
 fn option_of(which: Which) -> &'static str

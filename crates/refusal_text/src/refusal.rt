@@ -1,4 +1,6 @@
-use front_config::{BadWord, FileNames, LoadFault, Ranged};
+use command_options::{BadWord, FileNames, Ranged};
+use front_base::Text;
+use front_config::LoadFault;
 use http_edge::End;
 
 /// Why a run ended, where there is more to tell than its status.
@@ -10,6 +12,10 @@ pub enum Refusal {
     NotUtf8,
     /// The number of an option is out of its range.
     Limits { option: Ranged, number: u64 },
+    /// The text of `--listen` is no address.
+    Listen(Text),
+    /// The text of `--audit-webhook-url` is no URL that a webhook can have.
+    Webhook(Text),
     /// The files that these names name weren't loaded.
     Files { names: FileNames, fault: LoadFault },
     /// A request of the input is refused or cut short: its number, and the number of its first byte in the input, both

@@ -1,6 +1,7 @@
 use crate::{Position, Refusal, position_of, refusal_text};
+use command_options::{FileNames, Ranged, bad_word};
 use front_base::{Bytes, MOST_FILE_BYTES, NoMemory, Text};
-use front_config::{FileNames, LoadFault, Ranged, bad_word, load};
+use front_config::{LoadFault, load};
 use front_ports::MemFiles;
 use http_edge::End;
 use std::alloc::{AllocError, Global};
@@ -29,10 +30,23 @@ explain|--route --route: unknown option; did you mean --routes?
 explain|--routes=true --routes: takes no value
 explain|--moment= --moment: no value
 explain|--moment=1|--moment|2 --moment: given twice
-explain|--moment=1x --moment: not a number of 64 bits"#;
+explain|--moment=1x --moment: not a number of 64 bits
+serve|--idle-timout=1 --idle-timout: unknown option; did you mean --idle-timeout?
+serve|--audit-log=l --audit-log: unknown option; did you mean --audit-log-path?
+serve|--momnt=1 --momnt: unknown option
+serve|--bays=8x --bays: not a number of 64 bits
+serve|--exit-on-stdin-eof=1 --exit-on-stdin-eof: takes no value
+serve|--audit-log-path=l|--audit-log-mode|sync --audit-log-mode: not batch, blocking or blocking-strict
+serve|--audit-log-mode=batch --audit-log-mode: needs --audit-log-path
+serve|--audit-webhook-mode|batch --audit-webhook-mode: needs --audit-webhook-url"#;
 
+// What is told of words of `serve`, or of `explain` where they begin with another word.
 fn usage_told(alloc: Global, words: &[String]) -> Result<String, AllocError> {
-    refusal_text(alloc, words, &Refusal::Words(bad_word(words)))
+    let command = match words {
+        [word, ..] if word.as_str() == "serve" => "serve",
+        _ => "explain",
+    };
+    refusal_text(alloc, words, &Refusal::Words(bad_word(command, words)))
 }
 
 #[test]
@@ -217,6 +231,21 @@ fn other_refusals(rt: HostRuntime) -> Result<(), Fail> {
                 number: u64::MAX
             },
             "--moment=18446744073709551615: not in 0..253370764799999999"
+        ),
+        (
+            Refusal::Limits {
+                option: Ranged::Bays,
+                number: 65
+            },
+            "--bays=65: not in 1..64"
+        ),
+        (
+            Refusal::Listen(Text::copy_of(alloc, ":80")?),
+            "--listen=:80: not A.B.C.D:PORT or localhost:PORT"
+        ),
+        (
+            Refusal::Webhook(Text::copy_of(alloc, "https://a/")?),
+            "--audit-webhook-url=https://a/: not http with an IPv4 address or localhost, and no user or fragment"
         ),
         (
             Refusal::Files {

@@ -4,7 +4,7 @@ ghost use Rattle.refusal_text.specs.Text as spec;
 use crate::file_line::file_line;
 use crate::refusal::Refusal;
 use crate::usage::usage_line;
-use front_config::Ranged;
+use command_options::Ranged;
 use http_edge::End;
 use std::alloc::{AllocError, Global};
 
@@ -15,6 +15,18 @@ fn range_line(alloc: Global, option: Ranged, number: u64) -> Result<String, Allo
     let least = option.least();
     let most = option.most();
     format!(in alloc; "--{name}={number}: not in {least}..{most}")
+}
+
+fn listen_line(alloc: Global, text: &str) -> Result<String, AllocError>
+    ensures { IfOk result (λ line. string_bytes line ≡ spec.listen_line text.now) }
+{
+    format!(in alloc; "--listen={text}: not A.B.C.D:PORT or localhost:PORT")
+}
+
+fn webhook_line(alloc: Global, url: &str) -> Result<String, AllocError>
+    ensures { IfOk result (λ line. string_bytes line ≡ spec.webhook_line url.now) }
+{
+    format!(in alloc; "--audit-webhook-url={url}: not http with an IPv4 address or localhost, and no user or fragment")
 }
 
 // The name of a refusal, and the status that it would be answered with over a connection.
@@ -57,6 +69,8 @@ pub fn refusal_text(
         Refusal::Words(bad) => usage_line(alloc, words, bad),
         Refusal::NotUtf8 => String::from_str(alloc, "a word is not UTF-8. Try 'apiaggd --help'."),
         Refusal::Limits { option, number } => range_line(alloc, *option, *number),
+        Refusal::Listen(text) => listen_line(alloc, text.as_str()),
+        Refusal::Webhook(url) => webhook_line(alloc, url.as_str()),
         Refusal::Files { names, fault } => file_line(alloc, names, fault),
         Refusal::Request { number, byte, end } => request_line(alloc, *number, *byte, *end),
         Refusal::Input => String::from_str(alloc, "standard input: could not be read"),

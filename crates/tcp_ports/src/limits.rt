@@ -30,8 +30,8 @@ pub struct TcpLimits {
 
 /// Those of a server that nobody tuned.
 pub const DEFAULT_LIMITS: TcpLimits = TcpLimits {
-    // kube-apiserver's `IdleTimeout`.
-    idle_timeout: 90_000,
+    // `IdleTimeout` of net/http's server. kube-apiserver has 90 s, but a bay is scarcer than a goroutine.
+    idle_timeout: 60_000,
     idle_grace: 20,
     fresh_grace: 200,
     // `ReadHeaderTimeout` of net/http. kube-apiserver has 32 s, but a bay is scarcer than a goroutine.

@@ -1,0 +1,10 @@
+mod ClapLemmas
+mod DistinctLemmas
+mod DoubtLemmas
+mod FlagLemmas
+mod OptionLemmas
+mod ParserLemmas
+mod RuleLemmas
+mod SpellingLemmas
+mod WalkLemmas
+mod WordLemmas

@@ -1,0 +1,4 @@
+pub mod Flag
+pub mod Options
+pub mod Parser
+pub mod Spelling

@@ -1,0 +1,57 @@
+//! The names of the options, without their dashes. They are kube-apiserver's where it has such an option, and else follow
+//! Go's names for the same limit.
+
+pub const TOKENS: &str = "token-auth-file";
+
+pub const POLICY: &str = "audit-policy-file";
+
+pub const SERVICES: &str = "apiservices";
+
+pub const ENDPOINTS: &str = "endpoints";
+
+pub const MAX_EVENT_SIZE: &str = "max-event-size";
+
+pub const MOMENT: &str = "moment";
+
+/// Of `explain`, a flag: where each request goes is written in the place of its events.
+pub const ROUTES: &str = "routes";
+
+/// Of `serve`: the address at which it listens.
+pub const LISTEN: &str = "listen";
+
+pub const BAYS: &str = "bays";
+
+pub const CONNECTIONS: &str = "connections";
+
+pub const LOG_PATH: &str = "audit-log-path";
+
+pub const LOG_MODE: &str = "audit-log-mode";
+
+pub const WEBHOOK_URL: &str = "audit-webhook-url";
+
+pub const WEBHOOK_MODE: &str = "audit-webhook-mode";
+
+pub const BATCH_BUFFER: &str = "batch-buffer";
+
+pub const BATCH_MAX_SIZE: &str = "batch-max-size";
+
+pub const BATCH_MAX_WAIT: &str = "batch-max-wait-ms";
+
+pub const MAX_BATCH_SIZE: &str = "max-batch-size";
+
+pub const IDLE_TIMEOUT: &str = "idle-timeout";
+
+pub const READ_HEADER_TIMEOUT: &str = "read-header-timeout";
+
+pub const MIN_RATE: &str = "min-rate";
+
+pub const STALL_TIMEOUT: &str = "stall-timeout";
+
+pub const DIAL_TIMEOUT: &str = "dial-timeout";
+
+pub const RESPONSE_HEADER_TIMEOUT: &str = "response-header-timeout";
+
+pub const SHUTDOWN_TIMEOUT: &str = "shutdown-timeout";
+
+/// Of `serve`, a flag: an end of standard input ends it.
+pub const EXIT_ON_STDIN_EOF: &str = "exit-on-stdin-eof";

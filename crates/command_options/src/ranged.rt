@@ -1,0 +1,155 @@
+// The options that have a number.
+ghost use Rattle.std.specs.Prelude.{◌≡◌, ◌≤◌, IfOk};
+ghost use Rattle.command_options.specs.Options as spec;
+
+use crate::fault::WordsFault;
+use crate::given::{Options, number_or};
+use crate::names::{
+    BATCH_BUFFER, BATCH_MAX_SIZE, BATCH_MAX_WAIT, BAYS, CONNECTIONS, DIAL_TIMEOUT, IDLE_TIMEOUT,
+    MAX_BATCH_SIZE, MAX_EVENT_SIZE, MIN_RATE, MOMENT, READ_HEADER_TIMEOUT, RESPONSE_HEADER_TIMEOUT,
+    SHUTDOWN_TIMEOUT, STALL_TIMEOUT,
+};
+
+/// The options whose numbers have a range. Timeouts are in milliseconds, sizes in bytes.
+#[derive(Clone, Copy, Debug, PartialEq, Eq)]
+pub enum Ranged {
+    /// `--audit-log-truncate-max-event-size` of kube-apiserver, for both sinks, with its default.
+    MaxEventSize,
+    /// In microseconds since 1970.
+    Moment,
+    /// How many threads serve connections, each one at a time.
+    Bays,
+    /// After how many connections a bay ends, 0 for no end.
+    Connections,
+    /// `--audit-webhook-batch-buffer-size` of kube-apiserver, for both sinks, with its default.
+    BatchBuffer,
+    /// `--audit-webhook-batch-max-size` of kube-apiserver, for both sinks, with its default.
+    BatchMaxSize,
+    /// `--audit-webhook-batch-max-wait` of kube-apiserver, for both sinks, with its default; in milliseconds.
+    BatchMaxWait,
+    /// `--audit-webhook-truncate-max-batch-size` of kube-apiserver, for both sinks, with its default.
+    MaxBatchSize,
+    /// `IdleTimeout` of net/http's server.
+    IdleTimeout,
+    /// `ReadHeaderTimeout` of net/http's server.
+    ReadHeaderTimeout,
+    /// `MinRate` of Apache's mod_reqtimeout, in bytes a second; 0 for no floor.
+    MinRate,
+    /// How long a peer may move nothing of a body.
+    StallTimeout,
+    /// `Timeout` of Go's net.Dialer.
+    DialTimeout,
+    /// `ResponseHeaderTimeout` of net/http's Transport.
+    ResponseHeaderTimeout,
+    /// How long requests in progress may go on once the door is closed.
+    ShutdownTimeout,
+}
+
+impl Ranged {
+    /// The option's name, without its dashes.
+    pub fn name(self) -> &'static str
+        ensures { result.now ≡ spec.ranged_name self }
+    {
+        match self {
+            Ranged::MaxEventSize => MAX_EVENT_SIZE,
+            Ranged::Moment => MOMENT,
+            Ranged::Bays => BAYS,
+            Ranged::Connections => CONNECTIONS,
+            Ranged::BatchBuffer => BATCH_BUFFER,
+            Ranged::BatchMaxSize => BATCH_MAX_SIZE,
+            Ranged::BatchMaxWait => BATCH_MAX_WAIT,
+            Ranged::MaxBatchSize => MAX_BATCH_SIZE,
+            Ranged::IdleTimeout => IDLE_TIMEOUT,
+            Ranged::ReadHeaderTimeout => READ_HEADER_TIMEOUT,
+            Ranged::MinRate => MIN_RATE,
+            Ranged::StallTimeout => STALL_TIMEOUT,
+            Ranged::DialTimeout => DIAL_TIMEOUT,
+            Ranged::ResponseHeaderTimeout => RESPONSE_HEADER_TIMEOUT,
+            Ranged::ShutdownTimeout => SHUTDOWN_TIMEOUT,
+        }
+    }
+
+    /// The least number that it may have.
+    pub fn least(self) -> u64
+        ensures { result ≡ spec.least self }
+    {
+        match self {
+            Ranged::MaxEventSize | Ranged::MaxBatchSize => 256,
+            Ranged::Moment | Ranged::Connections | Ranged::BatchMaxWait => 0,
+            Ranged::MinRate | Ranged::ShutdownTimeout => 0,
+            Ranged::Bays | Ranged::BatchBuffer | Ranged::BatchMaxSize => 1,
+            Ranged::IdleTimeout | Ranged::ReadHeaderTimeout | Ranged::StallTimeout => 1,
+            Ranged::DialTimeout | Ranged::ResponseHeaderTimeout => 1,
+        }
+    }
+
+    /// The greatest number that it may have.
+    pub fn most(self) -> u64
+        ensures { result ≡ spec.most self }
+    {
+        match self {
+            Ranged::MaxEventSize => 4_194_304,
+            Ranged::Moment => 253_370_764_799_999_999,
+            Ranged::Bays => 64,
+            Ranged::Connections => u64::MAX,
+            Ranged::BatchBuffer => 100_000,
+            Ranged::BatchMaxSize => 10_000,
+            Ranged::MaxBatchSize => 67_108_864,
+            Ranged::MinRate => 1_000_000,
+            // An hour.
+            Ranged::BatchMaxWait | Ranged::IdleTimeout | Ranged::ReadHeaderTimeout => 3_600_000,
+            Ranged::StallTimeout | Ranged::DialTimeout => 3_600_000,
+            Ranged::ResponseHeaderTimeout | Ranged::ShutdownTimeout => 3_600_000,
+        }
+    }
+
+    /// The number that it has where it isn't given.
+    pub fn default_number(self) -> u64
+        ensures { result ≡ spec.default_of self }
+    {
+        match self {
+            Ranged::MaxEventSize => 102_400,
+            Ranged::Moment | Ranged::Connections => 0,
+            Ranged::Bays => 8,
+            Ranged::BatchBuffer => 10_000,
+            Ranged::BatchMaxSize => 400,
+            Ranged::BatchMaxWait | Ranged::StallTimeout => 30_000,
+            Ranged::MaxBatchSize => 10_485_760,
+            Ranged::IdleTimeout | Ranged::ResponseHeaderTimeout => 60_000,
+            Ranged::ReadHeaderTimeout => 10_000,
+            Ranged::MinRate => 500,
+            Ranged::DialTimeout => 5_000,
+            Ranged::ShutdownTimeout => 20_000,
+        }
+    }
+}
+
+/// The number that is given to an option, or its default. A text of another kind makes the words no command line.
+pub fn number_given(option: Ranged, options: &Options) -> Result<u64, WordsFault>
+    ensures { result ≡ spec.number_given option options.now }
+{
+    number_or(option.default_number(), option.name(), options)
+}
+
+/// Each of the options that is given has a number.
+pub fn have_numbers(numbers: &[Ranged], options: &Options) -> bool
+    ensures { result ≡ spec.have_numbers numbers.now options.now }
+{
+    for option in numbers {
+        if number_given(*option, options).is_err() {
+            return false;
+        }
+    }
+    true
+}
+
+/// A number that is in the range of its option.
+pub fn in_range(option: Ranged, number: u64) -> Result<u64, WordsFault>
+    ensures gives { result ≡ spec.in_range option number }
+    ensures most { IfOk result (λ n. n ≤ spec.most option) }
+{
+    if number < option.least() || option.most() < number {
+        return Err(WordsFault::Limits { option, number });
+    }
+    Ok(number)
+}

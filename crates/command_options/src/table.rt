@@ -1,0 +1,84 @@
+// The options of each command, for what is told of a bad word.
+use crate::names::{
+    BATCH_BUFFER, BATCH_MAX_SIZE, BATCH_MAX_WAIT, BAYS, CONNECTIONS, DIAL_TIMEOUT, ENDPOINTS,
+    EXIT_ON_STDIN_EOF, IDLE_TIMEOUT, LISTEN, LOG_MODE, LOG_PATH, MAX_BATCH_SIZE, MAX_EVENT_SIZE,
+    MIN_RATE, MOMENT, POLICY, READ_HEADER_TIMEOUT, RESPONSE_HEADER_TIMEOUT, ROUTES, SERVICES,
+    SHUTDOWN_TIMEOUT, STALL_TIMEOUT, TOKENS, WEBHOOK_MODE, WEBHOOK_URL,
+};
+
+const EXPLAIN: [&str; 7] = [
+    TOKENS,
+    POLICY,
+    SERVICES,
+    ENDPOINTS,
+    MAX_EVENT_SIZE,
+    MOMENT,
+    ROUTES,
+];
+
+const SERVE: [&str; 24] = [
+    TOKENS,
+    POLICY,
+    SERVICES,
+    ENDPOINTS,
+    MAX_EVENT_SIZE,
+    LISTEN,
+    BAYS,
+    CONNECTIONS,
+    LOG_PATH,
+    LOG_MODE,
+    WEBHOOK_URL,
+    WEBHOOK_MODE,
+    BATCH_BUFFER,
+    BATCH_MAX_SIZE,
+    BATCH_MAX_WAIT,
+    MAX_BATCH_SIZE,
+    IDLE_TIMEOUT,
+    READ_HEADER_TIMEOUT,
+    MIN_RATE,
+    STALL_TIMEOUT,
+    DIAL_TIMEOUT,
+    RESPONSE_HEADER_TIMEOUT,
+    SHUTDOWN_TIMEOUT,
+    EXIT_ON_STDIN_EOF,
+];
+
+/// The names of the options of a command, without their dashes. A command of another name has none.
+pub fn options_for(command: &str) -> &'static [&'static str] {
+    match command {
+        "explain" => &EXPLAIN,
+        "serve" => &SERVE,
+        _ => &[],
+    }
+}
+
+/// What the value of an option is.
+#[derive(Clone, Copy, Debug, PartialEq, Eq)]
+pub enum ValueKind {
+    Text,
+    Number,
+    /// How events go to a sink: `batch`, `blocking` or `blocking-strict`.
+    Mode,
+    /// It has none.
+    Flag,
+}
+
+/// What the value of the option of that name is.
+pub fn kind_of(name: &str) -> ValueKind {
+    match name {
+        ROUTES | EXIT_ON_STDIN_EOF => ValueKind::Flag,
+        LOG_MODE | WEBHOOK_MODE => ValueKind::Mode,
+        TOKENS | POLICY | SERVICES | ENDPOINTS => ValueKind::Text,
+        LISTEN | LOG_PATH | WEBHOOK_URL => ValueKind::Text,
+        _ => ValueKind::Number,
+    }
+}
+
+/// The option that names the sink whose mode the option of that name gives.
+pub fn sink_of(name: &str) -> Option<&'static str> {
+    match name {
+        LOG_MODE => Some(LOG_PATH),
+        WEBHOOK_MODE => Some(WEBHOOK_URL),
+        _ => None,
+    }
+}

@@ -1,7 +1,0 @@
-use Rattle.std.proofs.Common.{◌≡◌, map, take, string_bytes}
-use Rattle.front_config.specs.Flag.{as_option}
-use Rattle.front_config.proofs.flag.as_options.Given as goal
-
--- the words that were passed are handed on
-abbrev pub invariant-loop-word : goal.invariant-loop-word
-invariant-loop-word l = map string_bytes l.own.items ≡ map as_option (map string_bytes (take l.word-index l.words))

@@ -1,8 +1,0 @@
-use Rattle.std.proofs.Common.{◌≡◌, map, take}
-use Rattle.clap.specs.Words.{app_of}
-use Rattle.front_config.specs.Parser.{app_with}
-use Rattle.front_config.proofs.given.command_with.Given as goal
-
--- the command has the options whose names were passed
-abbrev pub invariant-loop-name : goal.invariant-loop-name
-invariant-loop-name l = app_of l.command ≡ app_with (map (λ own. own.now) (take l.name-index l.names))

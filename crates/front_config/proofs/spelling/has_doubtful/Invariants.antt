@@ -1,8 +1,0 @@
-use Rattle.std.proofs.Common.{◌≡◌, drop, map, string_bytes}
-use Rattle.std.specs.List.{list_any}
-use Rattle.front_config.specs.Parser.{is_doubtful}
-use Rattle.front_config.proofs.spelling.has_doubtful.Given as goal
-
--- the words that were passed aren't doubtful
-abbrev pub invariant-loop-word : goal.invariant-loop-word
-invariant-loop-word l = list_any is_doubtful (map string_bytes (drop l.word-index l.words)) ≡ list_any is_doubtful (map string_bytes l.words)

@@ -1,0 +1,13 @@
+use Rattle.std.proofs.Common.{map, string_bytes}
+use Rattle.command_options.specs.Options.{given_of}
+use Rattle.serve_words.specs.Serve.{serve_by, serve_given, serve_names}
+use Rattle.serve_words.proofs.FaultLemmas.{refused}
+use Rattle.serve_words.proofs.serve.serve_given.Goals as goal
+
+pub returns-in-Ok : goal.returns-in-Ok
+unfolding serve_given
+returns-in-Ok c = rw c.in-Ok.ensures c.serve_by.ensures
+
+pub returns-in-Err : goal.returns-in-Err
+unfolding serve_given
+returns-in-Err c = refused (given_of serve_names (map string_bytes c.args.words.now)) serve_by c.in-Err.fault c.in-Err.ensures

@@ -1,0 +1,15 @@
+use Rattle.std.proofs.Common.{ap, codes, map, string_bytes, sym}
+use Rattle.command_options.specs.Options.{with_flag}
+use Rattle.serve_words.specs.Serve.{serve_given, serve_of}
+use Rattle.serve_words.proofs.FaultLemmas.{refused}
+use Rattle.serve_words.proofs.serve.serve_of.Goals as goal
+
+pub returns-in-Ok : goal.returns-in-Ok
+unfolding serve_of
+returns-in-Ok c =
+    let own = ap (map string_bytes) c.as_slice.ensures.value in
+    rw c.in-Ok.ensures (rw own at c.serve_given.ensures)
+
+pub returns-in-Err : goal.returns-in-Err
+unfolding serve_of
+returns-in-Err c = refused (with_flag (codes "exit-on-stdin-eof") (map string_bytes c.args.words.now)) serve_given c.in-Err.fault c.in-Err.ensures

@@ -1,0 +1,76 @@
+// The numbers of the options.
+ghost use Rattle.std.specs.Prelude.{◌≤◌, IfOk};
+ghost use Rattle.command_options.specs.Options.{Gives, most};
+ghost use Rattle.serve_words.specs.Serve as spec;
+
+use crate::fault::ServeFault;
+use command_options::{Options, Ranged, WordsFault, have_numbers, in_range, number_given};
+
+/// Each option of a number has one.
+pub fn check_numbers(options: &Options) -> Result<(), ServeFault>
+    ensures { spec.Gives (λ u. u) result (spec.numbers_of options.now) }
+{
+    let numbers = [
+        Ranged::MaxEventSize,
+        Ranged::Bays,
+        Ranged::Connections,
+        Ranged::BatchBuffer,
+        Ranged::BatchMaxSize,
+        Ranged::BatchMaxWait,
+        Ranged::MaxBatchSize,
+        Ranged::IdleTimeout,
+        Ranged::ReadHeaderTimeout,
+        Ranged::MinRate,
+        Ranged::StallTimeout,
+        Ranged::DialTimeout,
+        Ranged::ResponseHeaderTimeout,
+        Ranged::ShutdownTimeout,
+    ];
+    if have_numbers(&numbers, options) {
+        Ok(())
+    } else {
+        Err(ServeFault::Words(WordsFault::Usage))
+    }
+}
+
+#[tactic(auto, unfolding(crate::specs::Serve::number_in))]
+fn number_in(option: Ranged, options: &Options) -> Result<u64, WordsFault>
+    ensures gives { Gives (λ n. n) result (spec.number_in option options.now) }
+    ensures most { IfOk result (λ n. n ≤ most option) }
+{
+    let number = number_given(option, options)?;
+    in_range(option, number)
+}
+
+/// The number of an option in its range.
+pub fn ranged(option: Ranged, options: &Options) -> Result<u64, ServeFault>
+    ensures gives { spec.Gives (λ n. n) result (spec.ranged option options.now) }
+    ensures most { IfOk result (λ n. n ≤ most option) }
+{
+    match number_in(option, options) {
+        Ok(number) => Ok(number),
+        Err(fault) => Err(ServeFault::Words(fault)),
+    }
+}
+
+/// The same, of an option whose numbers fit 32 bits.
+pub fn ranged_u32(option: Ranged, options: &Options) -> Result<u32, ServeFault>
+    requires fits { most option ≤ 4294967295 }
+    ensures { spec.Gives (λ n. n) result (spec.ranged option options.now) }
+{
+    match ranged(option, options) {
+        Ok(number) => Ok(number as u32),
+        Err(fault) => Err(fault),
+    }
+}
+
+/// The same, of an option whose numbers fit 16 bits.
+pub fn ranged_u16(option: Ranged, options: &Options) -> Result<u16, ServeFault>
+    requires fits { most option ≤ 65535 }
+    ensures { spec.Gives (λ n. n) result (spec.ranged option options.now) }
+{
+    match ranged(option, options) {
+        Ok(number) => Ok(number as u16),
+        Err(fault) => Err(fault),
+    }
+}
