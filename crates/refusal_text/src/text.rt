@@ -26,7 +26,9 @@ fn listen_line(alloc: Global, text: &str) -> Result<String, AllocError>
 fn webhook_line(alloc: Global, url: &str) -> Result<String, AllocError>
     ensures { IfOk result (λ line. string_bytes line ≡ spec.webhook_line url.now) }
 {
-    format!(in alloc; "--audit-webhook-url={url}: not http with an IPv4 address or localhost, and no user or fragment")
+    format!(in alloc;
+        "--audit-webhook-url={url}: not http with an IPv4 address or localhost, and no user or fragment"
+    )
 }
 
 // The name of a refusal, and the status that it would be answered with over a connection.
