@@ -35,10 +35,10 @@ due r fault e h = go r (rw e at h)
 pub words_refused : (line : List (List ℕ)) (files : FilesPort) (fault : ServeFault) (why : Option Refusal)
     → Due fault (serve_command line) → TellsServe fault why → IsRefused line files (status_of_serve fault) why
 words_refused line files (Words words_fault.Usage) why h t = (due (serve_command line) (Words words_fault.Usage) refl h, t)
-words_refused line files (Words (words_fault.Limits option n)) why h t = inl (option, n, due (serve_command line) (Words (words_fault.Limits option n)) refl h, t)
+words_refused line files (Words (words_fault.Limits option n)) why h t = inl (option, n, (due (serve_command line) (Words (words_fault.Limits option n)) refl h, t))
 words_refused line files (Words words_fault.NoMemory) why h t = tt
-words_refused line files (Listen text) why h t = inr (inl (text, due (serve_command line) (Listen text) refl h, t))
-words_refused line files (Webhook url) why h t = inr (inr (inl (url, due (serve_command line) (Webhook url) refl h, t)))
+words_refused line files (Listen text) why h t = inr (inl (text, (due (serve_command line) (Listen text) refl h, t)))
+words_refused line files (Webhook url) why h t = inr (inr (inl (url, (due (serve_command line) (Webhook url) refl h, t))))
 
 read_due : (r : Result Loaded LoadFault) (which : Which) → load.Gives (Err (load_fault.ReadFault which)) r → r ≡ Err (load_fault.ReadFault which)
 read_due (Ok a) which e = absurd (cc e)
