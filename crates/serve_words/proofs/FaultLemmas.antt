@@ -1,5 +1,5 @@
 -- Words that are refused before their options are looked at.
-use Rattle.std.proofs.Common.{◌≡◌, Bool, true, false, Some, Result, Ok, Err, refl}
+use Rattle.std.proofs.Common.{◌≡◌, Bool, true, false, Some, Result, Ok, Err}
 use Rattle.json_value.specs.Results.{◌>>=◌, Unless, fault_of}
 use Rattle.command_options.specs.Options.{Fails, is_memory}
 use Rattle.command_options.specs.declared.fault.WordsFault.{WordsFault}

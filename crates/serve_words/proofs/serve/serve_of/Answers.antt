@@ -1,4 +1,4 @@
-use Rattle.std.proofs.Common.{ap, codes, map, string_bytes, sym}
+use Rattle.std.proofs.Common.{ap, codes, map, string_bytes}
 use Rattle.command_options.specs.Options.{with_flag}
 use Rattle.serve_words.specs.Serve.{serve_given, serve_of}
 use Rattle.serve_words.proofs.FaultLemmas.{refused}

@@ -1,4 +1,4 @@
-use Rattle.std.proofs.Common.{◌≡◌, Err, None, ap, refl, sym, true, is_some}
+use Rattle.std.proofs.Common.{◌≡◌, Err, None, ap, refl, true, is_some}
 use Rattle.webhook_sink.specs.Hooks.{hook_named}
 use Rattle.serve_words.specs.Serve.{webhook_at}
 use Rattle.serve_words.proofs.sinks.check_hook.Goals as goal
