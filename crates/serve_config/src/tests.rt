@@ -13,19 +13,22 @@ fn words_of(alloc: Global, line: &str) -> Result<Vec<String>, AllocError> {
     Ok(words)
 }
 
-fn file(alloc: Global, name: &str, text: &str) -> Result<(Text, Bytes), Fail> {
-    let bytes = String::from_str(alloc, text)?.into_bytes();
-    Ok((Text::copy_of(alloc, name)?, Bytes::new(bytes)))
+fn bytes_of(alloc: Global, text: &str) -> Result<Bytes, AllocError> {
+    Ok(Bytes::new(String::from_str(alloc, text)?.into_bytes()))
 }
 
 // A token file, an endpoints file and one that is neither. The second read fails.
 fn files(alloc: Global) -> Result<MemFiles, Fail> {
-    let held = vec![in alloc;
-        file(alloc, "t", "a,ann,1\n")?,
-        file(alloc, "e", "local,127.0.0.1:9\n")?,
-        file(alloc, "x", "x\n")?,
-    ]?;
-    Ok(MemFiles::new(held, vec![in alloc; 2]?))
+    let tokens = (Text::copy_of(alloc, "t")?, bytes_of(alloc, "a,ann,1\n")?);
+    let endpoints = (
+        Text::copy_of(alloc, "e")?,
+        bytes_of(alloc, "local,127.0.0.1:9\n")?,
+    );
+    let neither = (Text::copy_of(alloc, "x")?, bytes_of(alloc, "x\n")?);
+    Ok(MemFiles::new(
+        vec![in alloc; tokens, endpoints, neither]?,
+        vec![in alloc; 2]?,
+    ))
 }
 
 // What is loaded: the user of the token `a`, and the delegate's port; or the status and what a person is told.
