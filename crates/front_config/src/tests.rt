@@ -6,92 +6,67 @@ use front_ports::MemFiles;
 use std::alloc::{AllocError, Global};
 use std::test::Fail;
 
-// Command lines whose words stand between bars, and what they ask for: the files of tokens and policy, and the moment.
-const LINES: [(&str, &str); 58] = [
-    ("explain", "explain - - 0"),
-    ("explain|--moment=7", "explain - - 7"),
-    ("explain|--moment|7", "explain - - 7"),
-    (
-        "explain|--token-auth-file=t|--audit-policy-file|p|--moment=1",
-        "explain t p 1",
-    ),
-    (
-        "explain|--moment|1|--audit-policy-file=p|--token-auth-file|t",
-        "explain t p 1",
-    ),
-    (
-        "explain|--audit-policy-file|p|--token-auth-file|t",
-        "explain t p 0",
-    ),
-    ("explain|--token-auth-file=a=b", "explain a=b - 0"),
-    ("explain|--token-auth-file==", "explain = - 0"),
-    ("explain|--token-auth-file|a=b", "explain a=b - 0"),
-    ("explain|--token-auth-file=-t", "explain -t - 0"),
-    ("explain|--token-auth-file=--moment", "explain --moment - 0"),
-    ("explain|--token-auth-file=--", "explain -- - 0"),
-    ("explain|--token-auth-file|moment", "explain moment - 0"),
-    ("explain|--token-auth-file|explain", "explain explain - 0"),
-    ("explain|--audit-policy-file=é", "explain - é 0"),
-    // Numbers of 1, 20 and 21 digits, leading zeros, and the ends of the range and of 64 bits.
-    ("explain|--moment=0", "explain - - 0"),
-    ("explain|--moment=00000000000000000012", "explain - - 12"),
-    ("explain|--moment=000000000000000000012", "usage"),
-    (
-        "explain|--moment=253370764799999999",
-        "explain - - 253370764799999999",
-    ),
-    ("explain|--moment=253370764800000000", "limits moment"),
-    ("explain|--moment|18446744073709551615", "limits moment"),
-    ("explain|--moment|18446744073709551616", "usage"),
-    ("explain|--moment=99999999999999999999", "usage"),
-    ("explain|--moment=+1", "usage"),
-    ("explain|--moment= 1", "usage"),
-    ("explain|--moment=1x", "usage"),
-    ("explain|--moment=0x1", "usage"),
-    // Usage comes before limits.
-    (
-        "explain|--moment=253370764800000000|--token-auth-file=",
-        "usage",
-    ),
-    (
-        "explain|--token-auth-file=t|x|--moment=253370764800000000",
-        "usage",
-    ),
-    ("explain|--moment=253370764800000000|--moment=1", "usage"),
-    // Words that are no command, and options twice.
-    ("", "usage"),
-    ("explain|", "usage"),
-    ("Explain", "usage"),
-    ("explains", "usage"),
-    ("serve", "usage"),
-    ("rehearse|1|2", "usage"),
-    ("check", "usage"),
-    ("--moment=1|explain", "usage"),
-    ("explain|explain", "usage"),
-    ("explain|x", "usage"),
-    ("explain|--moment=0|--moment=0", "usage"),
-    ("explain|--moment|0|--moment=0", "usage"),
-    (
-        "explain|--token-auth-file=a|--moment=1|--token-auth-file|b",
-        "usage",
-    ),
-    // Doubtful spellings.
-    ("explain|--", "usage"),
-    ("explain|--|--moment=1", "usage"),
-    ("explain|-", "usage"),
-    ("explain|-moment=1", "usage"),
-    ("explain|--moment", "usage"),
-    ("explain|--moment=", "usage"),
-    ("explain|--moment|", "usage"),
-    ("explain|--moment|-1", "usage"),
-    ("explain|--token-auth-file|-", "usage"),
-    ("explain|--token-auth-file|--moment|1", "usage"),
-    ("explain|--mom=1", "usage"),
-    ("explain|--Moment=1", "usage"),
-    ("explain|--=1", "usage"),
-    ("explain|--max-event-size=x", "usage"),
-    ("explain|--help", "usage"),
-];
+// Command lines whose words stand between bars, and after `#` what they ask for: the files of tokens and policy, and the
+// moment. Numbers have 1, 20 and 21 digits, leading zeros, and the ends of the range and of 64 bits. Then come lines that
+// are invalid and out of range at once, words that are no command, options that are given twice, and doubtful spellings.
+const LINES: &str = "explain#explain - - 0
+explain|--moment=7#explain - - 7
+explain|--moment|7#explain - - 7
+explain|--token-auth-file=t|--audit-policy-file|p|--moment=1#explain t p 1
+explain|--moment|1|--audit-policy-file=p|--token-auth-file|t#explain t p 1
+explain|--audit-policy-file|p|--token-auth-file|t#explain t p 0
+explain|--token-auth-file=a=b#explain a=b - 0
+explain|--token-auth-file==#explain = - 0
+explain|--token-auth-file|a=b#explain a=b - 0
+explain|--token-auth-file=-t#explain -t - 0
+explain|--token-auth-file=--moment#explain --moment - 0
+explain|--token-auth-file=--#explain -- - 0
+explain|--token-auth-file|moment#explain moment - 0
+explain|--token-auth-file|explain#explain explain - 0
+explain|--audit-policy-file=é#explain - é 0
+explain|--moment=0#explain - - 0
+explain|--moment=00000000000000000012#explain - - 12
+explain|--moment=000000000000000000012#usage
+explain|--moment=253370764799999999#explain - - 253370764799999999
+explain|--moment=253370764800000000#limits moment
+explain|--moment|18446744073709551615#limits moment
+explain|--moment|18446744073709551616#usage
+explain|--moment=99999999999999999999#usage
+explain|--moment=+1#usage
+explain|--moment= 1#usage
+explain|--moment=1x#usage
+explain|--moment=0x1#usage
+explain|--moment=253370764800000000|--token-auth-file=#usage
+explain|--token-auth-file=t|x|--moment=253370764800000000#usage
+explain|--moment=253370764800000000|--moment=1#usage
+#usage
+explain|#usage
+Explain#usage
+explains#usage
+serve#usage
+rehearse|1|2#usage
+check#usage
+--moment=1|explain#usage
+explain|explain#usage
+explain|x#usage
+explain|--moment=0|--moment=0#usage
+explain|--moment|0|--moment=0#usage
+explain|--token-auth-file=a|--moment=1|--token-auth-file|b#usage
+explain|--#usage
+explain|--|--moment=1#usage
+explain|-#usage
+explain|-moment=1#usage
+explain|--moment#usage
+explain|--moment=#usage
+explain|--moment|#usage
+explain|--moment|-1#usage
+explain|--token-auth-file|-#usage
+explain|--token-auth-file|--moment|1#usage
+explain|--mom=1#usage
+explain|--Moment=1#usage
+explain|--=1#usage
+explain|--max-event-size=x#usage
+explain|--help#usage";
 
 fn words_of(alloc: Global, line: &str) -> Result<Vec<String>, AllocError> {
     let mut words = Vec::new(alloc);
@@ -128,9 +103,10 @@ fn asked(alloc: Global, words: &Vec<String>) -> Result<String, Fail> {
 #[test]
 fn command_lines_and_what_they_ask_for(rt: HostRuntime) -> Result<(), Fail> {
     let alloc = rt.alloc();
-    for (line, answer) in LINES {
+    for row in LINES.lines() {
+        let (line, answer) = row.split_once('#').ok_or("two parts")?;
         let words = words_of(alloc, line)?;
-        assert_eq!(rt; asked(alloc, &words)?.as_str(), answer, "{line}");
+        assert_eq!(rt; asked(alloc, &words)?.as_str(), answer, "{row}");
     }
     let none = Vec::new(alloc);
     assert_eq!(rt; asked(alloc, &none)?.as_str(), "usage");
