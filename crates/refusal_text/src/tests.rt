@@ -233,21 +233,6 @@ fn other_refusals(rt: HostRuntime) -> Result<(), Fail> {
             "--moment=18446744073709551615: not in 0..253370764799999999"
         ),
         (
-            Refusal::Limits {
-                option: Ranged::Bays,
-                number: 65
-            },
-            "--bays=65: not in 1..64"
-        ),
-        (
-            Refusal::Listen(Text::copy_of(alloc, ":80")?),
-            "--listen=:80: not A.B.C.D:PORT or localhost:PORT"
-        ),
-        (
-            Refusal::Webhook(Text::copy_of(alloc, "https://a/")?),
-            "--audit-webhook-url=https://a/: not http with an IPv4 address or localhost, and no user or fragment"
-        ),
-        (
             Refusal::Files {
                 names,
                 fault: LoadFault::NoMemory
@@ -300,6 +285,35 @@ fn other_refusals(rt: HostRuntime) -> Result<(), Fail> {
         let text = refusal_text(alloc, none.as_slice(), &refusal)?;
         assert_eq!(rt; text.as_str(), line);
     }
+    Ok(())
+}
+
+fn refused_with(alloc: Global, refusal: Refusal) -> Result<String, AllocError> {
+    let none: [String; 0] = [];
+    refusal_text(alloc, none.as_slice(), &refusal)
+}
+
+#[test]
+fn refusals_of_serve(rt: HostRuntime) -> Result<(), Fail> {
+    let alloc = rt.alloc();
+    let bays = Refusal::Limits {
+        option: Ranged::Bays,
+        number: 65,
+    };
+    let text = refused_with(alloc, bays)?;
+    assert_eq!(rt; text.as_str(), "--bays=65: not in 1..64");
+    let listen = Refusal::Listen(Text::copy_of(alloc, ":80")?);
+    let text = refused_with(alloc, listen)?;
+    assert_eq!(rt;
+        text.as_str(),
+        "--listen=:80: not A.B.C.D:PORT or localhost:PORT"
+    );
+    let webhook = Refusal::Webhook(Text::copy_of(alloc, "https://a/")?);
+    let text = refused_with(alloc, webhook)?;
+    assert!(rt;
+        text.as_str()
+            .starts_with("--audit-webhook-url=https://a/: not http ")
+    );
     Ok(())
 }
 
