@@ -1,5 +1,5 @@
 -- What the lane of a sink tells, and what an offer to it does, whatever the sink's mode.
-use Rattle.std.specs.Prelude.{◌≡◌, ℕ, Bool, true, false, List, [], Option, Some, None}
+use Rattle.std.specs.Prelude.{◌≡◌, ℕ, Bool, true, false, List, [], ◌∷◌, Option, Some, None}
 use Rattle.any_lane.specs.declared.lane.AnyLane.{AnyLane}
 use Rattle.any_lane.specs.declared.lane.AnyLane.TheVariants.{Off, Queue, Own}
 use Rattle.front_base.specs.Line.{Line}
@@ -25,11 +25,11 @@ module _ {S R : Type 0} where
   any_bay (Queue lane) = Some (lane_bay lane)
   any_bay (Own lane) = None
 
-  -- the queue that it belongs to
+  -- the queue that it belongs to. A sink of the bay's own has a home that no queue has
   abbrev pub any_home : AnyLane S R → List ℕ
   any_home (Off failed) = []
   any_home (Queue lane) = lane_home lane
-  any_home (Own lane) = []
+  any_home (Own lane) = 0 ∷ []
 
   -- whether a drainer takes its lines from a queue
   abbrev pub any_queued : AnyLane S R → Bool
