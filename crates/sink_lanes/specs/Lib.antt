@@ -1,0 +1,4 @@
+pub mod Lanes
+pub mod Rooms
+pub mod Ends
+pub mod Together
