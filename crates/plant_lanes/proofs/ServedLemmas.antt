@@ -1,0 +1,137 @@
+-- What becomes of the lanes of a sink.
+use Rattle.std.proofs.Common.{◌≡◌, ◌≤◌, ◌+◌, ℕ, zero, suc, List, [], ◌∷◌, length, map, get_or, slice_get, Option, Some, None, IfSome, All, refl, sym, ap, ◌∙◌, subst, arith}
+use Rattle.any_lane.specs.declared.lane.AnyLane.{AnyLane}
+use Rattle.any_lane.specs.declared.lane.AnyLane.TheVariants as lane
+use Rattle.audit_core.specs.declared.sinks.SinkMode.{SinkMode}
+use Rattle.audit_core.specs.declared.sinks.SinkMode.TheVariants.{Off, Batch, Blocking, Strict}
+use Rattle.batch_backend.specs.Batches.{WithinLimits}
+use Rattle.batch_backend.specs.declared.limits.Limits.{Limits}
+use Rattle.plant_lanes.specs.Lanes.{AreShared, AreOwn}
+use Rattle.plant_lanes.specs.Served.{IsDrained, IsOwn, CanAllEnd, AreAllServed}
+use Rattle.queue_drain.specs.Drains.{RanDrain, drain_state}
+use Rattle.queue_drain.specs.declared.drain.QueueDrain.{QueueDrain}
+use Rattle.queue_drain.specs.declared.drain_end.DrainEnd.{DrainEnd}
+use Rattle.role_threads.specs.Lists.{AllPairs, IfBoth}
+use Rattle.shared_queue.specs.Bays.{of_bay}
+use Rattle.shared_queue.specs.Lanes.{lane_accepted}
+use Rattle.shared_queue.specs.declared.lane.QueueLane.{QueueLane}
+use Rattle.sink_lanes.specs.Ends.{CanEnd, Ends, own_parts, queued_part, queued_parts, some_first}
+use Rattle.sink_lanes.specs.Lanes.{own_lane, queue_lane}
+use Rattle.sink_lanes.specs.Together.{SameAny, StayTogether, StaysTogether, ToldQueued}
+use Rattle.sink_lanes.specs.declared.ending.SinkEnd.{SinkEnd}
+use Rattle.truncate_backend.specs.Tries.{Try, lines_of}
+use Rattle.truncate_backend.specs.declared.sink.BatchSink as sinks
+
+pairs_count : {A B : Type 0} (T : A → B → Type 0) (xs : List A) (ys : List B) → AllPairs T xs ys → length ys ≡ length xs
+pairs_count T [] [] p = refl
+pairs_count T [] (y ∷ ys) p = absurd p
+pairs_count T (x ∷ xs) [] p = absurd p
+pairs_count T (x ∷ xs) (y ∷ ys) p = ap suc (pairs_count T xs ys p.1)
+
+image_count : {A B : Type 0} (f : A → B) (ys : List A) → length (map f ys) ≡ length ys
+image_count f [] = refl
+image_count f (y ∷ ys) = ap suc (image_count f ys)
+
+past : {A : Type 0} (xs : List A) (k : ℕ) (d : A) → length xs ≤ k → get_or xs k d ≡ d
+past [] k d h = refl
+past (x ∷ xs) zero d h = absurd (omega arith)
+past (x ∷ xs) (suc k) d h = past xs k d (omega arith)
+
+few_first : {A : Type 0} (o : Option A) (xs : List A) → length (some_first o xs) ≤ length xs + 1
+few_first None xs = omega arith
+few_first (Some x) xs = omega arith
+
+module _ {S R : Type 0} where
+  few_parts : (xs : List (AnyLane S R)) → length (queued_parts xs) ≤ length xs
+  few_parts [] = omega arith
+  few_parts (x ∷ xs) = let a = few_parts xs in let b = few_first (queued_part x) (queued_parts xs) in omega arith
+
+  -- lanes over sinks of their own stay such
+  own_after : (own : List S) (after : List (AnyLane S R)) → AllPairs SameAny (map own_lane own) after → after ≡ map own_lane (own_parts after)
+  own_after [] [] p = refl
+  own_after [] (x ∷ after) p = absurd p
+  own_after (s ∷ own) [] p = absurd p
+  own_after (s ∷ own) (lane.Off failed ∷ after) p = let q = p.0.home in absurd cc
+  own_after (s ∷ own) (lane.Queue l ∷ after) p = let q = p.0.queued in absurd cc
+  own_after (s ∷ own) (lane.Own o ∷ after) p = ap (λ z. lane.Own o ∷ z) (own_after own after p.1)
+
+module _ {S R K : Type 0} (s : sinks.Ghosts S) (stay : StaysTogether S R K s) where
+  -- where there is no drainer, nothing is left of one
+  none_ran : (drain ran : Option (QueueDrain S R K)) → drain ≡ None → IfBoth (RanDrain s) drain ran → ran ≡ None
+  none_ran None None e b = refl
+  none_ran None (Some d) e b = absurd b
+  none_ran (Some d) ran e b = absurd cc
+
+  none_left : (queue : List (QueueLane R)) (ran : Option (QueueDrain S R K)) (o : Option (DrainEnd S K)) → ran ≡ None → Ends s queue ran o → o ≡ None
+  none_left queue None None e x = refl
+  none_left queue None (Some d) e x = absurd x
+  none_left queue (Some d) o e x = absurd cc
+
+  none_ends : (queue : List (QueueLane R)) (ran : Option (QueueDrain S R K)) → ran ≡ None → CanEnd s queue ran
+  none_ends queue ran e = subst (CanEnd s queue) (sym e) tt
+
+  own_served : (bays : ℕ) (before after : List (AnyLane S R)) (drain ran : Option (QueueDrain S R K)) (end : SinkEnd S K)
+      → AreOwn s bays before drain → AllPairs SameAny before after → IfBoth (RanDrain s) drain ran
+      → end.own.items ≡ own_parts after → Ends s (queued_parts after) ran end.drain → IsOwn bays after end
+  own_served bays before after drain ran end a p b o x =
+      let q = subst (λ z. AllPairs SameAny z after) a.lanes_are p in
+      let are = own_after a.own after q in
+      let n = pairs_count SameAny (map own_lane a.own) after q in
+      let m = image_count (own_lane {S = S} {R = R}) a.own in
+      let k = ap length are ∙ image_count (own_lane {S = S} {R = R}) (own_parts after) in
+      record {
+        lanes_are = are ∙ ap (map own_lane) (sym o);
+        count = omega (arith, ap length o, n, m, k, a.count);
+        no_drain = none_left (queued_parts after) ran end.drain (none_ran drain ran a.no_drain b) x;
+      }
+
+  some_drained : (bays capacity : ℕ) (limits : Limits) (allots : List ℕ) (after : List (AnyLane S R)) (ran : Option (QueueDrain S R K))
+      (end : SinkEnd S K) (o : Option (DrainEnd S K)) (d : QueueDrain S R K) → end.drain ≡ o → length allots ≡ bays → length after ≡ bays
+      → IfBoth (RanDrain s) (Some d) ran → StayTogether s capacity allots limits after ran → Ends s (queued_parts after) ran o
+      → IsDrained s bays capacity limits after end
+  some_drained bays capacity limits allots after None end o d e n m b t x = absurd b
+  some_drained bays capacity limits allots after (Some r) end None d e n m b t x = absurd x
+  some_drained bays capacity limits allots after (Some r) end (Some left) d e n m b t x = record {
+    allots = allots;
+    allotted = n;
+    drain = left;
+    drain_is = e;
+    tries = x.tries;
+    told = x.told;
+    accepted = λ bay. subst (λ z. IfSome (slice_get after bay) (ToldQueued s capacity allots bay z)) (x.bays bay) (t.told bay);
+    others = λ bay lt.
+        let few = few_parts after in
+        let same = image_count lane_accepted (queued_parts after) in
+        sym (x.bays bay) ∙ past (map lane_accepted (queued_parts after)) bay [] (omega (arith, few, same, m, lt));
+    within = subst (λ z. All (λ (t : Try). WithinLimits z t.lines) x.tries) t.limits_are x.within;
+    unwritten = x.unwritten;
+    each = x.each;
+    written_is = x.written_is;
+    lost_is = x.lost_is;
+  }
+
+  batch_served : (bays capacity : ℕ) (limits : Limits) (before after : List (AnyLane S R)) (drain ran : Option (QueueDrain S R K)) (end : SinkEnd S K)
+      → AreShared s bays capacity limits before drain → AllPairs SameAny before after → IfBoth (RanDrain s) drain ran
+      → Ends s (queued_parts after) ran end.drain → IsDrained s bays capacity limits after end
+  batch_served bays capacity limits before after drain ran end a p b x =
+      let t = stay capacity a.allots limits before after drain ran a.queued p b in
+      let n = pairs_count SameAny before after p in
+      let m : length before ≡ bays =
+      ap length a.queued.lanes_are ∙ (image_count queue_lane a.queued.queue ∙ (a.queued.new.count ∙ a.count)) in
+      some_drained bays capacity limits a.allots after ran end end.drain a.queued.drained refl a.count (n ∙ m)
+      (subst (λ z. IfBoth (RanDrain s) z ran) a.queued.drain_is b) t x
+
+  pub can_all_end : CanAllEnd S R K s
+  can_all_end Off bays capacity limits before after drain ran a p b = none_ends (queued_parts after) ran (none_ran drain ran a.no_drain b)
+  can_all_end Batch bays capacity limits before after drain ran a p b =
+      (stay capacity a.allots limits before after drain ran a.queued p b).can_end
+  can_all_end Blocking bays capacity limits before after drain ran a p b = none_ends (queued_parts after) ran (none_ran drain ran a.no_drain b)
+  can_all_end Strict bays capacity limits before after drain ran a p b = none_ends (queued_parts after) ran (none_ran drain ran a.no_drain b)
+
+  pub are_all_served : AreAllServed S R K s
+  are_all_served Off bays capacity limits before after drain ran end a p b o x =
+      none_left (queued_parts after) ran end.drain (none_ran drain ran a.no_drain b) x
+  are_all_served Batch bays capacity limits before after drain ran end a p b o x =
+      batch_served bays capacity limits before after drain ran end a p b x
+  are_all_served Blocking bays capacity limits before after drain ran end a p b o x = own_served bays before after drain ran end a p b o x
+  are_all_served Strict bays capacity limits before after drain ran end a p b o x = own_served bays before after drain ran end a p b o x

@@ -1,0 +1,16 @@
+use Rattle.std.proofs.Common.{rules, arith, ap, refl, ◌∙◌, ◌∷◌, [], ◌≤◌, length, length-append}
+use Rattle.shared_queue.specs.declared.making.TheConstants.{MOST_ALLOTTED}
+use Rattle.plant_lanes.proofs.Lists.{all_more}
+use Rattle.plant_lanes.proofs.lanes.ask_allotments.Goals as goal
+
+pub loop-bay-preserved : goal.loop-bay-preserved
+loop-bay-preserved g c =
+    let i = c.loop-bay.invariant in
+    let e = c.push_reserved.ensures in
+    record {
+      count = omega (arith, ap length e.items, length-append c.loop-bay.allots.items (c.allot.result ∷ []), i.count);
+      room = search (rules, e.capacity, i.room);
+      most = all_more (λ n. n ≤ MOST_ALLOTTED) _ _ c.allot.result e.items i.most c.allot.ensures.most;
+      faults = c.allot.ensures.faults ∙ i.faults;
+      due = c.allot.ensures.called.due ∙ i.due;
+    }

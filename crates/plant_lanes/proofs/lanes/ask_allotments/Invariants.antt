@@ -1,0 +1,13 @@
+use Rattle.std.proofs.Common.{◌≡◌, ◌≤◌, length, All}
+use Rattle.std.specs.Prelude.{vec_capacity}
+use Rattle.shared_queue.specs.declared.making.TheConstants.{MOST_ALLOTTED}
+use Rattle.plant_lanes.proofs.lanes.ask_allotments.Given as goal
+
+abbrev pub invariant-loop-bay : goal.invariant-loop-bay
+invariant-loop-bay g l = record {
+  count : length l.allots.items ≡ l.bay;
+  room : l.bays ≤ vec_capacity l.allots;
+  most : All (λ n. n ≤ MOST_ALLOTTED) l.allots.items;
+  faults : (g.P.Plant.tells l.plant).faults ≡ (g.P.Plant.tells l.initial.plant).faults;
+  due : (g.P.Plant.tells l.plant).due ≡ (g.P.Plant.tells l.initial.plant).due;
+}

@@ -1,0 +1,16 @@
+use Rattle.std.proofs.Common.{arith, ap, ◌∙◌, ◌∷◌, [], ◌++◌, length, length-append}
+use Rattle.front_plants.specs.Fresh.{IsNewSink}
+use Rattle.plant_lanes.proofs.Lists.{all_more}
+use Rattle.plant_lanes.proofs.lanes.open_hooks.Goals as goal
+
+pub loop-preserved : goal.loop-preserved
+loop-preserved g c =
+    let i = c.loop.invariant in
+    let e = c.push_reserved.ensures.items ∙ ap (λ l. l ++ c.in_ok-sink.sink ∷ []) c.reserve.ensures.items in
+    let s = c.in_ok-sink.ensures in
+    record {
+      count = omega (arith, ap length e, length-append c.loop.sinks.items (c.in_ok-sink.sink ∷ []), i.count);
+      new = all_more (λ x. IsNewSink (g.P.H.BatchSink.tells x)) _ _ c.in_ok-sink.sink e i.new s.fresh;
+      faults = s.cause ∙ i.faults;
+      due = s.called.due ∙ i.due;
+    }

@@ -1,0 +1,67 @@
+-- What became of the lines that bays offered for a sink, by the sink's mode.
+use Rattle.std.specs.Prelude.{◌≡◌, ◌+◌, ◌≤◌, ◌^◌, ◌-◌, min, ℕ, List, [], map, length, slice_get, Option, Some, None, IfSome, All}
+use Rattle.any_lane.specs.declared.lane.AnyLane.{AnyLane}
+use Rattle.audit_core.specs.declared.sinks.SinkMode.{SinkMode}
+use Rattle.audit_core.specs.declared.sinks.SinkMode.TheVariants.{Off, Batch, Blocking, Strict}
+use Rattle.batch_backend.specs.Batches.{WithinLimits}
+use Rattle.batch_backend.specs.declared.limits.Limits.{Limits}
+use Rattle.plant_lanes.specs.Lanes.{LanesFor}
+use Rattle.queue_drain.specs.Drains.{RanDrain}
+use Rattle.queue_drain.specs.declared.drain.QueueDrain.{QueueDrain}
+use Rattle.queue_drain.specs.declared.drain_end.DrainEnd.{DrainEnd}
+use Rattle.role_threads.specs.Lists.{AllPairs, IfBoth}
+use Rattle.shared_queue.specs.Bays.{of_bay}
+use Rattle.sink_lanes.specs.Ends.{CanEnd, Ends, own_parts, queued_parts}
+use Rattle.sink_lanes.specs.Lanes.{own_lane}
+use Rattle.sink_lanes.specs.Together.{SameAny, ToldQueued}
+use Rattle.sink_lanes.specs.declared.ending.SinkEnd.{SinkEnd}
+use Rattle.truncate_backend.specs.Tries.{Try, lines_of, done_of}
+use Rattle.truncate_backend.specs.declared.sink.BatchSink as sinks
+
+-- Of a sink in batch mode: these tries were made by its one drainer, and are those of the sink where it tells them. Their lines,
+-- joined, have each bay's accepted lines in order, each once, and no line of anybody else. A lane was Full only where its
+-- allotment is spent, or where the queue can be full
+pub record IsDrained {S R K : Type 0} (s : sinks.Ghosts S) (bays capacity : ℕ) (limits : Limits) (lanes : List (AnyLane S R)) (end : SinkEnd S K)
+    : Type 0 where
+  pub allots : List ℕ
+  pub allotted : length allots ≡ bays
+  pub drain : DrainEnd S K
+  pub drain_is : end.drain ≡ Some drain
+  pub tries : List Try
+  pub told : IfSome (s.tells drain.sink).tries (λ own. own ≡ tries)
+  pub accepted : (bay : ℕ) → IfSome (slice_get lanes bay) (ToldQueued s capacity allots bay (of_bay bay (lines_of tries)))
+  pub others : (bay : ℕ) → bays ≤ bay → of_bay bay (lines_of tries) ≡ []
+  pub within : All (λ (t : Try). WithinLimits limits t.lines) tries
+  pub unwritten : ℕ
+  pub each : length (done_of tries) + unwritten ≡ length (lines_of tries)
+  pub written_is : drain.written ≡ min (length (done_of tries)) (2 ^ 64 - 1)
+  pub lost_is : drain.lost ≡ min unwritten (2 ^ 64 - 1)
+
+-- of a sink in the modes blocking and strict: each bay's lane is over the bay's own sink
+pub record IsOwn {S R K : Type 0} (bays : ℕ) (lanes : List (AnyLane S R)) (end : SinkEnd S K) : Type 0 where
+  pub lanes_are : lanes ≡ map own_lane end.own.items
+  pub count : length end.own.items ≡ bays
+  pub no_drain : end.drain ≡ None
+
+module _ {S R K : Type 0} where
+  abbrev pub SinkServed : sinks.Ghosts S → SinkMode → ℕ → ℕ → Limits → List (AnyLane S R) → SinkEnd S K → Type 0
+  SinkServed s Off bays capacity limits lanes end = end.drain ≡ None
+  SinkServed s Batch bays capacity limits lanes end = IsDrained s bays capacity limits lanes end
+  SinkServed s Blocking bays capacity limits lanes end = IsOwn bays lanes end
+  SinkServed s Strict bays capacity limits lanes end = IsOwn bays lanes end
+
+-- lanes that were made for a sink can be taken back, whatever bays offered and the drainer took
+abbrev pub CanAllEnd : (S R K : Type 0) → sinks.Ghosts S → Type 0
+CanAllEnd S R K s =
+    (mode : SinkMode) (bays capacity : ℕ) (limits : Limits) (before after : List (AnyLane S R)) (drain ran : Option (QueueDrain S R K))
+    → LanesFor s mode bays capacity limits before drain → AllPairs SameAny before after → IfBoth (RanDrain s) drain ran
+    → CanEnd s (queued_parts after) ran
+
+-- and what is left of them accounts for all that was accepted
+abbrev pub AreAllServed : (S R K : Type 0) → sinks.Ghosts S → Type 0
+AreAllServed S R K s =
+    (mode : SinkMode) (bays capacity : ℕ) (limits : Limits) (before after : List (AnyLane S R)) (drain ran : Option (QueueDrain S R K))
+    (end : SinkEnd S K)
+    → LanesFor s mode bays capacity limits before drain → AllPairs SameAny before after → IfBoth (RanDrain s) drain ran
+    → end.own.items ≡ own_parts after → Ends s (queued_parts after) ran end.drain
+    → SinkServed s mode bays capacity limits after end

@@ -1,0 +1,131 @@
+// The lanes of all bays for each sink.
+ghost use Rattle.std.specs.Prelude.{◌≡◌, ◌≤◌, IfOk, All, length};
+ghost use Rattle.front_plants.specs.Fresh.{IsNewSink};
+ghost use Rattle.front_plants.specs.Plants.{HasCause};
+ghost use Rattle.plant_lanes.specs.Lanes.{LanesFor};
+ghost use Rattle.plant_lanes.specs.Options.{AreFit};
+ghost use Rattle.shared_queue.specs.declared.making.TheConstants.{MOST_ALLOTTED};
+
+use crate::options::RunOptions;
+use audit_core::SinkMode;
+use front_base::NoMemory;
+use front_plants::{Plant, PlantFail};
+use sink_lanes::{SinkLanes, off_lanes, own_lanes, queued_lanes};
+use std::alloc::Global;
+
+// The allotments of the bays.
+fn ask_allotments<P: Plant>(alloc: Global, plant: &mut P, bays: u16) -> Result<Vec<u64>, NoMemory>
+    ensures count { IfOk result (λ allots. length allots.items ≡ bays) }
+    ensures most { IfOk result (λ allots. All (λ n. n ≤ MOST_ALLOTTED) allots.items) }
+    ensures plant { ((P.tells plant.new).faults ≡ (P.tells plant.old).faults) × ((P.tells plant.new).due ≡ (P.tells plant.old).due) }
+{
+    let mut allots = Vec::with_capacity(alloc, usize::from(bays))?;
+    for bay in 0..bays {
+        allots.push_reserved(plant.allot(bay));
+    }
+    Ok(allots)
+}
+
+// A log for each bay.
+fn open_logs<P: Plant>(
+    alloc: Global,
+    plant: &mut P,
+    options: &RunOptions,
+) -> Result<Vec<P::W>, PlantFail>
+    ensures count { IfOk result (λ sinks. length sinks.items ≡ options.now.bays) }
+    ensures new { IfOk result (λ sinks. All (λ sink. IsNewSink (P.W.tells sink)) sinks.items) }
+    ensures cause { HasCause (P.tells plant.old).faults result (P.tells plant.new).faults }
+    ensures due { (P.tells plant.new).due ≡ (P.tells plant.old).due }
+{
+    let mut sinks = Vec::new(alloc);
+    for _ in 0..options.bays {
+        if sinks.reserve(1).is_err() {
+            return Err(PlantFail::NoMemory);
+        }
+        let sink = plant.log(alloc, options.log_path.as_str())?;
+        sinks.push_reserved(sink);
+    }
+    Ok(sinks)
+}
+
+// A webhook for each bay.
+fn open_hooks<P: Plant>(
+    alloc: Global,
+    plant: &mut P,
+    options: &RunOptions,
+) -> Result<Vec<P::H>, PlantFail>
+    ensures count { IfOk result (λ sinks. length sinks.items ≡ options.now.bays) }
+    ensures new { IfOk result (λ sinks. All (λ sink. IsNewSink (P.H.tells sink)) sinks.items) }
+    ensures cause { HasCause (P.tells plant.old).faults result (P.tells plant.new).faults }
+    ensures due { (P.tells plant.new).due ≡ (P.tells plant.old).due }
+{
+    let mut sinks = Vec::new(alloc);
+    for _ in 0..options.bays {
+        if sinks.reserve(1).is_err() {
+            return Err(PlantFail::NoMemory);
+        }
+        let sink = plant.hook(alloc, options.hook_url.as_str())?;
+        sinks.push_reserved(sink);
+    }
+    Ok(sinks)
+}
+
+/// The lanes for the log, and its drainer in batch mode.
+pub fn log_lanes<P: Plant>(
+    rt: &P::Rt,
+    alloc: Global,
+    plant: &mut P,
+    options: &RunOptions,
+    mode: SinkMode,
+) -> Result<SinkLanes<P::W, P::Rt, P::K>, PlantFail>
+    requires { AreFit options.now }
+    ensures lanes { IfOk result (λ made. LanesFor P.W.BatchSink mode options.now.bays options.now.buffer options.now.limits
+        made.lanes.items made.drain) }
+    ensures cause { HasCause (P.tells plant.old).faults result (P.tells plant.new).faults }
+    ensures due { (P.tells plant.new).due ≡ (P.tells plant.old).due }
+{
+    match mode {
+        SinkMode::Off => Ok(off_lanes(alloc, options.bays)?),
+        SinkMode::Batch => {
+            let allots = ask_allotments(alloc, plant, options.bays)?;
+            let sink = plant.log(alloc, options.log_path.as_str())?;
+            let clock = plant.clock();
+            let (buffer, limits) = (options.buffer, options.limits);
+            Ok(queued_lanes(*rt, alloc, buffer, allots, sink, clock, limits)?)
+        }
+        SinkMode::Blocking | SinkMode::Strict => {
+            let sinks = open_logs(alloc, plant, options)?;
+            Ok(own_lanes(alloc, sinks)?)
+        }
+    }
+}
+
+/// The lanes for the webhook, and its drainer in batch mode.
+pub fn hook_lanes<P: Plant>(
+    rt: &P::Rt,
+    alloc: Global,
+    plant: &mut P,
+    options: &RunOptions,
+    mode: SinkMode,
+) -> Result<SinkLanes<P::H, P::Rt, P::K>, PlantFail>
+    requires { AreFit options.now }
+    ensures lanes { IfOk result (λ made. LanesFor P.H.BatchSink mode options.now.bays options.now.buffer options.now.limits
+        made.lanes.items made.drain) }
+    ensures cause { HasCause (P.tells plant.old).faults result (P.tells plant.new).faults }
+    ensures due { (P.tells plant.new).due ≡ (P.tells plant.old).due }
+{
+    match mode {
+        SinkMode::Off => Ok(off_lanes(alloc, options.bays)?),
+        SinkMode::Batch => {
+            let allots = ask_allotments(alloc, plant, options.bays)?;
+            let sink = plant.hook(alloc, options.hook_url.as_str())?;
+            let clock = plant.clock();
+            let (buffer, limits) = (options.buffer, options.limits);
+            Ok(queued_lanes(*rt, alloc, buffer, allots, sink, clock, limits)?)
+        }
+        SinkMode::Blocking | SinkMode::Strict => {
+            let sinks = open_hooks(alloc, plant, options)?;
+            Ok(own_lanes(alloc, sinks)?)
+        }
+    }
+}
