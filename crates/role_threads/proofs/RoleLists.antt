@@ -71,24 +71,27 @@ module _ {B G H : Type 0} where
   -- one more
   pub added_bay : (xs ys : List (AnyRole B G H)) (b : B) → ys ≡ xs ++ Bay b ∷ []
       → (bays_in ys ≡ bays_in xs ++ b ∷ []) × (logs_in ys ≡ logs_in xs) × (hooks_in ys ≡ hooks_in xs)
-  added_bay xs ys b e =
-      (ap bays_in e ∙ bays_join xs (Bay b ∷ []),
-      ap logs_in e ∙ (logs_join xs (Bay b ∷ []) ∙ append-nil (logs_in xs)),
-      ap hooks_in e ∙ (hooks_join xs (Bay b ∷ []) ∙ append-nil (hooks_in xs)))
+  added_bay xs ys b e = (
+    ap bays_in e ∙ bays_join xs (Bay b ∷ []),
+    ap logs_in e ∙ (logs_join xs (Bay b ∷ []) ∙ append-nil (logs_in xs)),
+    ap hooks_in e ∙ (hooks_join xs (Bay b ∷ []) ∙ append-nil (hooks_in xs)),
+  )
 
   pub added_log : (xs ys : List (AnyRole B G H)) (d : G) → ys ≡ xs ++ Log d ∷ []
       → (bays_in ys ≡ bays_in xs) × (logs_in ys ≡ logs_in xs ++ d ∷ []) × (hooks_in ys ≡ hooks_in xs)
-  added_log xs ys d e =
-      (ap bays_in e ∙ (bays_join xs (Log d ∷ []) ∙ append-nil (bays_in xs)),
-      ap logs_in e ∙ logs_join xs (Log d ∷ []),
-      ap hooks_in e ∙ (hooks_join xs (Log d ∷ []) ∙ append-nil (hooks_in xs)))
+  added_log xs ys d e = (
+    ap bays_in e ∙ (bays_join xs (Log d ∷ []) ∙ append-nil (bays_in xs)),
+    ap logs_in e ∙ logs_join xs (Log d ∷ []),
+    ap hooks_in e ∙ (hooks_join xs (Log d ∷ []) ∙ append-nil (hooks_in xs)),
+  )
 
   pub added_hook : (xs ys : List (AnyRole B G H)) (d : H) → ys ≡ xs ++ Hook d ∷ []
       → (bays_in ys ≡ bays_in xs) × (logs_in ys ≡ logs_in xs) × (hooks_in ys ≡ hooks_in xs ++ d ∷ [])
-  added_hook xs ys d e =
-      (ap bays_in e ∙ (bays_join xs (Hook d ∷ []) ∙ append-nil (bays_in xs)),
-      ap logs_in e ∙ (logs_join xs (Hook d ∷ []) ∙ append-nil (logs_in xs)),
-      ap hooks_in e ∙ hooks_join xs (Hook d ∷ []))
+  added_hook xs ys d e = (
+    ap bays_in e ∙ (bays_join xs (Hook d ∷ []) ∙ append-nil (bays_in xs)),
+    ap logs_in e ∙ (logs_join xs (Hook d ∷ []) ∙ append-nil (logs_in xs)),
+    ap hooks_in e ∙ hooks_join xs (Hook d ∷ []),
+  )
 
   -- no more bays than roles
   pub few_bays : (xs : List (AnyRole B G H)) → length (bays_in xs) ≤ length xs

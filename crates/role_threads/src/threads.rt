@@ -32,11 +32,7 @@ pub fn run_roles<
     B: Role<T> + Drop + Send,
     G: Role<T> + Drop + Send,
     H: Role<T> + Drop + Send,
->(
-    rt: &T,
-    alloc: Global,
-    roles: Roles<B, G, H>,
-) -> Result<Roles<B, G, H>, NoMemory>
+>(rt: &T, alloc: Global, roles: Roles<B, G, H>) -> Result<Roles<B, G, H>, NoMemory>
     ensures { IfOk result (RanAll B.Role.ran G.Role.ran H.Role.ran roles) }
 {
     let bays = roles.bays.len();
