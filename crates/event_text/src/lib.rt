@@ -17,6 +17,3 @@ mod user;
 
 pub use lines::{line, push_line, stripped_line};
 pub use reply::objects_exceed;
-
-#[cfg(test)]
-mod tests;

@@ -29,6 +29,3 @@ pub use omit::Omit;
 pub use policy::{Policy, Rules};
 pub use read::read_policy;
 pub use rule::{GroupResources, Resources, Rule};
-
-#[cfg(test)]
-mod tests;

@@ -26,6 +26,3 @@ pub use laws::{
 pub use parts::{parts_of, split};
 pub use request::{audit_info, info};
 pub use running::long_running;
-
-#[cfg(test)]
-mod tests;

@@ -21,6 +21,3 @@ pub use endpoints::Endpoints;
 pub use fault::{BadEndpoint, EndpointFault};
 pub use laws::keys_tell_services;
 pub use rows::read_endpoints;
-
-#[cfg(test)]
-mod tests;

@@ -23,6 +23,3 @@ pub use record::Record;
 pub use rows::read_tokens;
 pub use tokens::Tokens;
 pub use user::user_of;
-
-#[cfg(test)]
-mod tests;

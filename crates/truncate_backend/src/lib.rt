@@ -34,6 +34,3 @@ pub use outlet::Outlet;
 pub use own::OwnLane;
 pub use sink::BatchSink;
 pub use tries::{SinkFault, TryAnswer, TryNote};
-
-#[cfg(test)]
-mod tests;

@@ -22,6 +22,3 @@ pub use laws::{answers_are_exact, calls_join, one_answer};
 pub use list::{list_head, list_length, list_tail};
 pub use reply::{MOST_INTERIM, Reply};
 pub use webhook::WebhookSink;
-
-#[cfg(test)]
-mod tests;

@@ -2,13 +2,13 @@ ghost use Rattle.std.specs.Prelude.{IfOk};
 ghost use Rattle.std.specs.List.{All};
 ghost use Rattle.front_ports.specs.Memory.{IsUnused};
 
-use crate::{HookFault, WebhookSink, check_url, list_length, read_url};
 use front_base::{Bytes, Line, NoMemory};
 use front_ports::{MemDial, MemLink, Script};
 use serde_json::Value;
 use std::alloc::Global;
 use std::test::Fail;
 use truncate_backend::{BatchSink, MemNotes, NoNotes, SinkFault, TryAnswer, TryNote};
+use webhook_sink::{HookFault, WebhookSink, check_url, list_length, read_url};
 
 const POST: &str =
     "POST /audit?x=1 HTTP/1.1\r\nHost: 127.0.0.1:9400\r\nContent-Type: application/json\r\nContent-Length: 81\r\nConnection: close\r\n\r\n{\"kind\":\"EventList\",\"apiVersion\":\"audit.k8s.io/v1\",\"metadata\":{},\"items\":[{},{}]}";

@@ -1,8 +1,8 @@
-use crate::{TokenFault, Tokens, Who, read_tokens, user_of, who};
 use front_base::{Bytes, MOST_FILE_BYTES, Text, User};
 use http_head::{Head, Header, Headers};
 use std::alloc::{AllocError, Global};
 use std::test::Fail;
+use token_users::{TokenFault, Tokens, Who, read_tokens, user_of, who};
 
 fn text(alloc: Global, text: &str) -> Result<Text, AllocError> {
     Ok(Text::new(String::from_str(alloc, text)?))

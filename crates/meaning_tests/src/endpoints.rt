@@ -1,6 +1,6 @@
-use crate::{BadEndpoint, EndpointFault, Endpoints, read_endpoints};
 use apiservice_rows::ServiceRef;
 use front_base::{Address, MOST_FILE_BYTES, Text};
+use service_endpoints::{BadEndpoint, EndpointFault, Endpoints, read_endpoints};
 use std::alloc::{AllocError, Global};
 use std::test::Fail;
 

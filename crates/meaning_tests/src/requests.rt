@@ -1,5 +1,5 @@
-use crate::{InfoFault, audit_info, info, long_running};
 use front_base::Info;
+use request_info::{InfoFault, audit_info, info, long_running};
 use std::alloc::Global;
 use std::test::Fail;
 

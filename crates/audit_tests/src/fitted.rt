@@ -1,10 +1,10 @@
 ghost use Rattle.std.specs.Prelude.{◌≡◌};
 
-use crate::{Fit, MemNotes, Notes, TryAnswer, TryNote, fit};
 use front_base::{AuditId, Bytes, Level, Line, Moment, NoMemory, Stage, Text, Texts, User};
 use stage_event::Event;
 use std::alloc::Global;
 use std::test::Fail;
+use truncate_backend::{Fit, MemNotes, Notes, TryAnswer, TryNote, fit};
 
 fn nobody(alloc: Global) -> Result<User, NoMemory> {
     Ok(User {

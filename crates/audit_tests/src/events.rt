@@ -1,7 +1,7 @@
-use crate::{
+use front_base::{AuditId, Bytes, Info, Level, Moment, NoMemory, Stage, Text, Texts, User};
+use stage_event::{
     Event, Facts, Kept, MOST_KEPT_BYTES, event_at, event_from, kept, reply_due, request_due,
 };
-use front_base::{AuditId, Bytes, Info, Level, Moment, NoMemory, Stage, Text, Texts, User};
 use std::alloc::Global;
 use std::test::Fail;
 

@@ -1,5 +1,5 @@
-use super::*;
 use front_base::{Info, MOST_FILE_BYTES, NoMemory, Text, Texts, User};
+use policy_rules::{Decision, Omit, Policy, PolicyFault, decide, read_policy};
 use std::alloc::{AllocError, Global};
 use std::test::Fail;
 
