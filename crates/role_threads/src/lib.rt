@@ -11,3 +11,6 @@ mod threads;
 
 pub use role::{Role, Roles};
 pub use threads::run_roles;
+
+#[cfg(test)]
+mod tests;
