@@ -15,6 +15,7 @@ use Rattle.token_users.specs.Who.{who, user_of}
 use Rattle.token_users.specs.declared.asker.Who.{Who}
 use Rattle.token_users.specs.declared.asker.Who.TheVariants.{Known, Anonymous, BadToken}
 use Rattle.audit_core.specs.Route.{Route, route_of}
+use Rattle.audit_core.specs.Unread.{is_unread}
 use Rattle.audit_core.specs.declared.errand.Errand.{Errand}
 use Rattle.audit_core.specs.declared.errand.Errand.TheVariants as errand
 use Rattle.audit_core.specs.declared.settings.Settings.{Settings}
@@ -38,6 +39,10 @@ info_in r = audit_info r.head.method r.head.target
 abbrev pub is_refused : Result Info InfoFault → Bool
 is_refused (Ok info) = false
 is_refused (Err fault) = true
+
+-- that, or it asks for less than is read of it
+abbrev pub is_bad : Request → Bool
+is_bad r = is_refused (info_of r.head.method r.head.target) || is_unread (info_in r).path r.head.target
 
 -- its token is nobody's
 abbrev pub is_unknown : Who → Bool
@@ -63,8 +68,8 @@ path_errand info method body user None = route_errand (route_of info.path)
 
 -- the first that stands in the way of a request, and otherwise what its path names
 abbrev pub first_errand : Bool → Bool → Bool → Errand → Errand
-first_errand refused unknown unserved own =
-    if refused then errand.Refuse 400
+first_errand bad unknown unserved own =
+    if bad then errand.Refuse 400
     else if unknown then errand.Refuse 401
     else if unserved then errand.Refuse 501
     else own
@@ -72,7 +77,7 @@ first_errand refused unknown unserved own =
 unfoldable pub errand_in : Settings → Request → Errand
 errand_in set r =
     first_errand
-    (is_refused (info_of r.head.method r.head.target))
+    (is_bad r)
     (is_unknown (asker set r))
     (list_any is_unserved r.head.headers)
     (path_errand (info_in r) r.head.method r.body (user_in set r) (local_of (info_in r).path))

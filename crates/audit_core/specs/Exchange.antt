@@ -11,14 +11,13 @@ use Rattle.http_head.specs.Name.{first_value}
 use Rattle.http_head.specs.declared.header.Header.{Header}
 use Rattle.policy_rules.specs.Policy.{first}
 use Rattle.policy_rules.specs.declared.decision.Decision.{Decision}
-use Rattle.request_info.specs.Request.{info_of}
 use Rattle.stage_event.specs.Due.{request_due, reply_due}
 use Rattle.stage_event.specs.Kept.{IsKept}
 use Rattle.stage_event.specs.declared.facts.Facts.{Facts}
 use Rattle.stage_event.specs.declared.facts.Kept.{Kept}
 use Rattle.stage_event.specs.declared.facts.Kept.TheVariants.{NotAsked}
 use Rattle.audit_core.specs.Answer.{status_of, body_of}
-use Rattle.audit_core.specs.Errand.{user_in, info_in, is_refused, errand_in}
+use Rattle.audit_core.specs.Errand.{user_in, info_in, is_bad, errand_in}
 use Rattle.audit_core.specs.Routing.{Decides}
 use Rattle.audit_core.specs.declared.answered.Answered.{Answered}
 use Rattle.audit_core.specs.declared.judged.Asked.{Asked}
@@ -96,7 +95,7 @@ Settles set stamp r note body opening seen own new_seen new_own x =
 
 abbrev pub IsAsked : Request → Asked → Type 0
 IsAsked r asked =
-    (asked.info ≡ info_in r) × (asked.refused ≡ is_refused (info_of r.head.method r.head.target))
+    (asked.info ≡ info_in r) × (asked.refused ≡ is_bad r)
 
 abbrev pub IsJudged : Settings → Request → Judged → Type 0
 IsJudged set r judged =

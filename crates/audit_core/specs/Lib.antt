@@ -5,3 +5,4 @@ pub mod Offers
 pub mod Owed
 pub mod Route
 pub mod Routing
+pub mod Unread

@@ -8,6 +8,7 @@ ghost use Rattle.audit_core.specs.Exchange.{IsAsked, IsJudged};
 
 use crate::errand::{Errand, path_errand};
 use crate::settings::Settings;
+use crate::unread::is_unread;
 use front_base::{Info, NoMemory, User};
 use http_edge::Request;
 use http_head::Header;
@@ -17,7 +18,7 @@ use request_info::{InfoFault, audit_info, info};
 use std::alloc::Global;
 use token_users::{Who, who};
 
-/// What a request asks for, and whether its target is refused.
+/// What a request asks for, and whether that alone is refused: its target, or a selector that isn't read.
 #[derive(Debug, Drop)]
 pub struct Asked {
     pub info: Info,
@@ -42,10 +43,10 @@ fn ask(alloc: Global, request: &Request) -> Result<Asked, NoMemory>
     let method = request.head.method.as_str();
     let target = request.head.target.as_str();
     match info(alloc, method, target) {
-        Ok(info) => Ok(Asked {
-            info,
-            refused: false,
-        }),
+        Ok(info) => {
+            let refused = is_unread(alloc, info.path.as_str(), target)?;
+            Ok(Asked { info, refused })
+        }
         Err(InfoFault::BadTarget) => refused(alloc, method, target),
         Err(InfoFault::NoKind) => refused(alloc, method, target),
         Err(InfoFault::NoMemory) => Err(NoMemory),

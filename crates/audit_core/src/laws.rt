@@ -1,9 +1,8 @@
-ghost use Rattle.std.specs.Prelude.{◌≡◌, ◌≤◌, Result, Ok, Err, List, [], ℕ, true, false, length};
+ghost use Rattle.std.specs.Prelude.{◌≡◌, ◌≤◌, Result, Err, List, [], ℕ, true, false, length};
 ghost use Rattle.std.specs.List.{AllByRecursion};
 ghost use Rattle.std.specs.List.{list_any};
 ghost use Rattle.apiservice_rows.specs.Row.{Row};
 ghost use Rattle.apiservice_table.specs.Changes.{placed, rows_of, Story};
-ghost use Rattle.front_base.specs.declared.info.Info.{Info};
 ghost use Rattle.front_base.specs.declared.level.Level.TheVariants as level;
 ghost use Rattle.http_edge.specs.declared.request.Request.{Request};
 ghost use Rattle.request_info.specs.Request.{info_of};
@@ -24,20 +23,21 @@ ghost use Rattle.audit_core.specs.declared.routed.Handling.{Handling};
 ghost use Rattle.audit_core.specs.declared.routed.Routed.{Routed};
 ghost use Rattle.audit_core.specs.declared.settings.Settings.{Settings};
 ghost use Rattle.audit_core.specs.declared.stamp.Stamp.{Stamp};
+ghost use Rattle.audit_core.specs.Unread.{is_unread};
 
 use stage_event::levels_hide;
 use truncate_backend::what_fits;
 
-/// A target that is refused counts before the token, an unknown token before the headers that ask for what isn't served,
-/// and these before the path.
+/// A target that is refused, or a selector on APIServices, counts before the token, an unknown token before the headers that ask for
+/// what isn't served, and these before the path.
 pub fn refusals_come_in_order()
     ensures target { (set : Settings) (r : Request) (fault : InfoFault)
         → info_of r.head.method r.head.target ≡ Err fault → errand.errand_in set r ≡ want.Refuse 400 }
-    ensures token { (set : Settings) (r : Request) (info : Info)
-        → info_of r.head.method r.head.target ≡ Ok info → errand.asker set r ≡ who.BadToken
+    ensures selection { (set : Settings) (r : Request) → is_unread (errand.info_in r).path r.head.target ≡ true
+        → errand.errand_in set r ≡ want.Refuse 400 }
+    ensures token { (set : Settings) (r : Request) → errand.is_bad r ≡ false → errand.asker set r ≡ who.BadToken
         → errand.errand_in set r ≡ want.Refuse 401 }
-    ensures header { (set : Settings) (r : Request) (info : Info)
-        → info_of r.head.method r.head.target ≡ Ok info → errand.is_unknown (errand.asker set r) ≡ false
+    ensures header { (set : Settings) (r : Request) → errand.is_bad r ≡ false → errand.is_unknown (errand.asker set r) ≡ false
         → list_any errand.is_unserved r.head.headers ≡ true → errand.errand_in set r ≡ want.Refuse 501 }
 {}
 

@@ -25,6 +25,7 @@ mod settings;
 mod settling;
 mod sinks;
 mod stamp;
+mod unread;
 
 pub use answer::{kept_answer, status_of};
 pub use answered::Answered;

@@ -10,7 +10,7 @@ use Rattle.apiservice_table.specs.declared.change.Change.{Change}
 use Rattle.apiservice_table.specs.declared.change.Change.TheVariants.{Create, Replace, Delete}
 use Rattle.apiservice_table.specs.declared.change.ChangeFault.{ChangeFault}
 use Rattle.apiservice_table.specs.declared.change.ChangeFault.TheVariants.{Exists, Missing, Full, NoMemory}
-use Rattle.audit_core.specs.Errand.{errand_in, first_errand, path_errand, route_errand, is_refused, is_unknown, is_unserved, asker, info_in, user_in}
+use Rattle.audit_core.specs.Errand.{errand_in, first_errand, path_errand, route_errand, is_bad, is_unknown, is_unserved, asker, info_in, user_in}
 use Rattle.audit_core.specs.Route.{Route, route_of}
 use Rattle.audit_core.specs.Routing.{handling_of, api_of, backend_of, service_at, delegate_at}
 use Rattle.audit_core.specs.declared.errand.Errand.{Errand}
@@ -30,7 +30,6 @@ use Rattle.local_replies.specs.declared.errand.LocalErrand.{LocalErrand}
 use Rattle.local_replies.specs.declared.errand.LocalErrand.TheVariants.{Deny, Look, Write}
 use Rattle.local_replies.specs.declared.local.Local.{Local}
 use Rattle.local_replies.specs.declared.local.Local.TheVariants.{Health, GroupList, OneGroup, ResourceList, AllServices, OneService, Unserved}
-use Rattle.request_info.specs.Request.{info_of}
 use Rattle.service_endpoints.specs.Find.{endpoint_of}
 use Rattle.service_endpoints.specs.declared.endpoint.Endpoint.{Endpoint}
 
@@ -102,7 +101,7 @@ first_by false false false own h = h
 pub errand_final : (set : Settings) (r : Request) → IsFinalErrand (errand_in set r)
 unfolding errand_in
 errand_final set r =
-    first_by (is_refused (info_of r.head.method r.head.target)) (is_unknown (asker set r)) (list_any is_unserved r.head.headers) _
+    first_by (is_bad r) (is_unknown (asker set r)) (list_any is_unserved r.head.headers) _
     (path_by (info_in r) r.head.method r.body (user_in set r) (local_of (info_in r).path))
 
 -- ---- replies

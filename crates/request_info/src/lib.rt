@@ -13,6 +13,7 @@ mod parts;
 mod request;
 mod resource;
 mod running;
+mod selection;
 mod target;
 mod verb;
 mod watch;
@@ -26,3 +27,4 @@ pub use laws::{
 pub use parts::{parts_of, split};
 pub use request::{audit_info, info};
 pub use running::long_running;
+pub use selection::asks_selection;
