@@ -1,9 +1,10 @@
 -- Which steps look the same, and which don't.
-use Rattle.std.proofs.Common.{◌≡◌, ◌≢◌, ℕ, Bool, true, false, ◌&&◌, List, [], Option, Some, None, refl, ap, sym, ◌∙◌}
+use Rattle.std.proofs.Common.{◌≡◌, ◌≢◌, ℕ, Bool, true, false, ◌&&◌, ◌||◌, List, [], Option, Some, None, refl, ap, sym, ◌∙◌}
 use Rattle.std.specs.Prelude.{codes, bytes_eq}
 use Rattle.std.specs.List.{list_any}
 use Rattle.apiservice_table.specs.declared.change.Change.{Change}
 use Rattle.audit_core.specs.Answer.{link_status}
+use Rattle.audit_core.specs.Unread.{is_unread}
 use Rattle.audit_core.specs.Errand.{errand_in, info_in, user_in, first_errand, path_errand, route_errand, is_refused, is_unknown, is_unserved}
 use Rattle.audit_core.specs.Exchange.{decision_in, agent_in}
 use Rattle.audit_core.specs.Route.{route_of}
@@ -191,7 +192,7 @@ metadata_alike setup s t bay moment peer r q h e l =
 head_errand : Settings → Head → Errand
 head_errand set head =
     first_errand
-    (is_refused (info_of head.method head.target))
+    (is_refused (info_of head.method head.target) || is_unread (head_info head).path head.target)
     (is_unknown (who set.tokens head))
     (list_any is_unserved head.headers)
     (route_errand (route_of (head_info head).path))
@@ -203,7 +204,7 @@ wants_by_head : (set : Settings) (r : Request) → head_local r.head ≡ None �
 unfolding errand_in head_errand head_local head_info user_in info_in
 wants_by_head set r e =
     ap
-    (λ local. first_errand (is_refused (info_of r.head.method r.head.target)) (is_unknown (who set.tokens r.head)) (list_any is_unserved r.head.headers) (path_errand (audit_info r.head.method r.head.target) r.head.method r.body (user_of (who set.tokens r.head)) local))
+    (λ local. first_errand (is_refused (info_of r.head.method r.head.target) || is_unread (audit_info r.head.method r.head.target).path r.head.target) (is_unknown (who set.tokens r.head)) (list_any is_unserved r.head.headers) (path_errand (audit_info r.head.method r.head.target) r.head.method r.body (user_of (who set.tokens r.head)) local))
     e
 
 pub apis_alike : (setup : Setup) (r q : Request) → r.head ≡ q.head → local_of (info_in r).path ≡ None

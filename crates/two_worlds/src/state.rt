@@ -49,7 +49,7 @@ pub struct SinkState {
     pub own_tries: Items<Items<Try>>,
 }
 
-/// An event that a sink is due and was not offered yet, with what is written of it.
+/// An event that a sink is due and was not offered yet, with what is written of it: at most `MOST_LINE_BYTES` bytes.
 #[derive(Drop)]
 pub struct Waiting {
     pub sink: Sink,
@@ -59,10 +59,13 @@ pub struct Waiting {
 
 impl Model for Waiting {
     ghost use Rattle.audit_core.specs.Offers as seen;
+    ghost use Rattle.event_offers.specs.Offering.{IsShort};
 
     ghost Value = { seen.Due };
 
     ghost view = { λ w. record { sink = w.sink; stage = w.stage; fit = w.fit } };
+
+    ghost invariant = { λ w. IsShort w.fit };
 }
 
 /// What is known of a request, its answer and its offers.
