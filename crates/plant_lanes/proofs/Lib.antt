@@ -1,2 +1,3 @@
+mod CallLemmas
 mod Lists
 mod ServedLemmas

@@ -1,3 +1,4 @@
+pub mod Calls
 pub mod Lanes
 pub mod Options
 pub mod Served

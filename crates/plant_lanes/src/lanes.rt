@@ -1,10 +1,13 @@
 // The lanes of all bays for each sink.
-ghost use Rattle.std.specs.Prelude.{◌≡◌, ◌≤◌, IfOk, All, length};
+ghost use Rattle.std.specs.Prelude.{◌≡◌, ◌≤◌, IfOk, All, length, replicate};
 ghost use Rattle.front_plants.specs.Fresh.{IsNewSink};
 ghost use Rattle.front_plants.specs.Plants.{HasCause};
+ghost use Rattle.front_plants.specs.declared.call.PlantCall.TheVariants as calls;
+ghost use Rattle.plant_lanes.specs.Calls.{CalledFor, allot_calls};
 ghost use Rattle.plant_lanes.specs.Lanes.{LanesFor};
 ghost use Rattle.plant_lanes.specs.Options.{AreFit};
 ghost use Rattle.shared_queue.specs.declared.making.TheConstants.{MOST_ALLOTTED};
+ghost use Rattle.truncate_backend.specs.Told.{Joined};
 
 use crate::options::RunOptions;
 use audit_core::SinkMode;
@@ -18,6 +21,7 @@ fn ask_allotments<P: Plant>(alloc: Global, plant: &mut P, bays: u16) -> Result<V
     ensures count { IfOk result (λ allots. length allots.items ≡ bays) }
     ensures most { IfOk result (λ allots. All (λ n. n ≤ MOST_ALLOTTED) allots.items) }
     ensures plant { ((P.tells plant.new).faults ≡ (P.tells plant.old).faults) × ((P.tells plant.new).due ≡ (P.tells plant.old).due) }
+    ensures called { IfOk result (λ allots. Joined (P.tells plant.old).made (allot_calls 0 allots.items) (P.tells plant.new).made) }
 {
     let mut allots = Vec::with_capacity(alloc, usize::from(bays))?;
     for bay in 0..bays {
@@ -34,6 +38,8 @@ fn open_logs<P: Plant>(
 ) -> Result<Vec<P::W>, PlantFail>
     ensures count { IfOk result (λ sinks. length sinks.items ≡ options.now.bays) }
     ensures new { IfOk result (λ sinks. All (λ sink. IsNewSink (P.W.tells sink)) sinks.items) }
+    ensures called { IfOk result (λ sinks. Joined (P.tells plant.old).made (replicate options.now.bays (calls.Log options.now.log_path))
+        (P.tells plant.new).made) }
     ensures cause { HasCause (P.tells plant.old).faults result (P.tells plant.new).faults }
     ensures due { (P.tells plant.new).due ≡ (P.tells plant.old).due }
 {
@@ -56,6 +62,8 @@ fn open_hooks<P: Plant>(
 ) -> Result<Vec<P::H>, PlantFail>
     ensures count { IfOk result (λ sinks. length sinks.items ≡ options.now.bays) }
     ensures new { IfOk result (λ sinks. All (λ sink. IsNewSink (P.H.tells sink)) sinks.items) }
+    ensures called { IfOk result (λ sinks. Joined (P.tells plant.old).made (replicate options.now.bays (calls.Hook options.now.hook_url))
+        (P.tells plant.new).made) }
     ensures cause { HasCause (P.tells plant.old).faults result (P.tells plant.new).faults }
     ensures due { (P.tells plant.new).due ≡ (P.tells plant.old).due }
 {
@@ -81,6 +89,8 @@ pub fn log_lanes<P: Plant>(
     requires { AreFit options.now }
     ensures lanes { IfOk result (λ made. LanesFor P.W.BatchSink mode options.now.bays options.now.buffer options.now.limits
         made.lanes.items made.drain) }
+    ensures called { IfOk result (λ made. CalledFor (calls.Log options.now.log_path) options.now.bays mode
+        (P.tells plant.old).made (P.tells plant.new).made) }
     ensures cause { HasCause (P.tells plant.old).faults result (P.tells plant.new).faults }
     ensures due { (P.tells plant.new).due ≡ (P.tells plant.old).due }
 {
@@ -111,6 +121,8 @@ pub fn hook_lanes<P: Plant>(
     requires { AreFit options.now }
     ensures lanes { IfOk result (λ made. LanesFor P.H.BatchSink mode options.now.bays options.now.buffer options.now.limits
         made.lanes.items made.drain) }
+    ensures called { IfOk result (λ made. CalledFor (calls.Hook options.now.hook_url) options.now.bays mode
+        (P.tells plant.old).made (P.tells plant.new).made) }
     ensures cause { HasCause (P.tells plant.old).faults result (P.tells plant.new).faults }
     ensures due { (P.tells plant.new).due ≡ (P.tells plant.old).due }
 {

@@ -14,5 +14,5 @@ mod laws;
 mod options;
 
 pub use lanes::{hook_lanes, log_lanes};
-pub use laws::lanes_are_served;
+pub use laws::{calls_join, lanes_are_served};
 pub use options::RunOptions;

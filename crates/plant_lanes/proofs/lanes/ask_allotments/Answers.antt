@@ -1,5 +1,7 @@
 use Rattle.std.proofs.Common.{rules, arith, ap, refl, ◌∙◌, ◌∷◌, [], ◌≤◌, length, length-append}
 use Rattle.shared_queue.specs.declared.making.TheConstants.{MOST_ALLOTTED}
+use Rattle.plant_lanes.specs.Calls.{allot_calls}
+use Rattle.plant_lanes.proofs.CallLemmas.{joins_as, allot_more}
 use Rattle.plant_lanes.proofs.Lists.{all_more}
 use Rattle.plant_lanes.proofs.lanes.ask_allotments.Goals as goal
 
@@ -12,5 +14,7 @@ loop-bay-preserved g c =
       room = search (rules, e.capacity, i.room);
       most = all_more (λ n. n ≤ MOST_ALLOTTED) _ _ c.allot.result e.items i.most c.allot.ensures.most;
       faults = c.allot.ensures.faults ∙ i.faults;
+      made = joins_as _ _ _ _ _ _ i.made c.allot.ensures.called.made
+          (ap (allot_calls 0) e.items ∙ allot_more 0 c.loop-bay.bay c.loop-bay.allots.items c.allot.result (omega (arith, i.count)));
       due = c.allot.ensures.called.due ∙ i.due;
     }

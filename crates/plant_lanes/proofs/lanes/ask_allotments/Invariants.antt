@@ -1,6 +1,8 @@
 use Rattle.std.proofs.Common.{◌≡◌, ◌≤◌, length, All}
 use Rattle.std.specs.Prelude.{vec_capacity}
 use Rattle.shared_queue.specs.declared.making.TheConstants.{MOST_ALLOTTED}
+use Rattle.plant_lanes.specs.Calls.{allot_calls}
+use Rattle.truncate_backend.specs.Told.{Joined}
 use Rattle.plant_lanes.proofs.lanes.ask_allotments.Given as goal
 
 abbrev pub invariant-loop-bay : goal.invariant-loop-bay
@@ -9,5 +11,6 @@ invariant-loop-bay g l = record {
   room : l.bays ≤ vec_capacity l.allots;
   most : All (λ n. n ≤ MOST_ALLOTTED) l.allots.items;
   faults : (g.P.Plant.tells l.plant).faults ≡ (g.P.Plant.tells l.initial.plant).faults;
+  made : Joined (g.P.Plant.tells l.initial.plant).made (allot_calls 0 l.allots.items) (g.P.Plant.tells l.plant).made;
   due : (g.P.Plant.tells l.plant).due ≡ (g.P.Plant.tells l.initial.plant).due;
 }

@@ -1,5 +1,8 @@
-use Rattle.std.proofs.Common.{arith, ap, ◌∙◌, ◌∷◌, [], ◌++◌, length, length-append}
+use Rattle.std.proofs.Common.{arith, ap, sym, ◌∙◌, ◌∷◌, [], ◌++◌, length, length-append}
+use Rattle.std.specs.Prelude.{replicate}
 use Rattle.front_plants.specs.Fresh.{IsNewSink}
+use Rattle.front_plants.specs.declared.call.PlantCall.TheVariants.{Hook}
+use Rattle.plant_lanes.proofs.CallLemmas.{joins_as, replicate_next}
 use Rattle.plant_lanes.proofs.Lists.{all_more}
 use Rattle.plant_lanes.proofs.lanes.open_hooks.Goals as goal
 
@@ -12,5 +15,7 @@ loop-preserved g c =
       count = omega (arith, ap length e, length-append c.loop.sinks.items (c.in_ok-sink.sink ∷ []), i.count);
       new = all_more (λ x. IsNewSink (g.P.H.BatchSink.tells x)) _ _ c.in_ok-sink.sink e i.new s.fresh;
       faults = s.cause ∙ i.faults;
+      made = joins_as _ _ _ _ _ _ i.made s.called.made
+          (replicate_next c.loop.counter (Hook c.args.options.now.hook_url) ∙ ap (λ p. replicate c.loop.counter (Hook c.args.options.now.hook_url) ++ Hook p ∷ []) (sym c.as_str.ensures));
       due = s.called.due ∙ i.due;
     }

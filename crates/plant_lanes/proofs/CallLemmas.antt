@@ -1,0 +1,77 @@
+-- Calls one after another.
+use Rattle.std.proofs.Common.{◌≡◌, ◌+◌, ℕ, zero, suc, List, [], ◌∷◌, ◌++◌, length, Option, Some, None, refl, sym, ap, subst, ◌∙◌, append_assoc, append-nil, arith, ◌⊎◌, inl, inr}
+use Rattle.std.specs.Prelude.{replicate}
+use Rattle.std.proofs.lemmas.List.{length-replicate}
+use Rattle.audit_core.specs.declared.sinks.SinkMode.{SinkMode}
+use Rattle.audit_core.specs.declared.sinks.SinkMode.TheVariants.{Off, Batch, Blocking, Strict}
+use Rattle.front_plants.specs.declared.call.PlantCall.{PlantCall}
+use Rattle.front_plants.specs.declared.call.PlantCall.TheVariants.{Allot, Clock}
+use Rattle.front_ports.specs.Told.{Grows}
+use Rattle.plant_lanes.specs.Calls.{allot_calls, sink_calls, CalledFor}
+use Rattle.truncate_backend.specs.Told.{Joined}
+
+module _ {T : Type 0} where
+  grows_join : (a b c : Option (List T)) (xs ys : List T) → Grows a b xs → Grows b c ys → Grows a c (xs ++ ys)
+  grows_join None b c xs ys p q = subst (λ z. Grows z c ys) p q
+  grows_join (Some w) None c xs ys p q = subst (λ z. Grows (Some w) z (xs ++ ys)) (sym q) tt
+  grows_join (Some w) (Some v) None xs ys p q = tt
+  grows_join (Some w) (Some v) (Some u) xs ys p q = q ∙ (ap (λ l. l ++ ys) p ∙ append_assoc w xs ys)
+
+  grows_none : (a : Option (List T)) → Grows a a []
+  grows_none None = refl
+  grows_none (Some w) = sym (append-nil w)
+
+  pub joins : (a b c : Option (List T)) (xs ys : List T) → Joined a xs b → Joined b ys c → Joined a (xs ++ ys) c
+  joins a b c xs ys p q = record { grows = grows_join a b c xs ys p.grows q.grows }
+
+  pub joins_none : (a : Option (List T)) → Joined a [] a
+  joins_none a = record { grows = grows_none a }
+
+  -- one more
+  pub joins_as : (a b c : Option (List T)) (xs ys zs : List T) → Joined a xs b → Joined b ys c → zs ≡ xs ++ ys → Joined a zs c
+  joins_as a b c xs ys zs p q e = subst (λ l. Joined a l c) (sym e) (joins a b c xs ys p q)
+
+pub allot_more : (bay m : ℕ) (xs : List ℕ) (n : ℕ) → m ≡ bay + length xs
+    → allot_calls bay (xs ++ n ∷ []) ≡ allot_calls bay xs ++ Allot m n ∷ []
+allot_more bay m [] n e = let f : m ≡ bay = omega arith in ap (λ k. Allot k n ∷ []) (sym f)
+allot_more bay m (x ∷ xs) n e = ap (λ l. Allot bay x ∷ l) (allot_more (suc bay) m xs n (omega arith))
+
+pub replicate_more : {T : Type 0} (n : ℕ) (x : T) → replicate (suc n) x ≡ replicate n x ++ x ∷ []
+replicate_more zero x = refl
+replicate_more (suc n) x = ap (λ l. x ∷ l) (replicate_more n x)
+
+pub replicate_next : {T : Type 0} (n : ℕ) (x : T) → replicate (n + 1) x ≡ replicate n x ++ x ∷ []
+replicate_next n x = let e : n + 1 ≡ suc n = omega arith in ap (λ m. replicate m x) e ∙ replicate_more n x
+
+-- ---- by the sink's mode
+
+pub called_none : (opens : PlantCall) (bays : ℕ) (mode : SinkMode) (a : Option (List PlantCall)) → mode ≡ Off → CalledFor opens bays mode a a
+called_none opens bays mode a e = record {
+  allots = replicate bays 0;
+  count = length-replicate bays 0;
+  made = subst (λ m. Joined a (sink_calls opens bays (replicate bays 0) m) a) (sym e) (joins_none a);
+}
+
+pub called_batch : (opens opened : PlantCall) (bays : ℕ) (mode : SinkMode) (allots : List ℕ) (a b c d : Option (List PlantCall)) → mode ≡ Batch
+    → length allots ≡ bays → Joined a (allot_calls 0 allots) b → Joined b (opened ∷ []) c → Joined c (Clock ∷ []) d → opened ≡ opens
+    → CalledFor opens bays mode a d
+called_batch opens opened bays mode allots a b c d e n p q r o = record {
+  allots = allots;
+  count = n;
+  made = subst (λ m. Joined a (sink_calls opens bays allots m) d) (sym e)
+      (joins a b d (allot_calls 0 allots) (opens ∷ Clock ∷ []) p
+      (subst (λ z. Joined b (z ∷ Clock ∷ []) d) o (joins b c d (opened ∷ []) (Clock ∷ []) q r)));
+}
+
+pub called_own : (opens : PlantCall) (bays : ℕ) (mode : SinkMode) (a b : Option (List PlantCall)) → (mode ≡ Blocking) ⊎ (mode ≡ Strict)
+    → Joined a (replicate bays opens) b → CalledFor opens bays mode a b
+called_own opens bays mode a b (inl e) p = record {
+  allots = replicate bays 0;
+  count = length-replicate bays 0;
+  made = subst (λ m. Joined a (sink_calls opens bays (replicate bays 0) m) b) (sym e) p;
+}
+called_own opens bays mode a b (inr e) p = record {
+  allots = replicate bays 0;
+  count = length-replicate bays 0;
+  made = subst (λ m. Joined a (sink_calls opens bays (replicate bays 0) m) b) (sym e) p;
+}
