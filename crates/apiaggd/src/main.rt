@@ -3,18 +3,28 @@
 #![tactic(auto)]
 
 mod help;
+mod serve;
+mod told;
 
-use help::{EXPLAIN_HELP, HELP, VERSION};
+use help::{EXPLAIN_HELP, HELP, SERVE_HELP, VERSION};
+use proxy_runs::run_configured;
 use proxy_server::{Ended, ReaderSource, Status, SystemFiles, WriterSink, run_desk};
 use refusal_text::Refusal;
+use serve::{Opened, can_serve, open, status_of};
 use std::process::ExitCode;
 use std::{env, io};
+use tcp_plant::TcpPlant;
+use told::say_ended;
 
 fn ended(status: Status, why: Option<Refusal>) -> Ended {
     Ended {
         status: status.code(),
         why,
     }
+}
+
+fn failed(status: Status) -> Ended {
+    ended(status, None)
 }
 
 // The words after the program's name. A word that isn't UTF-8 makes a faulty command line.
@@ -39,7 +49,18 @@ fn answer_to(words: &[String]) -> Option<&'static str> {
         [command, word] if command.as_str() == "explain" && word.as_str() == "--help" => {
             Some(EXPLAIN_HELP)
         }
+        [command, word] if command.as_str() == "serve" && word.as_str() == "--help" => {
+            Some(SERVE_HELP)
+        }
         _ => None,
+    }
+}
+
+// Whether a run over sockets is asked for.
+fn asks_to_serve(words: &[String]) -> bool {
+    match words {
+        [word, ..] => word.as_str() == "serve" && answer_to(words).is_none(),
+        [] => false,
     }
 }
 
@@ -56,15 +77,9 @@ fn run(rt: &HostRuntime, words: &Vec<String>) -> Ended {
     run_desk(rt.alloc(), words, &mut files, &mut input, &mut out)
 }
 
-fn main(rt: HostRuntime) -> ExitCode {
-    let (words, ended) = match words(&rt) {
-        Ok(words) => {
-            let ended = run(&rt, &words);
-            (words, ended)
-        }
-        Err(ended) => (Vec::new(rt.alloc()), ended),
-    };
-    match ended.told(rt.alloc(), words.as_slice()) {
+// Says what there is to say of an end, and gives its status.
+fn finish(rt: &HostRuntime, words: &[String], ended: &Ended) -> ExitCode {
+    match ended.told(rt.alloc(), words) {
         Ok(text) => {
             let _ = eprint!(rt; "{text}");
         }
@@ -73,4 +88,36 @@ fn main(rt: HostRuntime) -> ExitCode {
         }
     }
     ExitCode::from(ended.status)
+}
+
+fn main(rt: HostRuntime) -> ExitCode {
+    let words = match words(&rt) {
+        Ok(words) => words,
+        Err(ended) => return finish(&rt, &[], &ended),
+    };
+    if !asks_to_serve(words.as_slice()) {
+        let ended = run(&rt, &words);
+        return finish(&rt, words.as_slice(), &ended);
+    }
+    let ended = match open(&rt, &rt, &words) {
+        Ok(opened) => {
+            let Opened {
+                words: told,
+                settings,
+                routes,
+                gate,
+            } = opened;
+            let at = gate.address();
+            if !can_serve(&told, &settings, &routes) {
+                failed(Status::Configuration)
+            } else if let Ok(mut plant) = TcpPlant::new(&rt, &gate) {
+                let left = run_configured(&rt, rt.alloc(), &told, settings, at, routes, &mut plant);
+                failed(status_of(say_ended(&rt, &told, left)))
+            } else {
+                failed(Status::PortFault)
+            }
+        }
+        Err(ended) => ended,
+    };
+    finish(&rt, words.as_slice(), &ended)
 }

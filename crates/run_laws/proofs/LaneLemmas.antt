@@ -1,0 +1,216 @@
+-- What the lanes of bays tell.
+use Rattle.std.proofs.Common.{◌≡◌, ◌+◌, ◌≤◌, ◌<◌, ◌-◌, ◌^◌, min, ◌⊎◌, ℕ, zero, suc, List, [], ◌∷◌, ◌++◌, length, map, sum, get_or, slice_get, Option, Some, None, IfSome, Bool, refl, sym, ap, ◌∙◌, subst, arith}
+use Rattle.std.specs.Prelude.{option_map}
+use Rattle.any_lane.specs.Lanes.{any_tells}
+use Rattle.any_lane.specs.declared.lane.AnyLane.{AnyLane}
+use Rattle.any_lane.specs.declared.lane.AnyLane.TheVariants as lane
+use Rattle.audit_core.specs.Offers.{Due}
+use Rattle.audit_core.specs.declared.offers.OfferNote.{OfferNote}
+use Rattle.audit_core.specs.declared.offers.Outcome.{Outcome}
+use Rattle.audit_core.specs.declared.settings.Settings.{Settings}
+use Rattle.audit_core.specs.declared.sinks.Sink.{Sink}
+use Rattle.audit_core.specs.declared.sinks.Sink.TheVariants.{Log, Webhook}
+use Rattle.connection_laws.specs.Whole.{Counts, count_of, is_full, offers_in}
+use Rattle.event_offers.specs.Lanes.{LaneState, LanesState}
+use Rattle.event_offers.specs.Offering.{OffersAll}
+use Rattle.event_offers.specs.Taken.{is_taken, is_tried, lane_of, lines_for}
+use Rattle.front_base.specs.Line.{Line}
+use Rattle.front_ports.specs.Told.{Grows}
+use Rattle.plant_lanes.specs.Served.{IsDrained, IsOwn}
+use Rattle.plant_lanes.specs.declared.options.RunOptions.{RunOptions}
+use Rattle.run_laws.specs.Told.{BatchedLines, BatchesTell, TriedLines, TriesTell}
+use Rattle.run_laws.proofs.TellLemmas.{bay_told}
+use Rattle.serve_roles.specs.Doors.{BayHandles}
+use Rattle.serve_roles.specs.declared.bay_end.BayEnd.{BayEnd}
+use Rattle.serve_runs.specs.Served.{BayServed}
+use Rattle.session_core.specs.declared.exchange.Exchange.{Exchange}
+use Rattle.shared_queue.specs.Bays.{of_bay}
+use Rattle.sink_lanes.specs.Lanes.{own_lane}
+use Rattle.sink_lanes.specs.Together.{ToldQueued}
+use Rattle.sink_lanes.specs.declared.ending.SinkEnd.{SinkEnd}
+use Rattle.truncate_backend.specs.Told.{Joined}
+use Rattle.truncate_backend.specs.Tries.{Try, SinkTells, lines_of}
+use Rattle.truncate_backend.specs.declared.sink.BatchSink as sinks
+
+-- ---- lists that were empty
+
+grows_all : {T : Type 0} (a b : Option (List T)) (more : List T) → IfSome a (λ xs. xs ≡ []) → Grows a b more → IfSome b (λ xs. xs ≡ more)
+grows_all None b more f g = subst (λ z. IfSome z (λ xs. xs ≡ more)) (sym g) tt
+grows_all (Some w) None more f g = tt
+grows_all (Some w) (Some v) more f g = g ∙ ap (λ l. l ++ more) f
+
+-- what is known of a list that is told
+told_is : {T : Type 0} (a : Option (List T)) (xs ys : List T) → IfSome a (λ z. z ≡ ys) → a ≡ Some xs → xs ≡ ys
+told_is a xs ys f e = subst (λ z. IfSome z (λ w. w ≡ ys)) e f
+
+some_at : {A : Type 0} (P : A → Type 0) (o : Option A) (x : A) → IfSome o P → o ≡ Some x → P x
+some_at P o x f e = subst (λ z. IfSome z P) e f
+
+counted_one : (before more after : ℕ) → Counts before more after → 0 < more → 0 < after
+counted_one before more after c p = omega (arith, c, p)
+
+-- the laws that are called
+abbrev Accepts : Type 0
+Accepts = (sink : Sink) (dues : List Due) (m n : LanesState) (notes : List OfferNote)
+    → OffersAll dues m notes n
+    → Joined (lane_of sink m).tells.accepted (lines_for is_taken sink m.bay (lane_of sink m).lines dues notes) (lane_of sink n).tells.accepted
+
+abbrev Tries : Type 0
+Tries = (sink : Sink) (dues : List Due) (m n : LanesState) (notes : List OfferNote)
+    → OffersAll dues m notes n
+    → Joined (lane_of sink m).tells.tried (lines_for is_tried sink m.bay (lane_of sink m).lines dues notes) (lane_of sink n).tells.tried
+
+abbrev Fills : Type 0
+Fills = (sink : Sink) (dues : List Due) (m n : LanesState) (notes : List OfferNote)
+    → OffersAll dues m notes n
+    → Counts (lane_of sink m).tells.fulls (count_of is_full sink notes) (lane_of sink n).tells.fulls
+
+-- the lines of a bay's offers, by its number, from its first line on
+lines_from : (keeps : Outcome → Bool) (sink : Sink) (bay k before : ℕ) (dues : List Due) (notes : List OfferNote) → bay ≡ k → before ≡ 0
+    → lines_for keeps sink bay before dues notes ≡ lines_for keeps sink k 0 dues notes
+lines_from keeps sink bay k before dues notes e f =
+    ap (λ x. lines_for keeps sink x before dues notes) e ∙ ap (λ x. lines_for keeps sink k x dues notes) f
+
+module _ {R L N W H T K Y D C : Type 0} (h : BayHandles R L N W H K Y D C) (set : Settings) (boot : ℕ) (due : ℕ → Option (List C))
+    (tables : List R) (logs : List (AnyLane W T)) (hooks : List (AnyLane H T)) where
+  -- ---- batches
+
+  log_batched : (accepts : Accepts) (fills : Fills) (capacity : ℕ) (allots : List ℕ) (put : List Line) (k : ℕ) (end : BayEnd R L K Y D)
+      (b : BayServed h set boot due tables logs hooks k end) → ToldQueued h.log capacity allots k put b.log
+      → BatchedLines h set Log capacity allots put k end
+  log_batched accepts fills capacity allots put k end b q =
+      let t = b.told in
+      let notes = offers_in b.exchanges in
+      let own = accepts Log t.due b.m.lanes b.n.lanes notes t.offered in
+      let all = grows_all b.m.lanes.log.tells.accepted b.n.lanes.log.tells.accepted _ b.opens.lanes.0.none_accepted own.grows in
+      record {
+        told = bay_told h set boot due tables logs hooks k end b;
+        lines = told_is b.n.lanes.log.tells.accepted put _ all (ap (λ n. n.lanes.log.tells.accepted) b.ends ∙ q.accepted_is)
+            ∙ lines_from is_taken Log b.m.lanes.bay k b.m.lanes.log.lines t.due notes b.opens.bay_is b.opens.lines.0;
+        full = λ some. q.full (subst (λ x. 0 < x) (ap (λ n. n.lanes.log.tells.fulls) b.ends)
+            (counted_one b.m.lanes.log.tells.fulls _ b.n.lanes.log.tells.fulls (fills Log t.due b.m.lanes b.n.lanes notes t.offered) some));
+      }
+
+  hook_batched : (accepts : Accepts) (fills : Fills) (capacity : ℕ) (allots : List ℕ) (put : List Line) (k : ℕ) (end : BayEnd R L K Y D)
+      (b : BayServed h set boot due tables logs hooks k end) → ToldQueued h.hook capacity allots k put b.hook
+      → BatchedLines h set Webhook capacity allots put k end
+  hook_batched accepts fills capacity allots put k end b q =
+      let t = b.told in
+      let notes = offers_in b.exchanges in
+      let own = accepts Webhook t.due b.m.lanes b.n.lanes notes t.offered in
+      let all = grows_all b.m.lanes.hook.tells.accepted b.n.lanes.hook.tells.accepted _ b.opens.lanes.1.none_accepted own.grows in
+      record {
+        told = bay_told h set boot due tables logs hooks k end b;
+        lines = told_is b.n.lanes.hook.tells.accepted put _ all (ap (λ n. n.lanes.hook.tells.accepted) b.ends ∙ q.accepted_is)
+            ∙ lines_from is_taken Webhook b.m.lanes.bay k b.m.lanes.hook.lines t.due notes b.opens.bay_is b.opens.lines.1;
+        full = λ some. q.full (subst (λ x. 0 < x) (ap (λ n. n.lanes.hook.tells.fulls) b.ends)
+            (counted_one b.m.lanes.hook.tells.fulls _ b.n.lanes.hook.tells.fulls (fills Webhook t.due b.m.lanes b.n.lanes notes t.offered) some));
+      }
+
+  map_some : {A : Type 0} (P Q : A → Type 0) (o : Option A) → ((x : A) → P x → Q x) → IfSome o P → IfSome o Q
+  map_some P Q None f p = tt
+  map_some P Q (Some x) f p = f x p
+
+  pub log_batches : (accepts : Accepts) (fills : Fills) (options : RunOptions) (bays : List (BayEnd R L K Y D)) (end : SinkEnd W K)
+      → ((k : ℕ) → IfSome (slice_get bays k) (BayServed h set boot due tables logs hooks k))
+      → IsDrained h.log options.bays options.buffer options.limits logs end → BatchesTell h h.log set Log options bays end
+  log_batches accepts fills options bays end served d = record {
+    allots = d.allots;
+    drain = d.drain;
+    drain_is = d.drain_is;
+    tries = d.tries;
+    told = d.told;
+    within = d.within;
+    each = λ k. map_some (BayServed h set boot due tables logs hooks k)
+        (BatchedLines h set Log options.buffer d.allots (of_bay k (lines_of d.tries)) k) (slice_get bays k)
+        (λ x b. log_batched accepts fills options.buffer d.allots (of_bay k (lines_of d.tries)) k x b
+        (some_at (ToldQueued h.log options.buffer d.allots k (of_bay k (lines_of d.tries))) (slice_get logs k) b.log (d.accepted k) b.log_is))
+        (served k);
+    others = d.others;
+  }
+
+  pub hook_batches : (accepts : Accepts) (fills : Fills) (options : RunOptions) (bays : List (BayEnd R L K Y D)) (end : SinkEnd H K)
+      → ((k : ℕ) → IfSome (slice_get bays k) (BayServed h set boot due tables logs hooks k))
+      → IsDrained h.hook options.bays options.buffer options.limits hooks end → BatchesTell h h.hook set Webhook options bays end
+  hook_batches accepts fills options bays end served d = record {
+    allots = d.allots;
+    drain = d.drain;
+    drain_is = d.drain_is;
+    tries = d.tries;
+    told = d.told;
+    within = d.within;
+    each = λ k. map_some (BayServed h set boot due tables logs hooks k)
+        (BatchedLines h set Webhook options.buffer d.allots (of_bay k (lines_of d.tries)) k) (slice_get bays k)
+        (λ x b. hook_batched accepts fills options.buffer d.allots (of_bay k (lines_of d.tries)) k x b
+        (some_at (ToldQueued h.hook options.buffer d.allots k (of_bay k (lines_of d.tries))) (slice_get hooks k) b.hook (d.accepted k) b.hook_is))
+        (served k);
+    others = d.others;
+  }
+
+  -- ---- tries of a bay's own sink
+
+  own_in : {S : Type 0} (own : List S) (k : ℕ) (l : AnyLane S T) → slice_get (map own_lane own) k ≡ Some l
+      → (to : S) × (slice_get own k ≡ Some to) × (l ≡ own_lane to)
+  own_in [] k l e = absurd cc
+  own_in (s ∷ own) zero l e = (s, refl, cc)
+  own_in (s ∷ own) (suc k) l e = own_in own k l e
+
+  own_at : {S : Type 0} (own : List S) (lanes : List (AnyLane S T)) (k : ℕ) (l : AnyLane S T) → lanes ≡ map own_lane own → slice_get lanes k ≡ Some l
+      → (to : S) × (slice_get own k ≡ Some to) × (l ≡ own_lane to)
+  own_at own lanes k l e f = own_in own k l (sym (ap (λ z. slice_get z k) e) ∙ f)
+
+  tries_told : (tries : Option (List Try)) (ls : List Line) → IfSome (option_map lines_of tries) (λ xs. xs ≡ ls) → IfSome tries (λ ts. lines_of ts ≡ ls)
+  tries_told None ls f = tt
+  tries_told (Some ts) ls f = f
+
+  log_tried : (tries : Tries) (own : List W) (k : ℕ) (end : BayEnd R L K Y D) (b : BayServed h set boot due tables logs hooks k end)
+      → logs ≡ map own_lane own → TriedLines h h.log set Log own k end
+  log_tried tries own k end b e =
+      let t = b.told in
+      let notes = offers_in b.exchanges in
+      let mine = own_at own logs k b.log e b.log_is in
+      let joined = tries Log t.due b.m.lanes b.n.lanes notes t.offered in
+      let all = grows_all b.m.lanes.log.tells.tried b.n.lanes.log.tells.tried _ b.opens.lanes.0.none_tried joined.grows in
+      let at_end = ap (λ n. n.lanes.log.tells.tried) b.ends ∙ ap (λ l. (any_tells h.log l).tried) mine.2 in
+      record {
+        told = bay_told h set boot due tables logs hooks k end b;
+        to = mine.0;
+        to_is = mine.1;
+        lines = tries_told (h.log.tells mine.0).tries _
+            (subst (λ ls. IfSome (option_map lines_of (h.log.tells mine.0).tries) (λ xs. xs ≡ ls))
+            (lines_from is_tried Log b.m.lanes.bay k b.m.lanes.log.lines t.due notes b.opens.bay_is b.opens.lines.0)
+            (subst (λ z. IfSome z (λ xs. xs ≡ lines_for is_tried Log b.m.lanes.bay b.m.lanes.log.lines t.due notes)) at_end all));
+      }
+
+  hook_tried : (tries : Tries) (own : List H) (k : ℕ) (end : BayEnd R L K Y D) (b : BayServed h set boot due tables logs hooks k end)
+      → hooks ≡ map own_lane own → TriedLines h h.hook set Webhook own k end
+  hook_tried tries own k end b e =
+      let t = b.told in
+      let notes = offers_in b.exchanges in
+      let mine = own_at own hooks k b.hook e b.hook_is in
+      let joined = tries Webhook t.due b.m.lanes b.n.lanes notes t.offered in
+      let all = grows_all b.m.lanes.hook.tells.tried b.n.lanes.hook.tells.tried _ b.opens.lanes.1.none_tried joined.grows in
+      let at_end = ap (λ n. n.lanes.hook.tells.tried) b.ends ∙ ap (λ l. (any_tells h.hook l).tried) mine.2 in
+      record {
+        told = bay_told h set boot due tables logs hooks k end b;
+        to = mine.0;
+        to_is = mine.1;
+        lines = tries_told (h.hook.tells mine.0).tries _
+            (subst (λ ls. IfSome (option_map lines_of (h.hook.tells mine.0).tries) (λ xs. xs ≡ ls))
+            (lines_from is_tried Webhook b.m.lanes.bay k b.m.lanes.hook.lines t.due notes b.opens.bay_is b.opens.lines.1)
+            (subst (λ z. IfSome z (λ xs. xs ≡ lines_for is_tried Webhook b.m.lanes.bay b.m.lanes.hook.lines t.due notes)) at_end all));
+      }
+
+  pub log_tries : (tries : Tries) (count : ℕ) (bays : List (BayEnd R L K Y D)) (end : SinkEnd W K)
+      → ((k : ℕ) → IfSome (slice_get bays k) (BayServed h set boot due tables logs hooks k))
+      → IsOwn count logs end → TriesTell h h.log set Log bays end
+  log_tries tries count bays end served o =
+      λ k. map_some (BayServed h set boot due tables logs hooks k) (TriedLines h h.log set Log end.own.items k) (slice_get bays k)
+      (λ x b. log_tried tries end.own.items k x b o.lanes_are) (served k)
+
+  pub hook_tries : (tries : Tries) (count : ℕ) (bays : List (BayEnd R L K Y D)) (end : SinkEnd H K)
+      → ((k : ℕ) → IfSome (slice_get bays k) (BayServed h set boot due tables logs hooks k))
+      → IsOwn count hooks end → TriesTell h h.hook set Webhook bays end
+  hook_tries tries count bays end served o =
+      λ k. map_some (BayServed h set boot due tables logs hooks k) (TriedLines h h.hook set Webhook end.own.items k) (slice_get bays k)
+      (λ x b. hook_tried tries end.own.items k x b o.lanes_are) (served k)

@@ -1,0 +1,66 @@
+-- What a whole run tells of its audit lines (Kubernetes, "Auditing": audit backends).
+use Rattle.std.specs.Prelude.{◌≡◌, ◌<◌, ◌≤◌, ◌+◌, ◌⊎◌, ℕ, List, [], length, sum, get_or, slice_get, Option, Some, IfSome, All}
+use Rattle.audit_core.specs.Offers.{Due}
+use Rattle.audit_core.specs.declared.settings.Settings.{Settings}
+use Rattle.audit_core.specs.declared.sinks.Sink.{Sink}
+use Rattle.batch_backend.specs.Batches.{WithinLimits}
+use Rattle.connection_laws.specs.Whole.{due_in, offers_in, count_of, is_full}
+use Rattle.event_offers.specs.Taken.{is_taken, is_tried, lines_for}
+use Rattle.front_base.specs.Line.{Line}
+use Rattle.plant_lanes.specs.declared.options.RunOptions.{RunOptions}
+use Rattle.queue_drain.specs.declared.drain_end.DrainEnd.{DrainEnd}
+use Rattle.serve_roles.specs.Doors.{BayHandles}
+use Rattle.serve_roles.specs.declared.bay_end.BayEnd.{BayEnd}
+use Rattle.session_core.specs.declared.exchange.Exchange.{Exchange}
+use Rattle.shared_queue.specs.Bays.{of_bay}
+use Rattle.sink_lanes.specs.declared.ending.SinkEnd.{SinkEnd}
+use Rattle.truncate_backend.specs.Tries.{Try, lines_of}
+use Rattle.truncate_backend.specs.declared.sink.BatchSink as sinks
+
+-- A bay numbered these exchanges, which are those of its diary where that is told. This is what their events were due at the sinks,
+-- as far as it was offered: all of it, unless memory ran out within a connection
+pub record BayTold {R L N W H K Y D C : Type 0} (h : BayHandles R L N W H K Y D C) (set : Settings) (end : BayEnd R L K Y D) : Type 0 where
+  pub exchanges : List Exchange
+  pub noted : IfSome (h.diary.notes end.diary) (λ notes. notes ≡ exchanges)
+  pub number_is : end.number ≡ length exchanges
+  pub due : List Due
+  pub whole : end.counts.no_memory ≡ 0 → due_in set exchanges ≡ due
+
+-- ---- a sink in batch mode
+
+-- The lines of a bay that were put are the lines of its offers that were taken, in order. An offer was Full only where these are all of
+-- the bay's allotment, or the capacity is at most these and the allotments of the other bays together
+pub record BatchedLines {R L N W H K Y D C : Type 0} (h : BayHandles R L N W H K Y D C) (set : Settings) (sink : Sink) (capacity : ℕ)
+    (allots : List ℕ) (put : List Line) (bay : ℕ) (end : BayEnd R L K Y D) : Type 0 where
+  pub told : BayTold h set end
+  pub lines : put ≡ lines_for is_taken sink bay 0 told.due (offers_in told.exchanges)
+  pub full : 0 < count_of is_full sink (offers_in told.exchanges)
+      → (length put ≡ get_or allots bay 0) ⊎ (capacity + get_or allots bay 0 ≤ length put + sum allots)
+
+-- Its one drainer made these tries, each within the limits. Their lines, joined, have of each bay what was accepted of it, once and in
+-- order, and no line of anybody else
+pub record BatchesTell {R L N W H K Y D C S : Type 0} (h : BayHandles R L N W H K Y D C) (s : sinks.Ghosts S) (set : Settings) (sink : Sink)
+    (options : RunOptions) (bays : List (BayEnd R L K Y D)) (end : SinkEnd S K) : Type 0 where
+  pub allots : List ℕ
+  pub drain : DrainEnd S K
+  pub drain_is : end.drain ≡ Some drain
+  pub tries : List Try
+  pub told : IfSome (s.tells drain.sink).tries (λ own. own ≡ tries)
+  pub within : All (λ (t : Try). WithinLimits options.limits t.lines) tries
+  pub each : (bay : ℕ) → IfSome (slice_get bays bay)
+      (BatchedLines h set sink options.buffer allots (of_bay bay (lines_of tries)) bay)
+  pub others : (bay : ℕ) → options.bays ≤ bay → of_bay bay (lines_of tries) ≡ []
+
+-- ---- a sink that is written to at once
+
+-- The tries of the bay's own sink have one line each of its offers that were taken or failed, in order
+pub record TriedLines {R L N W H K Y D C S : Type 0} (h : BayHandles R L N W H K Y D C) (s : sinks.Ghosts S) (set : Settings) (sink : Sink)
+    (own : List S) (bay : ℕ) (end : BayEnd R L K Y D) : Type 0 where
+  pub told : BayTold h set end
+  pub to : S
+  pub to_is : slice_get own bay ≡ Some to
+  pub lines : IfSome (s.tells to).tries (λ tries. lines_of tries ≡ lines_for is_tried sink bay 0 told.due (offers_in told.exchanges))
+
+abbrev pub TriesTell : {R L N W H K Y D C S : Type 0} → BayHandles R L N W H K Y D C → sinks.Ghosts S → Settings → Sink
+    → List (BayEnd R L K Y D) → SinkEnd S K → Type 0
+TriesTell h s set sink bays end = (bay : ℕ) → IfSome (slice_get bays bay) (TriedLines h s set sink end.own.items bay)

@@ -1,0 +1,2 @@
+pub mod Bays
+pub mod Calls

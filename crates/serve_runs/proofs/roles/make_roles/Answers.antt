@@ -1,0 +1,83 @@
+use Rattle.std.proofs.Common.{rules, arith, ap, sym, subst, ◌∙◌, ◌≡◌, ◌≤◌, ℕ, List, length, map, slice_get, IfSome, Option}
+use Rattle.std.specs.Arc.{arc_value}
+use Rattle.audit_core.specs.declared.settings.Settings.{Settings}
+use Rattle.front_base.specs.declared.line.TheConstants.{MOST_LINE_BYTES}
+use Rattle.plant_lanes.specs.Lanes.{LanesFor}
+use Rattle.serve_roles.specs.Doors.{bay_handles}
+use Rattle.serve_roles.specs.Ends.{log_lane, hook_lane}
+use Rattle.serve_roles.specs.Ready.{TakesLines}
+use Rattle.serve_bays.specs.Bays.{IsNewBay}
+use Rattle.serve_bays.specs.Calls.{bays_calls}
+use Rattle.truncate_backend.specs.Told.{Joined}
+use Rattle.serve_runs.proofs.RunLemmas.{lanes_take, lanes_count, image_count}
+use Rattle.serve_runs.proofs.roles.make_roles.Goals as goal
+
+pub make_bays-requires-clause-max : goal.make_bays-requires-clause-max
+make_bays-requires-clause-max g c =
+    subst (λ (z : Settings). z.max_event ≤ MOST_LINE_BYTES) (sym c.in_ok-shared.ensures.settings) c.requires.max
+
+pub make_bays-requires-clause-few : goal.make_bays-requires-clause-few
+make_bays-requires-clause-few g c = omega (arith, c.requires.routes, c.requires.options.few)
+
+pub make_bays-requires-clause-counts : goal.make_bays-requires-clause-counts
+make_bays-requires-clause-counts g c =
+    let o = c.args.options.now in
+    let l = c.in_ok-log_side.log_side in
+    let h = c.in_ok-hook_side.hook_side in (
+      lanes_count g.P.W.BatchSink c.args.settings.log o.bays o.buffer o.limits l.lanes.items l.drain c.in_ok-log_side.ensures.lanes ∙ sym c.requires.routes,
+      lanes_count g.P.H.BatchSink c.args.settings.hook o.bays o.buffer o.limits h.lanes.items h.drain c.in_ok-hook_side.ensures.lanes ∙ sym c.requires.routes,
+    )
+
+pub make_bays-requires-clause-logs : goal.make_bays-requires-clause-logs
+make_bays-requires-clause-logs g c = λ k.
+    let o = c.args.options.now in
+    let l = c.in_ok-log_side.log_side in
+    subst (λ (z : Settings). IfSome (slice_get l.lanes.items k) (TakesLines k z.log)) (sym c.in_ok-shared.ensures.settings)
+    (lanes_take g.P.W.BatchSink c.args.settings.log o.bays o.buffer o.limits l.lanes.items l.drain c.in_ok-log_side.ensures.lanes k)
+
+pub make_bays-requires-clause-hooks : goal.make_bays-requires-clause-hooks
+make_bays-requires-clause-hooks g c = λ k.
+    let o = c.args.options.now in
+    let h = c.in_ok-hook_side.hook_side in
+    subst (λ (z : Settings). IfSome (slice_get h.lanes.items k) (TakesLines k z.hook)) (sym c.in_ok-shared.ensures.settings)
+    (lanes_take g.P.H.BatchSink c.args.settings.hook o.bays o.buffer o.limits h.lanes.items h.drain c.in_ok-hook_side.ensures.lanes k)
+
+pub returns-clause-made : goal.returns-clause-made
+returns-clause-made g c =
+    let o = c.args.options.now in
+    let l = c.in_ok-log_side.log_side in
+    let d = c.in_ok-hook_side.hook_side in
+    let shared = c.in_ok-shared.shared in
+    let bays = c.in_ok-bays.bays.items in
+    let says = c.in_ok-bays.ensures in
+    let h = bay_handles g.R.Routes g.P.L.Dial g.P.W.BatchSink g.P.H.BatchSink g.P.K.Clock g.P.Y.Diary g.P.D.Door
+    g.P.D.C.Source g.P.D.C.ByteSink g.P.D.C.Conn in
+    let due = c.in_ok-hook_side.ensures.due ∙ (c.in_ok-log_side.ensures.due ∙ c.in_ok-shared.ensures.plant.1) in
+    let lc = c.in_ok-log_side.ensures.called in
+    let hc = c.in_ok-hook_side.ensures.called in
+    let bc = subst (λ n. Joined (g.P.Plant.tells c.hook_lanes.new.plant).made (bays_calls o.listen o.connections 0 n) (g.P.Plant.tells c.make_bays.new.plant).made)
+    c.requires.routes says.called in
+    let join = c.calls_join.ensures.join in
+    record {
+      boot = shared.boot;
+      called = record {
+        log_allots = lc.allots;
+        hook_allots = hc.allots;
+        allotted = (lc.count, hc.count);
+        made = join _ _ _ _ _ c.in_ok-shared.ensures.called (join _ _ _ _ _ lc.made (join _ _ _ _ _ hc.made bc));
+      };
+      count = sym (image_count log_lane bays) ∙ (ap length says.lanes.0
+          ∙ lanes_count g.P.W.BatchSink c.args.settings.log o.bays o.buffer o.limits l.lanes.items l.drain c.in_ok-log_side.ensures.lanes);
+      each = λ k.
+          subst (λ q. IfSome (slice_get bays k) (λ role. IsNewBay h c.args.settings shared.boot (q k) k role)) due
+          (subst (λ z. IfSome (slice_get bays k) (λ role. IsNewBay h z shared.boot ((g.P.Plant.tells c.hook_lanes.new.plant).due k) k role)) c.in_ok-shared.ensures.settings
+          (says.new k));
+      routes = says.routes;
+      log = subst (λ z. LanesFor g.P.W.BatchSink c.args.settings.log o.bays o.buffer o.limits z l.drain) (sym says.lanes.0) c.in_ok-log_side.ensures.lanes;
+      hook = subst (λ z. LanesFor g.P.H.BatchSink c.args.settings.hook o.bays o.buffer o.limits z d.drain) (sym says.lanes.1) c.in_ok-hook_side.ensures.lanes;
+    }
+
+pub returns-clause-cause : goal.returns-clause-cause
+returns-clause-cause g c =
+    c.in_ok-bays.ensures.cause
+    ∙ (c.in_ok-hook_side.ensures.cause ∙ (c.in_ok-log_side.ensures.cause ∙ c.in_ok-shared.ensures.plant.0))

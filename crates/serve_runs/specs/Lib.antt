@@ -1,0 +1,4 @@
+pub mod Causes
+pub mod Made
+pub mod Served
+pub mod Status
