@@ -1,0 +1,50 @@
+// The rule of a history: its word is its length.
+use apiservice_table::Change;
+use logbook::{Gain, Plain, Play, Rule};
+
+pub struct Law;
+
+impl Rule<Change, u64> for Law {
+    ghost use Rattle.std.specs.Prelude.{[]};
+    ghost use base.Fml.{ftrue};
+    ghost use Rattle.route_history.specs.Rules.{IsKept};
+
+    ghost holds = { λ cells log. IsKept cells log };
+
+    ghost first = { [] };
+
+    ghost hinted = { λ n log. Unit {0} };
+
+    ghost shows = { λ log. [] };
+
+    ghost keeps = { λ names log. ftrue };
+
+    ghost moves = { λ ask before after answer. Unit {0} };
+}
+
+// Callers trade nothing.
+pub struct Nothing;
+
+impl Gain<Change, u64> for Nothing {
+    ghost use base.Fml.{ftrue};
+
+    ghost after = { λ names about answer. ftrue };
+}
+
+// A step that adds a change.
+pub struct Add;
+
+impl Play<Change, u64> for Add {
+    ghost use Rattle.route_history.specs.Rules.{Adds};
+
+    ghost then = { Adds };
+}
+
+// What a step asks for: the change.
+impl Plain<Change, Change, u64> for Add {
+    ghost use Rattle.std.specs.Prelude.{None};
+
+    ghost ask = { λ change. change };
+
+    ghost state = { λ change. None };
+}
