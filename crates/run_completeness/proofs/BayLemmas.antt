@@ -1,0 +1,149 @@
+-- What bays keep.
+use Rattle.std.proofs.Common.{◌≡◌, ◌<◌, ℕ, zero, suc, List, [], ◌∷◌, length, map, slice_get, Option, Some, IfSome, refl, sym, ap, ◌∙◌, subst}
+use Rattle.any_lane.specs.Lanes.{any_tells}
+use Rattle.any_lane.specs.declared.lane.AnyLane.{AnyLane}
+use Rattle.audit_core.specs.declared.settings.Settings.{Settings}
+use Rattle.audit_core.specs.declared.sinks.Sink.TheVariants.{Log, Webhook}
+use Rattle.connection_laws.specs.Whole.{offers_in}
+use Rattle.front_base.specs.Line.{Line}
+use Rattle.plant_lanes.specs.Served.{IsDrained, IsOwn}
+use Rattle.plant_lanes.specs.declared.options.RunOptions.{RunOptions}
+use Rattle.run_completeness.specs.Kept.{BatchesKeepAll, KeepsBatched, KeepsOwn, TriesKeepAll}
+use Rattle.run_completeness.proofs.DrainLemmas.{batches_keep, map_some, some_at}
+use Rattle.run_completeness.proofs.LaneLemmas.{Accepts, Fails, Fills, Tries, account, keeps_put, lane_offered, own_taken, own_written, room_for_all}
+use Rattle.run_completeness.proofs.TellLemmas.{bay_told}
+use Rattle.serve_roles.specs.Doors.{BayHandles}
+use Rattle.serve_roles.specs.declared.bay_end.BayEnd.{BayEnd}
+use Rattle.serve_runs.specs.Served.{BayServed}
+use Rattle.shared_queue.specs.Bays.{of_bay}
+use Rattle.sink_lanes.specs.Lanes.{own_lane}
+use Rattle.sink_lanes.specs.Together.{ToldQueued}
+use Rattle.sink_lanes.specs.declared.ending.SinkEnd.{SinkEnd}
+use Rattle.truncate_backend.specs.Tries.{lines_of}
+
+-- ---- a lane over a bay's own sink
+
+own_in : {S T : Type 0} (own : List S) (k : ℕ) (l : AnyLane S T) → slice_get (map own_lane own) k ≡ Some l
+    → (to : S) × (slice_get own k ≡ Some to) × (l ≡ own_lane to)
+own_in [] k l e = absurd cc
+own_in (s ∷ own) zero l e = (s, refl, cc)
+own_in (s ∷ own) (suc k) l e = own_in own k l e
+
+own_at : {S T : Type 0} (own : List S) (lanes : List (AnyLane S T)) (k : ℕ) (l : AnyLane S T) → lanes ≡ map own_lane own → slice_get lanes k ≡ Some l
+    → (to : S) × (slice_get own k ≡ Some to) × (l ≡ own_lane to)
+own_at own lanes k l e f = own_in own k l (sym (ap (λ z. slice_get z k) e) ∙ f)
+
+module _ {R L N W H T K Y D C : Type 0} (h : BayHandles R L N W H K Y D C) (set : Settings) (boot : ℕ) (due : ℕ → Option (List C))
+    (tables : List R) (logs : List (AnyLane W T)) (hooks : List (AnyLane H T)) where
+  abbrev Served : ℕ → BayEnd R L K Y D → Type 0
+  Served k end = BayServed h set boot due tables logs hooks k end
+
+  -- ---- batches
+
+  log_keeps : (accepts : Accepts) (fills : Fills) (capacity : ℕ) (allots : List ℕ) (put : List Line) (k : ℕ) (end : BayEnd R L K Y D)
+      (b : BayServed h set boot due tables logs hooks k end) → ToldQueued h.log capacity allots k put b.log
+      → KeepsBatched h set Log capacity allots put k end
+  log_keeps accepts fills capacity allots put k end b q =
+      let t = b.told in
+      let notes = offers_in b.exchanges in
+      let none = b.opens.lanes.0.none_accepted in
+      let is = ap (λ n. n.lanes.log.tells.accepted) b.ends ∙ q.accepted_is in
+      record {
+        told = bay_told h set boot due tables logs hooks k end b;
+        offered = sym (ap (λ n. n.lanes.log.lines) b.ends)
+            ∙ lane_offered Log t.due b.m.lanes b.n.lanes notes k t.offered b.opens.bay_is b.opens.lines.0;
+        account = account Log t.due b.m.lanes b.n.lanes notes k t.offered b.opens.bay_is b.opens.lines.0 accepts fills put none is;
+        none_full = room_for_all Log t.due b.m.lanes b.n.lanes notes k t.offered b.opens.bay_is b.opens.lines.0 accepts fills put none is
+            capacity allots (λ some. q.full (subst (λ x. 0 < x) (ap (λ n. n.lanes.log.tells.fulls) b.ends) some));
+        keeps = keeps_put Log t.due b.m.lanes b.n.lanes notes k t.offered b.opens.bay_is b.opens.lines.0 accepts fills put none is;
+      }
+
+  hook_keeps : (accepts : Accepts) (fills : Fills) (capacity : ℕ) (allots : List ℕ) (put : List Line) (k : ℕ) (end : BayEnd R L K Y D)
+      (b : BayServed h set boot due tables logs hooks k end) → ToldQueued h.hook capacity allots k put b.hook
+      → KeepsBatched h set Webhook capacity allots put k end
+  hook_keeps accepts fills capacity allots put k end b q =
+      let t = b.told in
+      let notes = offers_in b.exchanges in
+      let none = b.opens.lanes.1.none_accepted in
+      let is = ap (λ n. n.lanes.hook.tells.accepted) b.ends ∙ q.accepted_is in
+      record {
+        told = bay_told h set boot due tables logs hooks k end b;
+        offered = sym (ap (λ n. n.lanes.hook.lines) b.ends)
+            ∙ lane_offered Webhook t.due b.m.lanes b.n.lanes notes k t.offered b.opens.bay_is b.opens.lines.1;
+        account = account Webhook t.due b.m.lanes b.n.lanes notes k t.offered b.opens.bay_is b.opens.lines.1 accepts fills put none is;
+        none_full = room_for_all Webhook t.due b.m.lanes b.n.lanes notes k t.offered b.opens.bay_is b.opens.lines.1 accepts fills put none is
+            capacity allots (λ some. q.full (subst (λ x. 0 < x) (ap (λ n. n.lanes.hook.tells.fulls) b.ends) some));
+        keeps = keeps_put Webhook t.due b.m.lanes b.n.lanes notes k t.offered b.opens.bay_is b.opens.lines.1 accepts fills put none is;
+      }
+
+  pub log_batches : (accepts : Accepts) (fills : Fills) (options : RunOptions) (bays : List (BayEnd R L K Y D)) (end : SinkEnd W K)
+      → length bays ≡ options.bays → ((k : ℕ) → IfSome (slice_get bays k) (Served k))
+      → IsDrained h.log options.bays options.buffer options.limits logs end → BatchesKeepAll h h.log set Log options bays end
+  log_batches accepts fills options bays end count served d =
+      batches_keep h h.log set Log options bays end logs count d (λ k. map_some (Served k)
+      (KeepsBatched h set Log options.buffer d.allots (of_bay k (lines_of d.tries)) k) (slice_get bays k)
+      (λ x b. log_keeps accepts fills options.buffer d.allots (of_bay k (lines_of d.tries)) k x b
+      (some_at (ToldQueued h.log options.buffer d.allots k (of_bay k (lines_of d.tries))) (slice_get logs k) b.log (d.accepted k) b.log_is))
+      (served k))
+
+  pub hook_batches : (accepts : Accepts) (fills : Fills) (options : RunOptions) (bays : List (BayEnd R L K Y D)) (end : SinkEnd H K)
+      → length bays ≡ options.bays → ((k : ℕ) → IfSome (slice_get bays k) (Served k))
+      → IsDrained h.hook options.bays options.buffer options.limits hooks end → BatchesKeepAll h h.hook set Webhook options bays end
+  hook_batches accepts fills options bays end count served d =
+      batches_keep h h.hook set Webhook options bays end hooks count d (λ k. map_some (Served k)
+      (KeepsBatched h set Webhook options.buffer d.allots (of_bay k (lines_of d.tries)) k) (slice_get bays k)
+      (λ x b. hook_keeps accepts fills options.buffer d.allots (of_bay k (lines_of d.tries)) k x b
+      (some_at (ToldQueued h.hook options.buffer d.allots k (of_bay k (lines_of d.tries))) (slice_get hooks k) b.hook (d.accepted k) b.hook_is))
+      (served k))
+
+  -- ---- a bay's own sink
+
+  log_own : (accepts : Accepts) (tries : Tries) (fills : Fills) (fails : Fails) (own : List W) (k : ℕ) (end : BayEnd R L K Y D)
+      (b : BayServed h set boot due tables logs hooks k end) → logs ≡ map own_lane own → KeepsOwn h h.log set Log own k end
+  log_own accepts tries fills fails own k end b e =
+      let t = b.told in
+      let notes = offers_in b.exchanges in
+      let mine = own_at own logs k b.log e b.log_is in
+      let tells = ap (λ n. n.lanes.log.tells) b.ends ∙ ap (any_tells h.log) mine.2 in
+      record {
+        told = bay_told h set boot due tables logs hooks k end b;
+        to = mine.0;
+        to_is = mine.1;
+        offered = sym (ap (λ n. n.lanes.log.lines) b.ends)
+            ∙ lane_offered Log t.due b.m.lanes b.n.lanes notes k t.offered b.opens.bay_is b.opens.lines.0;
+        written = own_written Log t.due b.m.lanes b.n.lanes notes k t.offered b.opens.bay_is b.opens.lines.0 accepts tries fills fails
+            (h.log.tells mine.0) b.opens.lanes.0.none_accepted b.opens.lanes.0.none_tried tells;
+        taken = own_taken Log t.due b.m.lanes b.n.lanes notes k t.offered b.opens.bay_is b.opens.lines.0 accepts tries fills fails
+            (h.log.tells mine.0) b.opens.lanes.0.none_accepted b.opens.lanes.0.none_tried tells;
+      }
+
+  hook_own : (accepts : Accepts) (tries : Tries) (fills : Fills) (fails : Fails) (own : List H) (k : ℕ) (end : BayEnd R L K Y D)
+      (b : BayServed h set boot due tables logs hooks k end) → hooks ≡ map own_lane own → KeepsOwn h h.hook set Webhook own k end
+  hook_own accepts tries fills fails own k end b e =
+      let t = b.told in
+      let notes = offers_in b.exchanges in
+      let mine = own_at own hooks k b.hook e b.hook_is in
+      let tells = ap (λ n. n.lanes.hook.tells) b.ends ∙ ap (any_tells h.hook) mine.2 in
+      record {
+        told = bay_told h set boot due tables logs hooks k end b;
+        to = mine.0;
+        to_is = mine.1;
+        offered = sym (ap (λ n. n.lanes.hook.lines) b.ends)
+            ∙ lane_offered Webhook t.due b.m.lanes b.n.lanes notes k t.offered b.opens.bay_is b.opens.lines.1;
+        written = own_written Webhook t.due b.m.lanes b.n.lanes notes k t.offered b.opens.bay_is b.opens.lines.1 accepts tries fills fails
+            (h.hook.tells mine.0) b.opens.lanes.1.none_accepted b.opens.lanes.1.none_tried tells;
+        taken = own_taken Webhook t.due b.m.lanes b.n.lanes notes k t.offered b.opens.bay_is b.opens.lines.1 accepts tries fills fails
+            (h.hook.tells mine.0) b.opens.lanes.1.none_accepted b.opens.lanes.1.none_tried tells;
+      }
+
+  pub log_tries : (accepts : Accepts) (tries : Tries) (fills : Fills) (fails : Fails) (count : ℕ) (bays : List (BayEnd R L K Y D)) (end : SinkEnd W K)
+      → ((k : ℕ) → IfSome (slice_get bays k) (Served k)) → IsOwn count logs end → TriesKeepAll h h.log set Log bays end
+  log_tries accepts tries fills fails count bays end served o =
+      λ k. map_some (Served k) (KeepsOwn h h.log set Log end.own.items k) (slice_get bays k)
+      (λ x b. log_own accepts tries fills fails end.own.items k x b o.lanes_are) (served k)
+
+  pub hook_tries : (accepts : Accepts) (tries : Tries) (fills : Fills) (fails : Fails) (count : ℕ) (bays : List (BayEnd R L K Y D)) (end : SinkEnd H K)
+      → ((k : ℕ) → IfSome (slice_get bays k) (Served k)) → IsOwn count hooks end → TriesKeepAll h h.hook set Webhook bays end
+  hook_tries accepts tries fills fails count bays end served o =
+      λ k. map_some (Served k) (KeepsOwn h h.hook set Webhook end.own.items k) (slice_get bays k)
+      (λ x b. hook_own accepts tries fills fails end.own.items k x b o.lanes_are) (served k)

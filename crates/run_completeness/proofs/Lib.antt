@@ -1,0 +1,10 @@
+mod BayLemmas
+mod DrainLemmas
+mod KeepLemmas
+mod LaneLemmas
+mod LinkLemmas
+mod NumberLemmas
+mod ShareLemmas
+mod StatusLemmas
+mod TellLemmas
+mod WrittenLemmas
