@@ -82,8 +82,8 @@ pub fn a_run_without_faults_is_done<P: Plant, R: Routes>()
         → (ended.status ≡ Done) ↔ AllClosed ended.bays.items }
 {}
 
-/// An exchange is noted with a failed dial, or with a failed link, only where its dial counted that. So an exchange that raised no count
-/// got its reply from its backend or from this server.
+/// An exchange is noted with a failed dial, or with a failed link, only where its dial counted that, or where the count stood at its last
+/// value.
 pub fn failed_links_are_counted()
     ensures dial { (set : Settings) (peer : List ℕ) (r : Request) (m : BayState) (text : List ℕ) (n : BayState) (end : Relayed)
         → (done : ExchangedTo set peer r m text n end) → done.x.link ≡ DialFailed → Rose m.dial.faults n.dial.faults }
