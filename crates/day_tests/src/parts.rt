@@ -9,8 +9,8 @@ use front_ports::{MemBytes, MemConn, MemDial, MemDoor, MemLink, Script};
 use std::alloc::Global;
 use std::test::Fail;
 
-/// How many bays there are.
-pub const BAYS: usize = 8;
+// How many bays there are.
+const BAYS: usize = 8;
 
 // How many bytes a port takes.
 const ROOM: u64 = 1_000_000;
@@ -22,8 +22,6 @@ const REQUESTS: &str = "\
 2|GET /healthz HTTP/1.1~Host: a~~|
 1|GET /api/v1/pods?watch=1 HTTP/1.1~Host: a~~|HTTP/1.1 200 OK~Transfer-Encoding: chunked~~2~{}~0~~
 1|GET /api/v1/pods?watch=1 HTTP/1.1~Host: a~Connection: close~~|HTTP/1.1 200 OK~Transfer-Encoding: chunked~~2~{}~0~~";
-
-const POSTED: &str = "HTTP/1.1 200 OK~Content-Length: 0~~";
 
 fn script(alloc: Global, text: &str) -> Result<Script, Fail> {
     let input = text.replace(alloc, "~", "\r\n")?;
@@ -77,24 +75,28 @@ fn dials(alloc: Global) -> Result<Vec<MemDial>, Fail>
     Ok(dials)
 }
 
-// A door that gives one client, who sends all requests.
-fn door_of(alloc: Global, requests: &str) -> Result<MemDoor, Fail>
+// A door that gives one client, who sends all requests, unless it fails at once.
+fn door_of(alloc: Global, requests: &str, fails: bool) -> Result<MemDoor, Fail>
     ensures { IfOk result IsUnusedDoor }
 {
     let conn = MemConn::new(alloc, [10, 0, 0, 7], script(alloc, requests)?)?;
     let mut given = Vec::new(alloc);
     given.push(conn)?;
-    Ok(MemDoor::new(alloc, given, Vec::new(alloc))?)
+    let mut calls = Vec::new(alloc);
+    if fails {
+        calls.push(1)?;
+    }
+    Ok(MemDoor::new(alloc, given, calls)?)
 }
 
-// A door for each bay.
-fn doors(alloc: Global) -> Result<Vec<MemDoor>, Fail>
+// A door for each bay. That of one bay fails, if there is such a bay.
+fn doors(alloc: Global, broken: usize) -> Result<Vec<MemDoor>, Fail>
     ensures { IfOk result (λ doors. All IsUnusedDoor doors.items) }
 {
     let requests = told(alloc, false)?;
     let mut doors = Vec::new(alloc);
-    for _ in 0..BAYS {
-        doors.push(door_of(alloc, &requests)?)?;
+    for bay in 0..BAYS {
+        doors.push(door_of(alloc, &requests, bay == broken)?)?;
     }
     Ok(doors)
 }
@@ -110,18 +112,18 @@ fn logs(alloc: Global) -> Result<Vec<MemBytes>, Fail>
     Ok(logs)
 }
 
-// A dial for the webhook, which may be posted to four times.
-fn hooks(alloc: Global) -> Result<Vec<MemDial>, Fail>
+// A dial for the webhook, which answers its posts so, a line each.
+fn hooks(alloc: Global, replies: &str) -> Result<Vec<MemDial>, Fail>
     ensures { IfOk result (λ hooks. All IsUnusedDial hooks.items) }
 {
-    let replies = format!(in alloc; "{POSTED}\n{POSTED}\n{POSTED}\n{POSTED}")?;
     let mut hooks = Vec::new(alloc);
-    hooks.push(dial_of(alloc, &replies)?)?;
+    hooks.push(dial_of(alloc, replies)?)?;
     Ok(hooks)
 }
 
-/// Parts for eight bays, with the allotments that a real plant gives.
-pub fn parts(alloc: Global) -> Result<MemParts, Fail>
+/// Parts for eight bays, with the allotments that a real plant gives. The door of one bay fails, if there is such a bay, and
+/// the webhook answers so, a line each.
+pub fn parts(alloc: Global, broken: usize, posts: &str) -> Result<MemParts, Fail>
     ensures doors { IfOk result (λ parts. All IsUnusedDoor parts.doors.items) }
     ensures dials { IfOk result (λ parts. All IsUnusedDial parts.dials.items) }
     ensures logs { IfOk result (λ parts. All IsUnusedSink parts.logs.items) }
@@ -130,10 +132,10 @@ pub fn parts(alloc: Global) -> Result<MemParts, Fail>
     Ok(MemParts {
         boot: 1,
         allots: vec![in alloc; 844_424_930_131_968; 8]?,
-        doors: doors(alloc)?,
+        doors: doors(alloc, broken)?,
         dials: dials(alloc)?,
         logs: logs(alloc)?,
-        hooks: hooks(alloc)?,
+        hooks: hooks(alloc, posts)?,
         start: Moment::epoch(),
         step: 1,
         room: NotesRoom {

@@ -12,10 +12,13 @@ const SERVICES: &str =
 const WORDS: &str =
     "serve|--apiservices=s|--endpoints=e|--audit-log-path=log|--audit-webhook-url=http://127.0.0.1:9400/";
 
-fn words_of(alloc: Global) -> Result<Vec<String>, AllocError> {
+fn words_of(alloc: Global, more: &str) -> Result<Vec<String>, AllocError> {
     let mut words = Vec::new(alloc);
     for word in WORDS.split('|') {
         words.push(String::from_str(alloc, word)?)?;
+    }
+    if !more.is_empty() {
+        words.push(String::from_str(alloc, more)?)?;
     }
     Ok(words)
 }
@@ -32,8 +35,9 @@ fn files(alloc: Global) -> Result<MemFiles, Fail> {
     Ok(MemFiles::new(files, Vec::new(alloc)))
 }
 
-pub fn configured(alloc: Global) -> Result<ServeConfig, Fail> {
-    let words = words_of(alloc)?;
+/// What these words say, and one more, if it isn't empty.
+pub fn configured(alloc: Global, more: &str) -> Result<ServeConfig, Fail> {
+    let words = words_of(alloc, more)?;
     match configure_serve(alloc, &words, &mut files(alloc)?) {
         Ok(config) => Ok(config),
         Err(_) => Err(Fail::from("a configuration")),

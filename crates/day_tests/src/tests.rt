@@ -13,6 +13,25 @@ use std::marker::Brand;
 use std::test::Fail;
 use truncate_backend::MemNotes;
 
+const LISTEN: Address = Address {
+    ip: [127, 0, 0, 1],
+    port: 8001,
+};
+
+const GOOD: &str = "\
+HTTP/1.1 200 OK~Content-Length: 0~~
+HTTP/1.1 200 OK~Content-Length: 0~~
+HTTP/1.1 200 OK~Content-Length: 0~~";
+
+const FIRST_REFUSED: &str = "\
+HTTP/1.1 500 Internal Server Error~Content-Length: 0~~
+HTTP/1.1 200 OK~Content-Length: 0~~
+HTTP/1.1 200 OK~Content-Length: 0~~
+HTTP/1.1 200 OK~Content-Length: 0~~
+HTTP/1.1 200 OK~Content-Length: 0~~
+HTTP/1.1 200 OK~Content-Length: 0~~
+HTTP/1.1 200 OK~Content-Length: 0~~";
+
 // What is counted of a run.
 #[derive(Debug, Drop, PartialEq, Eq)]
 struct Figures {
@@ -60,19 +79,16 @@ fn figures_of<R: Drop, L: Drop, H: Drop, K: Drop, Y: Drop, D: Drop>(
 #[test]
 fn an_ordinary_day_loses_nothing(rt: HostRuntime) -> Result<(), Fail> {
     let alloc = rt.alloc();
-    let ServeConfig { words, loaded } = configured(alloc)?;
+    let ServeConfig { words, loaded } = configured(alloc, "")?;
     if !can_run(&words) {
         return Err(Fail::from("numbers of a run"));
     }
     let (settings, table) = settings_of(&words, loaded);
     let routes = NewRoutes::new(alloc, table)?;
-    let listen = Address {
-        ip: [127, 0, 0, 1],
-        port: 8001,
-    };
-    let mut plant: MemPlant<HostRuntime> = MemPlant::new(&rt, alloc, parts(alloc)?)?;
+    let parts = parts(alloc, 8, GOOD)?;
+    let mut plant: MemPlant<HostRuntime> = MemPlant::new(&rt, alloc, parts)?;
     let ended = run_shared::<Brand, MemPlant<HostRuntime>>(
-        &rt, alloc, &words, settings, listen, routes, &mut plant,
+        &rt, alloc, &words, settings, LISTEN, routes, &mut plant,
     );
     let figures = figures_of(ended).ok_or("a drainer")?;
     let expected = Figures {
@@ -82,6 +98,35 @@ fn an_ordinary_day_loses_nothing(rt: HostRuntime) -> Result<(), Fail> {
         logged: 304,
         written: 304,
         lost: 0,
+        fulls: 0,
+    };
+    assert_eq!(rt; figures, expected);
+    Ok(())
+}
+
+// One bay's door fails, and the first batch of 50 events is refused: the other bays serve on, and the other batches are posted.
+#[test]
+fn what_fails_takes_nothing_else_with_it(rt: HostRuntime) -> Result<(), Fail> {
+    let alloc = rt.alloc();
+    let ServeConfig { words, loaded } = configured(alloc, "--batch-max-size=50")?;
+    if !can_run(&words) {
+        return Err(Fail::from("numbers of a run"));
+    }
+    let (settings, table) = settings_of(&words, loaded);
+    let routes = NewRoutes::new(alloc, table)?;
+    let parts = parts(alloc, 3, FIRST_REFUSED)?;
+    let mut plant: MemPlant<HostRuntime> = MemPlant::new(&rt, alloc, parts)?;
+    let ended = run_shared::<Brand, MemPlant<HostRuntime>>(
+        &rt, alloc, &words, settings, LISTEN, routes, &mut plant,
+    );
+    let figures = figures_of(ended).ok_or("a drainer")?;
+    let expected = Figures {
+        status: RunStatus::PortFault,
+        requests: 126,
+        asked: 7,
+        logged: 266,
+        written: 216,
+        lost: 50,
         fulls: 0,
     };
     assert_eq!(rt; figures, expected);
