@@ -6,8 +6,6 @@
 //! Nothing is promised of when a bay sees a change of another: that is tested.
 #![tactic(auto)]
 
-mod history;
 mod shared;
-mod unnamed;
 
 pub use shared::run_shared;

@@ -6,12 +6,11 @@ ghost use Rattle.serve_roles.specs.Doors.{bay_handles};
 ghost use Rattle.serve_runs.specs.Causes.{NoRun};
 ghost use Rattle.shared_runs.specs.Runs.{RunShared, shared_routes};
 
-use crate::history::all_saw_one;
-use crate::unnamed::unnamed_ends;
 use audit_core::Settings;
 use front_base::Address;
 use front_plants::Plant;
 use front_ports::{Dial, Door};
+use history_ends::{all_saw_one, unnamed_ends};
 use proxy_runs::run_configured;
 use route_history::{NewRoutes, RouteName, SeenHistory};
 use route_share::share_routes;

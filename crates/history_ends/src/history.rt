@@ -2,7 +2,7 @@
 ghost use Rattle.std.specs.Prelude.{◌≡◌, All, List};
 ghost use Rattle.apiservice_table.specs.Changes.{IsLater};
 ghost use Rattle.apiservice_table.specs.declared.change.Change.{Change};
-ghost use Rattle.shared_runs.specs.Histories.{SawOne};
+ghost use Rattle.history_ends.specs.Histories.{SawOne};
 
 use left_right::Absorb;
 use route_history::{Prefix, TableCopy};
@@ -45,7 +45,7 @@ fn whole<
 }
 
 /// What each bay saw is the beginning of one list of changes, and all are of the history that their type names.
-pub(crate) fn all_saw_one<
+pub fn all_saw_one<
     P: Prefix,
     T: TableCopy<P, O> + Absorb<O, State = P>,
     O: Drop,

@@ -1,6 +1,6 @@
 // What bays leave, without the name of their history.
 ghost use Rattle.std.specs.Prelude.{◌≡◌, ◌≤◌, [], length, map, vec_capacity};
-ghost use Rattle.shared_runs.specs.Unnamed as spec;
+ghost use Rattle.history_ends.specs.Unnamed as spec;
 
 use left_right::Absorb;
 use route_history::{Prefix, SeenHistory, TableCopy};
@@ -52,7 +52,7 @@ fn unnamed_end<
 }
 
 /// What bays leave, in a list that has room for it.
-pub(crate) fn unnamed_ends<
+pub fn unnamed_ends<
     P: Prefix,
     T: TableCopy<P, O> + Absorb<O, State = P>,
     O: Drop,
