@@ -7,10 +7,11 @@ mod serve;
 mod told;
 
 use help::{EXPLAIN_HELP, HELP, SERVE_HELP, VERSION};
-use proxy_runs::run_configured;
 use proxy_server::{Ended, ReaderSource, Status, SystemFiles, WriterSink, run_desk};
 use refusal_text::Refusal;
 use serve::{Opened, can_serve, open, status_of};
+use shared_runs::run_shared;
+use std::marker::Brand;
 use std::process::ExitCode;
 use std::{env, io};
 use tcp_plant::TcpPlant;
@@ -108,10 +109,18 @@ fn main(rt: HostRuntime) -> ExitCode {
                 gate,
             } = opened;
             let at = gate.address();
-            if !can_serve(&told, &settings, &routes) {
+            if !can_serve(&told, &settings) {
                 failed(Status::Configuration)
             } else if let Ok(mut plant) = TcpPlant::new(&rt, &gate) {
-                let left = run_configured(&rt, rt.alloc(), &told, settings, at, routes, &mut plant);
+                let left = run_shared::<Brand, TcpPlant<HostRuntime>>(
+                    &rt,
+                    rt.alloc(),
+                    &told,
+                    settings,
+                    at,
+                    routes,
+                    &mut plant,
+                );
                 failed(status_of(say_ended(&rt, &told, left)))
             } else {
                 failed(Status::PortFault)

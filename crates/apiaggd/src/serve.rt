@@ -1,17 +1,16 @@
 // What the command `serve` takes from the outside, beside the handles of its plant.
-ghost use Rattle.std.specs.Prelude.{◌≡◌, ◌≤◌, length, true};
+ghost use Rattle.std.specs.Prelude.{◌≡◌, ◌≤◌, true};
 ghost use Rattle.front_base.specs.declared.address.Address.{Address};
 ghost use Rattle.front_base.specs.declared.line.TheConstants.{MOST_LINE_BYTES};
 ghost use Rattle.plant_lanes.specs.Options.{AreFit};
 ghost use Rattle.proxy_runs.specs.Setup.{options_of};
 
 use crate::told::{say_begun, say_unopened};
-use apiservice_table::TableRoutes;
 use audit_core::Settings;
-use bay_routes::own_routes;
 use front_base::MOST_LINE_BYTES;
 use proxy_runs::{can_run, settings_of};
 use proxy_server::{Ended, Status, SystemFiles};
+use route_history::NewRoutes;
 use serve_config::{ServeConfig, configure_serve};
 use serve_runs::RunStatus;
 use serve_words::ServeWords;
@@ -81,21 +80,17 @@ fn open_gate<R: Net<Listener = TcpListener, Stream = TcpStream>>(
 pub struct Opened {
     pub words: ServeWords,
     pub settings: Settings,
-    /// A table of APIServices for each bay.
-    pub routes: Vec<TableRoutes>,
+    /// The table of APIServices that its bays are to share.
+    pub routes: NewRoutes,
     pub gate: Arc<TcpGate>,
 }
 
-/// Whether a run may have these numbers, with so many tables. Those that `open` gives are such.
-pub fn can_serve(words: &ServeWords, settings: &Settings, routes: &Vec<TableRoutes>) -> bool
+/// Whether a run may have these numbers. Those that `open` gives are such.
+pub fn can_serve(words: &ServeWords, settings: &Settings) -> bool
     ensures options { (listen : Address) → result ≡ true → AreFit (options_of words.now listen) }
-    ensures routes { result ≡ true → length routes.now.items ≡ words.now.bays }
     ensures max { result ≡ true → settings.now.max_event ≤ MOST_LINE_BYTES }
 {
     if !can_run(words) {
-        return false;
-    }
-    if routes.len() != usize::from(words.bays) {
         return false;
     }
     settings.max_event <= MOST_LINE_BYTES
@@ -108,14 +103,15 @@ fn open_by<R: Threads + Net<Listener = TcpListener, Stream = TcpStream>>(
 ) -> Result<Opened, Status> {
     let ServeConfig { words, loaded } = config;
     let (settings, table) = settings_of(&words, loaded);
-    let Ok(routes) = own_routes(host.alloc(), &table, words.bays) else {
+    let services = table.rows().len();
+    let Ok(routes) = NewRoutes::new(host.alloc(), table) else {
         return Err(Status::NoMemory);
     };
     let gate = open_gate(host, rt, &words)?;
     if words.exit_on_stdin_eof {
         watch_input(*host, rt, &gate)?;
     }
-    say_begun(host, &words, gate.address(), table.rows().len());
+    say_begun(host, &words, gate.address(), services);
     Ok(Opened {
         words,
         settings,

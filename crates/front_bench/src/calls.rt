@@ -37,7 +37,7 @@ pub fn rows(alloc: Global, text: &[u8], times: u32) -> bool {
 }
 
 // A table of the rows in a list.
-fn table_of(alloc: Global, text: &[u8]) -> Option<RouteTable> {
+pub fn table_of(alloc: Global, text: &[u8]) -> Option<RouteTable> {
     let mut table = RouteTable::from_rows(alloc, Rows::new(Vec::new(alloc))).ok()?;
     for row in read_rows(alloc, text).ok()?.as_slice() {
         table
@@ -48,7 +48,7 @@ fn table_of(alloc: Global, text: &[u8]) -> Option<RouteTable> {
 }
 
 // The group and the version of so many rows, spread evenly over the list: of all, where it has no more.
-fn keys_of(alloc: Global, rows: &[Row], most: usize) -> Option<Vec<(String, String)>> {
+pub fn keys_of(alloc: Global, rows: &[Row], most: usize) -> Option<Vec<(String, String)>> {
     let mut keys = Vec::new(alloc);
     for row in rows.iter().step_by((rows.len() / most.max(1)).max(1)) {
         let group = String::from_str(alloc, row.group.as_str()).ok()?;

@@ -7,6 +7,7 @@
 //! | `check`, `compact` | a JSON text | |
 //! | `rows` | a list of APIServices | |
 //! | `find` | a list of APIServices | how many of its rows are looked up in turn |
+//! | `own`, `shared` | a list of APIServices | how many threads look up rows, in tables of their own or in one; `read`, or `write` where another one changes a row every hundredth of a second |
 //! | `log` | a line | how many lines a try has, and the file, which is made anew |
 //! | `post` | a line | how many lines a try has |
 //! | `connection` | a request, which a connection gives so often | |
@@ -15,11 +16,15 @@
 mod calls;
 mod conn;
 mod connection;
+mod look_ups;
 mod sinks;
 
 use calls::{check, compact, find, log, post, rows};
 use connection::connection;
+use look_ups::{LookUps, own, shared, table_and_row};
+use route_history::NewRoutes;
 use std::io::Read;
+use std::marker::Brand;
 use std::process::ExitCode;
 use std::{env, fs};
 
@@ -51,8 +56,44 @@ fn run(rt: &HostRuntime) -> Option<bool> {
     }
 }
 
+// The list, what is looked up in it by many threads, and whether they share one table, where that is asked for.
+fn asked_for(rt: &HostRuntime) -> Option<(Vec<u8>, LookUps, bool)> {
+    let words = words(rt)?;
+    let [call, times, threads, mode] = words.as_slice() else {
+        return None;
+    };
+    let share = call.as_str() == "shared";
+    if !share && call.as_str() != "own" {
+        return None;
+    }
+    let mut input = Vec::new(rt.alloc());
+    rt.stdin().read_to_end(&mut input).ok()?;
+    let times = times.as_str().parse::<u32>().ok()?;
+    let threads = threads.as_str().parse::<u16>().ok()?;
+    let asked = LookUps::new(
+        rt.alloc(),
+        input.as_slice(),
+        times,
+        threads,
+        mode.as_str() == "write",
+    )?;
+    Some((input, asked, share))
+}
+
 fn main(rt: HostRuntime) -> ExitCode {
-    match run(&rt) {
+    let alloc = rt.alloc();
+    let done = match asked_for(&rt) {
+        None => run(&rt),
+        Some((text, asked, false)) => own(&rt, alloc, &asked, text.as_slice()),
+        Some((text, asked, true)) => match table_and_row(alloc, text.as_slice()) {
+            None => None,
+            Some((table, row)) => match NewRoutes::new(alloc, table) {
+                Err(_) => None,
+                Ok(routes) => { shared::<Brand, HostRuntime>(rt, alloc, &asked, routes, &row) }
+            },
+        },
+    };
+    match done {
         Some(true) => ExitCode::from(0),
         _ => ExitCode::from(1),
     }

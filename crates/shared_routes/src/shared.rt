@@ -91,6 +91,13 @@ impl<
         self.prefix.size();
     }
 
+    /// The prefix of the history that was seen.
+    pub fn prefix(&self) -> P
+        ensures { P.history result ≡ record { home = self.now.home; changes = self.now.seen } }
+    {
+        self.prefix.copy()
+    }
+
     /// What was seen, without the name of the history.
     pub fn into_seen(self) -> SeenHistory
         ensures home { result.home ≡ self.home }

@@ -1,0 +1,176 @@
+// Look-ups by many threads at once, in tables of their own or in one that they share.
+ghost use Rattle.std.specs.Prelude.{◌≡◌};
+
+use crate::calls::{keys_of, table_of};
+use apiservice_rows::{Row, read_rows};
+use apiservice_table::{Change, RouteTable, Routes, TableRoutes};
+use route_history::{NewRoutes, RouteName};
+use route_share::share_routes;
+use std::alloc::Global;
+use std::rt::Clock;
+use std::sync::Wait;
+use std::sync::atomic::{AtomicUsize, Ordering};
+use std::thread;
+use std::thread::Threads;
+use std::time::Duration;
+
+/// What is looked up, how often by each of so many threads, and whether another one changes a row every hundredth of a second.
+#[derive(Drop)]
+pub struct LookUps {
+    keys: Vec<(String, String)>,
+    times: u32,
+    threads: u16,
+    writes: bool,
+}
+
+impl LookUps {
+    pub fn new(
+        alloc: Global,
+        text: &[u8],
+        times: u32,
+        threads: u16,
+        writes: bool,
+    ) -> Option<LookUps> {
+        let keys = keys_of(alloc, read_rows(alloc, text).ok()?.as_slice(), 32)?;
+        Some(LookUps {
+            keys,
+            times,
+            threads: threads.min(64),
+            writes,
+        })
+    }
+
+    // How many routes there are: one for each thread.
+    fn count(&self) -> u16 {
+        self.threads.saturating_add(if self.writes { 1 } else { 0 })
+    }
+}
+
+// One thread.
+#[derive(Drop)]
+struct Task<X> {
+    alloc: Global,
+    routes: X,
+    row: Row,
+    good: bool,
+}
+
+impl<X: Routes> Task<X> {
+    fn find(&mut self, asked: &LookUps) {
+        let mut turn = 0;
+        for _ in 0..asked.times {
+            if let Some((group, version)) = asked.keys.get(turn) {
+                let found = self
+                    .routes
+                    .find(self.alloc, group.as_str(), version.as_str());
+                self.good = self.good && matches!(found, Ok(Some(_)));
+            }
+            turn = if turn + 1 < asked.keys.len() {
+                turn + 1
+            } else {
+                0
+            };
+        }
+    }
+
+    fn change(&mut self) {
+        let Ok(row) = self.row.copy(self.alloc) else {
+            self.good = false;
+            return;
+        };
+        self.good = self.good && self.routes.change(self.alloc, Change::Replace(row)).is_ok();
+    }
+}
+
+// The last thread changes a row until all others are done, where one is to do so.
+fn run_task<X: Routes, R: Clock>(
+    rt: &R,
+    asked: &LookUps,
+    number: usize,
+    task: &mut Task<X>,
+    done: &AtomicUsize,
+) {
+    if number < usize::from(asked.threads) {
+        task.find(asked);
+        done.fetch_add(1, Ordering::SeqCst);
+        return;
+    }
+    for _ in 0..u32::MAX {
+        if done.load(Ordering::SeqCst) >= usize::from(asked.threads) {
+            return;
+        }
+        task.change();
+        let _ = thread::sleep(rt, Duration::from_millis(10));
+    }
+}
+
+// Whether all threads found what they looked up.
+fn run_all<X: Routes + Drop + Send, R: Threads + Sync + Clock>(
+    rt: &R,
+    alloc: Global,
+    asked: &LookUps,
+    all: Vec<X>,
+    row: &Row,
+) -> Option<bool> {
+    let mut tasks = Vec::new(alloc);
+    for routes in all {
+        let row = row.copy(alloc).ok()?;
+        tasks
+            .push(Task {
+                alloc,
+                routes,
+                row,
+                good: true,
+            })
+            .ok()?;
+    }
+    let done = AtomicUsize::new(0);
+    let count = tasks.len();
+    if count > 0 {
+        thread::for_each_mut(
+            rt,
+            tasks.as_mut_slice(),
+            count,
+            &|number, task| run_task(rt, asked, number, task, &done),
+        );
+    }
+    Some(tasks.as_slice().iter().all(|task| task.good))
+}
+
+/// The table of a list, and its first row.
+pub fn table_and_row(alloc: Global, text: &[u8]) -> Option<(RouteTable, Row)> {
+    let table = table_of(alloc, text)?;
+    let row = table.rows().first()?.copy(alloc).ok()?;
+    Some((table, row))
+}
+
+/// By threads that have a table each.
+pub fn own<R: Threads + Sync + Clock>(
+    rt: &R,
+    alloc: Global,
+    asked: &LookUps,
+    text: &[u8],
+) -> Option<bool> {
+    let mut all = Vec::new(alloc);
+    for _ in 0..asked.count() {
+        let table = table_of(alloc, text)?;
+        all.push(TableRoutes::new(alloc, table).ok()?).ok()?;
+    }
+    let (_, row) = table_and_row(alloc, text)?;
+    run_all(rt, alloc, asked, all, &row)
+}
+
+/// By threads that share one table.
+pub fn shared<N: RouteName + Send + Sync, R: Threads + Wait + Copy + Send + Sync + Drop + Clock>(
+    rt: R,
+    alloc: Global,
+    asked: &LookUps,
+    routes: NewRoutes,
+    row: &Row,
+) -> Option<bool>
+    requires home { routes.home ≡ N.home }
+    requires opening { routes.opening ≡ N.opening }
+{
+    let all = share_routes::<N, R>(rt, alloc, routes, asked.count()).ok()?;
+    run_all(&rt, alloc, asked, all, row)
+}

@@ -1,0 +1,7 @@
+use Rattle.std.proofs.Common.{All, take}
+use Rattle.history_ends.specs.Histories.{SawOne}
+use Rattle.history_ends.proofs.history.whole.Given as goal
+
+-- what the bays that were passed saw is the beginning of the longest so far
+abbrev pub invariant-loop-end : goal.invariant-loop-end
+invariant-loop-end g l = All (SawOne g.P.Prefix.home g.P.Prefix.opening (g.P.Prefix.history l.longest).changes) (take l.end-index l.ends)

@@ -1,0 +1,43 @@
+// What the run is made of: two bays, a webhook whose batches have one event each, a delegate and a service.
+use front_base::{Bytes, Text};
+use front_ports::MemFiles;
+use serve_config::{ServeConfig, configure_serve};
+use std::alloc::{AllocError, Global};
+use std::test::Fail;
+
+const SERVICES: &str =
+    r#"{"kind":"APIService","apiVersion":"apiregistration.k8s.io/v1","metadata":{"name":"v1."},
+"spec":{"version":"v1","groupPriorityMinimum":18000,"versionPriority":1}}"#;
+
+fn words_of(alloc: Global, hook: u16) -> Result<Vec<String>, AllocError> {
+    let line = format!(in alloc;
+        "serve|--bays=2|--token-auth-file=t|--apiservices=s|--endpoints=e|--batch-max-size=1|--audit-webhook-url=http://127.0.0.1:{hook}/"
+    )?;
+    let mut words = Vec::new(alloc);
+    for word in line.split('|') {
+        words.push(String::from_str(alloc, word)?)?;
+    }
+    Ok(words)
+}
+
+fn file(alloc: Global, name: &str, text: &str) -> Result<(Text, Bytes), Fail> {
+    let bytes = Bytes::new(String::from_str(alloc, text)?.into_bytes());
+    Ok((Text::copy_of(alloc, name)?, bytes))
+}
+
+fn files(alloc: Global, backend: u16) -> Result<MemFiles, Fail> {
+    let endpoints = format!(in alloc; "local,127.0.0.1:{backend}\ns/x:443,127.0.0.1:{backend}\n")?;
+    let mut files = Vec::new(alloc);
+    files.push(file(alloc, "t", "t1,root,1,\"system:masters\"\n")?)?;
+    files.push(file(alloc, "s", SERVICES)?)?;
+    files.push(file(alloc, "e", endpoints.as_str())?)?;
+    Ok(MemFiles::new(files, Vec::new(alloc)))
+}
+
+pub fn configured(alloc: Global, hook: u16, backend: u16) -> Result<ServeConfig, Fail> {
+    let words = words_of(alloc, hook)?;
+    match configure_serve(alloc, &words, &mut files(alloc, backend)?) {
+        Ok(config) => Ok(config),
+        Err(_) => Err(Fail::from("a configuration")),
+    }
+}
