@@ -1,0 +1,24 @@
+use Rattle.std.proofs.Common.{◌≡◌, List, All, refl, sym, subst}
+use Rattle.history_ends.specs.Histories.{SawOne}
+use Rattle.proxy_runs.specs.Setup.{options_of}
+use Rattle.serve_roles.specs.Doors.{bay_handles}
+use Rattle.shared_runs.proofs.RunLemmas.{told_shared}
+use Rattle.shared_runs.specs.Runs.{shared_routes}
+use Rattle.shared_runs.proofs.shared.run_shared.Goals as goal
+
+pub returns : goal.returns
+returns g c =
+    let h = bay_handles shared_routes g.P.L.Dial g.P.W.BatchSink g.P.H.BatchSink g.P.K.Clock g.P.Y.Diary g.P.D.Door
+    g.P.D.C.Source g.P.D.C.ByteSink g.P.D.C.Conn in
+    let saw = c.all_saw_one.ensures in
+    told_shared h g.row.P-Rt.Denot c.args.settings (options_of c.args.words.now c.args.listen) g.N.RouteName.home g.N.RouteName.opening
+    (g.P.Plant.tells c.args.plant.now) (g.P.Plant.tells c.run_configured-status.new.plant) c.in-Ok-share_routes.all.items
+    c.run_configured-status.result (record {
+      status = c.run_configured-status.result.status;
+      bays = c.unnamed_ends.result;
+      log = c.run_configured-status.result.log;
+      hook = c.run_configured-status.result.hook;
+    })
+    c.in-Ok-share_routes.ensures.fresh saw.0
+    (subst (All (SawOne g.N.RouteName.home g.N.RouteName.opening saw.0)) c.as_slice.ensures.value saw.1)
+    c.unnamed_ends.ensures refl refl refl c.run_configured-status.ensures
