@@ -1,5 +1,5 @@
 use Rattle.apiaggd.proofs.main.Given as goal
 
 -- the name of this run's routes
-abbrev pub ghosts-run_shared-left : goal.ghosts-run_shared-left
-ghosts-run_shared-left g a = record { home = a.routes.home; opening = a.routes.opening }
+abbrev pub ghosts-run_shared : goal.ghosts-run_shared
+ghosts-run_shared g a = record { home = a.routes.home; opening = a.routes.opening }
