@@ -161,13 +161,18 @@ fn come(alloc: Global, core: &mut Core, rows: &str) -> Result<bool, Fail> {
     Ok(true)
 }
 
+fn is_one_batch(state: &State) -> bool {
+    let hook = &state.shared.hook;
+    hook.tries.as_slice().len() == 1 && hook.taken.as_slice().len() == 2
+}
+
+fn runs(alloc: Global) -> Result<bool, Fail> {
+    let mut core = core_of(alloc, FORM)?;
+    Ok(come(alloc, &mut core, ROWS)? && is_one_batch(core.state()))
+}
+
 #[test]
 fn two_lines_of_a_request_are_one_batch(rt: HostRuntime) -> Result<(), Fail> {
-    let alloc = rt.alloc();
-    let mut core = core_of(alloc, FORM)?;
-    assert!(rt; come(alloc, &mut core, ROWS)?);
-    let hook = &core.state().shared.hook;
-    assert!(rt; hook.tries.as_slice().len() == 1);
-    assert!(rt; hook.taken.as_slice().len() == 2);
+    assert!(rt; runs(rt.alloc())?);
     Ok(())
 }
