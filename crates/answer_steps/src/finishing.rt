@@ -1,0 +1,241 @@
+// The step Finish: a request was answered.
+ghost use Rattle.std.specs.Prelude.{◌≡◌, ◌<◌, ℕ, List, Some, IfOk, OnOk, OnErr, vec_len, vec_capacity};
+ghost use Rattle.answer_steps.specs.Turns.{FinishesCurrent, answer_to, finished_by};
+ghost use Rattle.sink_steps.specs.Fixed.{Fixed, Keeps, setup_of};
+ghost use Rattle.sink_steps.specs.Running.{TurnsTo};
+ghost use Rattle.stage_event.specs.declared.facts.Kept as declared;
+ghost use Rattle.two_worlds.specs.Steps as spec;
+
+use audit_core::{Handling, LinkNote, kept_answer, status_of};
+use front_base::{Level, Moment, NoMemory, Stage};
+use offer_steps::{due, settle};
+use sink_steps::CoreSetup;
+use stage_event::{Kept, kept, reply_due};
+use start_steps::{handling, is_proxied, is_ready};
+use std::alloc::Global;
+use std::mem;
+use two_worlds::{Bay, Exchange, Items, Open, Shared, StepAnswer};
+
+fn has_started(started: Option<u16>, status: u16) -> bool
+    ensures { result ≡ spec.has_started started status }
+{
+    match started {
+        None => false,
+        Some(noted) => noted == status,
+    }
+}
+
+fn finishes(opened: &Open, status: u16) -> bool
+    ensures { result ≡ spec.finishes opened.now status }
+{
+    !opened.exchange.facts.info.is_long_running() || has_started(opened.phase.started, status)
+}
+
+fn can_finish(opened: &Open, status: u16) -> bool
+    ensures { result ≡ spec.can_finish opened.now.exchange.level opened.now status }
+{
+    match opened.exchange.level {
+        Level::None => true,
+        Level::Metadata | Level::Request | Level::RequestResponse => finishes(opened, status),
+    }
+}
+
+// What is kept of the answer of this server.
+#[tactic(auto, unfolding(two_worlds::specs::Steps::own_reply))]
+fn own_reply(alloc: Global, handling: &Handling, is_head: bool) -> Result<Kept, NoMemory>
+    ensures { IfOk result (λ kept. (own : Fixed) (keep : List ℕ → declared.Kept) → Keeps keep
+        → spec.own_reply (setup_of own keep) handling.now is_head ≡ kept) }
+{
+    if is_head {
+        kept(alloc, b"".as_slice())
+    } else {
+        kept_answer(alloc, handling, LinkNote::NotUsed, b"".as_slice())
+    }
+}
+
+// What is kept of the reply's body where an event shows it.
+fn reply_in(
+    alloc: Global,
+    handling: &Handling,
+    opened: &Open,
+    reply: Kept,
+) -> Result<Kept, NoMemory>
+    ensures { IfOk result (λ kept. (own : Fixed) (keep : List ℕ → declared.Kept) → Keeps keep
+        → spec.reply_in (setup_of own keep) handling.now opened.now reply ≡ kept) }
+{
+    if !reply_due(opened.exchange.level, &opened.exchange.facts.info) {
+        return Ok(Kept::NotAsked);
+    }
+    if is_proxied(handling) {
+        return Ok(reply);
+    }
+    own_reply(alloc, handling, opened.exchange.is_head)
+}
+
+// A link counts where the request is sent on.
+fn link_in(handling: &Handling, link: LinkNote) -> LinkNote
+    ensures { result ≡ spec.link_in handling.now link }
+{
+    if is_proxied(handling) {
+        link
+    } else {
+        LinkNote::NotUsed
+    }
+}
+
+// Notes that the request was answered, with that status, of whose body that is kept.
+fn note_finished(
+    alloc: Global,
+    setup: &CoreSetup,
+    link: LinkNote,
+    status: u16,
+    reply: Kept,
+    moment: Moment,
+    opened: &mut Open,
+) -> Result<(), NoMemory>
+    ensures ok { OnOk result ((keep : List ℕ → declared.Kept)
+        → opened.new ≡ finished_by (setup_of setup.now keep) link status reply moment opened.old) }
+    ensures err { OnErr result (opened.new ≡ opened.old) }
+{
+    let before = opened.exchange.facts.status;
+    let since = opened.exchange.facts.complete;
+    let seen = mem::replace(&mut opened.exchange.facts.reply, reply);
+    opened.exchange.facts.status = status;
+    opened.exchange.facts.complete = moment;
+    let level = opened.exchange.level;
+    match due(
+        alloc,
+        setup,
+        Stage::ResponseComplete,
+        level,
+        &opened.exchange.facts,
+    ) {
+        Ok(waiting) => {
+            opened.waiting = waiting;
+            opened.exchange.link = link;
+            opened.phase.finished = true;
+            opened.phase.last = moment;
+            Ok(())
+        }
+        Err(fault) => {
+            opened.exchange.facts.status = before;
+            opened.exchange.facts.complete = since;
+            opened.exchange.facts.reply = seen;
+            Err(fault)
+        }
+    }
+}
+
+// Notes that the request was answered as it was handled.
+fn finish_open(
+    alloc: Global,
+    setup: &CoreSetup,
+    handling: &Handling,
+    link: LinkNote,
+    reply: Kept,
+    moment: Moment,
+    opened: &mut Open,
+) -> Result<(), NoMemory>
+    ensures ok { OnOk result ((keep : List ℕ → declared.Kept) → Keeps keep
+        → opened.new ≡ spec.finished_with (setup_of setup.now keep) handling.now link reply moment opened.old) }
+    ensures err { OnErr result (opened.new ≡ opened.old) }
+{
+    let status = status_of(handling, link);
+    let noted = link_in(handling, link);
+    let shown = reply_in(alloc, handling, opened, reply)?;
+    note_finished(alloc, setup, noted, status, shown, moment, opened)
+}
+
+// Answers the exchange, and settles it.
+fn finish_current(
+    alloc: Global,
+    setup: &CoreSetup,
+    handling: &Handling,
+    link: LinkNote,
+    reply: Kept,
+    moment: Moment,
+    closed: &mut Vec<Exchange>,
+    current: &mut Option<Open>,
+) -> Result<(), NoMemory>
+    ensures ok { OnOk result ((keep : List ℕ → declared.Kept) → Keeps keep
+        → FinishesCurrent (setup_of setup.now keep) handling.now link reply moment
+        closed.old.items current.old closed.new.items current.new) }
+    ensures closed { OnErr result (closed.new.items ≡ closed.old.items) }
+    ensures current { OnErr result (current.new ≡ current.old) }
+{
+    closed.reserve(1)?;
+    let Some(opened) = current else {
+        return Ok(());
+    };
+    match finish_open(alloc, setup, handling, link, reply, moment, opened) {
+        Ok(()) => {
+            settle(closed, current);
+            Ok(())
+        }
+        Err(fault) => Err(fault),
+    }
+}
+
+// How the exchange is handled, where it can be answered so.
+fn answer_to(
+    alloc: Global,
+    setup: &CoreSetup,
+    link: LinkNote,
+    moment: Moment,
+    shared: &Shared,
+    current: &Option<Open>,
+) -> Result<Option<Handling>, NoMemory>
+    ensures { IfOk result (λ own. (keep : List ℕ → declared.Kept)
+        → own ≡ answer_to (setup_of setup.now keep) link moment shared.now current.now) }
+{
+    let Some(opened) = current else {
+        return Ok(None);
+    };
+    if !is_ready(opened, moment) {
+        return Ok(None);
+    }
+    let handling = handling(alloc, setup, shared, opened)?;
+    if can_finish(opened, status_of(&handling, link)) {
+        Ok(Some(handling))
+    } else {
+        Ok(None)
+    }
+}
+
+/// The step Finish of a bay. One that has no exchange, and one whose exchange can't be answered yet or is answered, are idle,
+/// and so is one whose long-running request didn't start with that status, unless nothing is recorded of it.
+pub fn finish(
+    alloc: Global,
+    setup: &CoreSetup,
+    link: LinkNote,
+    reply: Kept,
+    moment: Moment,
+    shared: &Shared,
+    b: &mut Bay,
+) -> Result<StepAnswer, NoMemory>
+    ensures ok { IfOk result (λ answer. (keep : List ℕ → declared.Kept) → Keeps keep
+        → TurnsTo (spec.in_exchange (spec.finished (setup_of setup.now keep) link reply moment) shared.now b.old)
+        shared.now b.old shared.now b.new answer) }
+    ensures err { OnErr result (b.new ≡ b.old) }
+{
+    let Some(handling) = answer_to(alloc, setup, link, moment, shared, &b.current)? else {
+        return Ok(StepAnswer::Idle);
+    };
+    let mut closed = b.closed.take_all(alloc);
+    let current = &mut b.current;
+    let done = finish_current(
+        alloc,
+        setup,
+        &handling,
+        link,
+        reply,
+        moment,
+        &mut closed,
+        current,
+    );
+    b.closed = Items::new(closed);
+    match done {
+        Ok(()) => Ok(StepAnswer::Noted),
+        Err(fault) => Err(fault),
+    }
+}

@@ -1,0 +1,12 @@
+use Rattle.std.proofs.Common.{◌≡◌, []}
+use Rattle.begin_steps.proofs.BeginLemmas.{bare_as}
+use Rattle.begin_steps.proofs.beginning.bare_open.Goals as goal
+use Rattle.sink_steps.specs.Fixed.{setup_of}
+
+pub returns : goal.returns
+returns c =
+    let judged = rw c.settings.ensures.is at c.in_ok-judged.ensures in
+    let none : c.new-2.result ≡ [] = cc in
+    λ keep. bare_as (setup_of c.args.setup.now keep) c.args.id c.args.peer c.args.request.now c.args.moment
+    c.in_ok-judged.judged _ _ _ _ _ none c.requires judged c.in_ok-target.ensures c.in_ok-agent.ensures c.begin-facts.ensures
+    c.bare_exchange-exchange.ensures

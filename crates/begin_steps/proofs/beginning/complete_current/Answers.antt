@@ -1,0 +1,12 @@
+use Rattle.std.proofs.lemmas.Result.{on_ok_weaker}
+use Rattle.begin_steps.proofs.BeginLemmas.{current_completed}
+use Rattle.begin_steps.proofs.beginning.complete_current.Goals as goal
+use Rattle.sink_steps.specs.Fixed.{setup_of}
+
+pub returns-in-Some : goal.returns-in-Some
+returns-in-Some c =
+    on_ok_weaker
+    c.complete.result
+    (λ h keep k. current_completed (setup_of c.args.setup.now keep) (keep c.args.request.now.body) c.args.current.now
+    c.in-Some.opened c.complete.new.opened c.in-Some.is (h keep k))
+    c.complete.ensures

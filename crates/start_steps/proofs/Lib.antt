@@ -1,0 +1,2 @@
+mod HandlingLemmas
+mod StartLemmas
