@@ -57,7 +57,7 @@ struct Task<X> {
 
 impl<X: Routes> Task<X> {
     fn find(&mut self, asked: &LookUps) {
-        let mut turn = 0;
+        let mut turn = 0usize;
         for _ in 0..asked.times {
             if let Some((group, version)) = asked.keys.get(turn) {
                 let found = self
@@ -65,11 +65,10 @@ impl<X: Routes> Task<X> {
                     .find(self.alloc, group.as_str(), version.as_str());
                 self.good = self.good && matches!(found, Ok(Some(_)));
             }
-            turn = if turn + 1 < asked.keys.len() {
-                turn + 1
-            } else {
-                0
-            };
+            turn = turn.saturating_add(1);
+            if turn >= asked.keys.len() {
+                turn = 0;
+            }
         }
     }
 
