@@ -1,5 +1,5 @@
 -- What is the beginning of a list is the beginning of what that is the beginning of.
-use Rattle.std.proofs.Common.{◌≡◌, ◌++◌, List, All, ap, sym, ◌∙◌, append_assoc}
+use Rattle.std.proofs.Common.{◌++◌, List, All, ap, sym, ◌∙◌, append_assoc}
 use Rattle.std.proofs.lemmas.List.Elements.{All-weaker}
 use mathlib.Core.List.{IsPrefix}
 use Rattle.apiservice_rows.specs.Row.{Row}

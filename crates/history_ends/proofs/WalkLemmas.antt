@@ -1,5 +1,5 @@
 -- Lists that are walked by value.
-use Rattle.std.proofs.Common.{◌≡◌, ◌<◌, List, [], ◌∷◌, ◌++◌, length, length-append, map, append_assoc, append-nil, suc, refl, sym, ap, ◌∙◌, arith}
+use Rattle.std.proofs.Common.{◌≡◌, List, [], ◌∷◌, ◌++◌, length, map, append_assoc, append-nil, sym, ap, ◌∙◌, arith}
 use Rattle.std.proofs.lemmas.List.{map-append}
 
 pub next_whole : {A : Type 0} (xs ys rest zs : List A) (x : A) → xs ≡ ys ++ rest → rest ≡ x ∷ zs → xs ≡ (ys ++ x ∷ []) ++ zs
@@ -14,10 +14,3 @@ image_more f ys x us vs u e g h = g ∙ (ap (λ z. z ++ u ∷ []) e ∙ (ap (λ 
 pub all_of : {A : Type 0} (xs ys rest : List A) → xs ≡ ys ++ rest → length rest ≡ 0 → ys ≡ xs
 all_of xs ys [] e r = sym (append-nil ys) ∙ sym e
 all_of xs ys (z ∷ rest) e r = absurd (omega arith)
-
-pub image_count : {A B : Type 0} (f : A → B) (ys : List A) → length (map f ys) ≡ length ys
-image_count f [] = refl
-image_count f (y ∷ ys) = ap suc (image_count f ys)
-
-pub next_below : {A : Type 0} (xs ys rest zs : List A) (x : A) → xs ≡ ys ++ rest → rest ≡ x ∷ zs → length ys < length xs
-next_below xs ys rest zs x e r = omega (arith, ap length (e ∙ ap (λ l. ys ++ l) r), length-append ys (x ∷ zs))
