@@ -1,4 +1,4 @@
-use Rattle.std.proofs.Common.{◌≡◌, List, All, refl, sym, subst}
+use Rattle.std.proofs.Common.{All, refl, subst}
 use Rattle.history_ends.specs.Histories.{SawOne}
 use Rattle.proxy_runs.specs.Setup.{options_of}
 use Rattle.serve_roles.specs.Doors.{bay_handles}
