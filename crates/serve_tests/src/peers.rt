@@ -6,7 +6,8 @@ use std::io::{Read, Write};
 use std::net::{Net, SocketAddr, TcpListener, TcpStream};
 
 pub fn connect<R: Net<Stream = TcpStream>>(rt: &R, to: Address) -> io::Result<TcpStream> {
-    TcpStream::connect(rt, SocketAddr::from((to.ip, to.port)))
+    let ip = to.ip;
+    TcpStream::connect(rt, SocketAddr::from((ip, to.port)))
 }
 
 pub fn listen<R: Net<Listener = TcpListener, Stream = TcpStream>>(

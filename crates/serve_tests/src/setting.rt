@@ -20,18 +20,22 @@ fn words_of(alloc: Global, hook: u16) -> Result<Vec<String>, AllocError> {
     Ok(words)
 }
 
-fn file(alloc: Global, name: &str, text: &str) -> Result<(Text, Bytes), Fail> {
-    let bytes = Bytes::new(String::from_str(alloc, text)?.into_bytes());
-    Ok((Text::copy_of(alloc, name)?, bytes))
+fn bytes_of(alloc: Global, text: &str) -> Result<Bytes, AllocError> {
+    Ok(Bytes::new(text.as_bytes().to_vec(alloc)?))
 }
 
 fn files(alloc: Global, backend: u16) -> Result<MemFiles, Fail> {
-    let endpoints = format!(in alloc; "local,127.0.0.1:{backend}\ns/x:443,127.0.0.1:{backend}\n")?;
-    let mut files = Vec::new(alloc);
-    files.push(file(alloc, "t", "t1,root,1,\"system:masters\"\n")?)?;
-    files.push(file(alloc, "s", SERVICES)?)?;
-    files.push(file(alloc, "e", endpoints.as_str())?)?;
-    Ok(MemFiles::new(files, Vec::new(alloc)))
+    let to = format!(in alloc; "local,127.0.0.1:{backend}\ns/x:443,127.0.0.1:{backend}\n")?;
+    let tokens = (
+        Text::copy_of(alloc, "t")?,
+        bytes_of(alloc, "t1,root,1,\"system:masters\"\n")?,
+    );
+    let services = (Text::copy_of(alloc, "s")?, bytes_of(alloc, SERVICES)?);
+    let endpoints = (Text::copy_of(alloc, "e")?, bytes_of(alloc, to.as_str())?);
+    Ok(MemFiles::new(
+        vec![in alloc; tokens, services, endpoints]?,
+        Vec::new(alloc),
+    ))
 }
 
 pub fn configured(alloc: Global, hook: u16, backend: u16) -> Result<ServeConfig, Fail> {
