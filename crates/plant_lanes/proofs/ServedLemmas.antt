@@ -1,5 +1,6 @@
 -- What becomes of the lanes of a sink.
-use Rattle.std.proofs.Common.{◌≡◌, ◌≤◌, ◌+◌, ℕ, zero, suc, List, [], ◌∷◌, length, map, get_or, slice_get, Option, Some, None, IfSome, All, refl, sym, ap, ◌∙◌, subst, arith}
+use Rattle.std.proofs.Common.{◌≡◌, ◌≤◌, ◌+◌, ℕ, zero, suc, true, List, [], ◌∷◌, length, map, get_or, slice_get, Option, Some, None, IfSome, All, refl, sym, ap, ◌∙◌, subst, arith}
+use Rattle.any_lane.specs.Lanes.{any_queued}
 use Rattle.any_lane.specs.declared.lane.AnyLane.{AnyLane}
 use Rattle.any_lane.specs.declared.lane.AnyLane.TheVariants as lane
 use Rattle.audit_core.specs.declared.sinks.SinkMode.{SinkMode}
@@ -55,6 +56,15 @@ module _ {S R : Type 0} where
   own_after (s ∷ own) (lane.Queue l ∷ after) p = let q = p.0.queued in absurd cc
   own_after (s ∷ own) (lane.Own o ∷ after) p = ap (λ z. lane.Own o ∷ z) (own_after own after p.1)
 
+  -- lanes of a queue stay such
+  queued_after : (queue : List (QueueLane R)) (after : List (AnyLane S R)) → AllPairs SameAny (map queue_lane queue) after
+      → (bay : ℕ) → IfSome (slice_get after bay) (λ l. any_queued l ≡ true)
+  queued_after [] [] p bay = tt
+  queued_after [] (x ∷ after) p bay = absurd p
+  queued_after (q ∷ queue) [] p bay = absurd p
+  queued_after (q ∷ queue) (x ∷ after) p zero = p.0.queued
+  queued_after (q ∷ queue) (x ∷ after) p (suc bay) = queued_after queue after p.1 bay
+
 module _ {S R K : Type 0} (s : sinks.Ghosts S) (stay : StaysTogether S R K s) where
   -- where there is no drainer, nothing is left of one
   none_ran : (drain ran : Option (QueueDrain S R K)) → drain ≡ None → IfBoth (RanDrain s) drain ran → ran ≡ None
@@ -87,17 +97,19 @@ module _ {S R K : Type 0} (s : sinks.Ghosts S) (stay : StaysTogether S R K s) wh
 
   some_drained : (bays capacity : ℕ) (limits : Limits) (allots : List ℕ) (after : List (AnyLane S R)) (ran : Option (QueueDrain S R K))
       (end : SinkEnd S K) (o : Option (DrainEnd S K)) (d : QueueDrain S R K) → end.drain ≡ o → length allots ≡ bays → length after ≡ bays
+      → ((bay : ℕ) → IfSome (slice_get after bay) (λ l. any_queued l ≡ true))
       → IfBoth (RanDrain s) (Some d) ran → StayTogether s capacity allots limits after ran → Ends s (queued_parts after) ran o
       → IsDrained s bays capacity limits after end
-  some_drained bays capacity limits allots after None end o d e n m b t x = absurd b
-  some_drained bays capacity limits allots after (Some r) end None d e n m b t x = absurd x
-  some_drained bays capacity limits allots after (Some r) end (Some left) d e n m b t x = record {
+  some_drained bays capacity limits allots after None end o d e n m q b t x = absurd b
+  some_drained bays capacity limits allots after (Some r) end None d e n m q b t x = absurd x
+  some_drained bays capacity limits allots after (Some r) end (Some left) d e n m q b t x = record {
     allots = allots;
     allotted = n;
     drain = left;
     drain_is = e;
     tries = x.tries;
     told = x.told;
+    queued = q;
     accepted = λ bay. subst (λ z. IfSome (slice_get after bay) (ToldQueued s capacity allots bay z)) (x.bays bay) (t.told bay);
     others = λ bay lt.
         let few = few_parts after in
@@ -119,6 +131,7 @@ module _ {S R K : Type 0} (s : sinks.Ghosts S) (stay : StaysTogether S R K s) wh
       let m : length before ≡ bays =
       ap length a.queued.lanes_are ∙ (image_count queue_lane a.queued.queue ∙ (a.queued.new.count ∙ a.count)) in
       some_drained bays capacity limits a.allots after ran end end.drain a.queued.drained refl a.count (n ∙ m)
+      (queued_after a.queued.queue after (subst (λ z. AllPairs SameAny z after) a.queued.lanes_are p))
       (subst (λ z. IfBoth (RanDrain s) z ran) a.queued.drain_is b) t x
 
   pub can_all_end : CanAllEnd S R K s

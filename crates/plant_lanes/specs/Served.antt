@@ -1,5 +1,6 @@
 -- What became of the lines that bays offered for a sink, by the sink's mode.
-use Rattle.std.specs.Prelude.{◌≡◌, ◌+◌, ◌≤◌, ◌^◌, ◌-◌, min, ℕ, List, [], map, length, slice_get, Option, Some, None, IfSome, All}
+use Rattle.std.specs.Prelude.{◌≡◌, ◌+◌, ◌≤◌, ◌^◌, ◌-◌, min, ℕ, List, [], map, length, slice_get, Option, Some, None, IfSome, All, true}
+use Rattle.any_lane.specs.Lanes.{any_queued}
 use Rattle.any_lane.specs.declared.lane.AnyLane.{AnyLane}
 use Rattle.audit_core.specs.declared.sinks.SinkMode.{SinkMode}
 use Rattle.audit_core.specs.declared.sinks.SinkMode.TheVariants.{Off, Batch, Blocking, Strict}
@@ -19,8 +20,8 @@ use Rattle.truncate_backend.specs.Tries.{Try, lines_of, done_of}
 use Rattle.truncate_backend.specs.declared.sink.BatchSink as sinks
 
 -- Of a sink in batch mode: these tries were made by its one drainer, and are those of the sink where it tells them. Their lines,
--- joined, have each bay's accepted lines in order, each once, and no line of anybody else. A lane was Full only where its
--- allotment is spent, or where the queue can be full
+-- joined, have each bay's accepted lines in order, each once, and no line of anybody else. Each lane is one of a queue, and was Full only
+-- where its allotment is spent, or where the queue can be full
 pub record IsDrained {S R K : Type 0} (s : sinks.Ghosts S) (bays capacity : ℕ) (limits : Limits) (lanes : List (AnyLane S R)) (end : SinkEnd S K)
     : Type 0 where
   pub allots : List ℕ
@@ -29,6 +30,7 @@ pub record IsDrained {S R K : Type 0} (s : sinks.Ghosts S) (bays capacity : ℕ)
   pub drain_is : end.drain ≡ Some drain
   pub tries : List Try
   pub told : IfSome (s.tells drain.sink).tries (λ own. own ≡ tries)
+  pub queued : (bay : ℕ) → IfSome (slice_get lanes bay) (λ lane. any_queued lane ≡ true)
   pub accepted : (bay : ℕ) → IfSome (slice_get lanes bay) (ToldQueued s capacity allots bay (of_bay bay (lines_of tries)))
   pub others : (bay : ℕ) → bays ≤ bay → of_bay bay (lines_of tries) ≡ []
   pub within : All (λ (t : Try). WithinLimits limits t.lines) tries
