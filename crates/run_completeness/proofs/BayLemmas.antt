@@ -1,6 +1,7 @@
 -- What bays keep.
-use Rattle.std.proofs.Common.{◌≡◌, ◌<◌, ℕ, zero, suc, List, [], ◌∷◌, length, map, slice_get, Option, Some, IfSome, refl, sym, ap, ◌∙◌, subst}
-use Rattle.any_lane.specs.Lanes.{any_tells}
+use Rattle.std.proofs.Common.{◌≡◌, ◌+◌, ◌≤◌, ◌<◌, ◌-◌, ◌^◌, min, ◌⊎◌, ℕ, true, zero, suc, List, [], ◌∷◌, length, map, sum, get_or, slice_get, Option, Some, None, IfSome, refl, sym, ap, ◌∙◌, subst, arith}
+use Rattle.std.specs.Prelude.{All}
+use Rattle.any_lane.specs.Lanes.{any_queued, any_tells}
 use Rattle.any_lane.specs.declared.lane.AnyLane.{AnyLane}
 use Rattle.audit_core.specs.declared.settings.Settings.{Settings}
 use Rattle.audit_core.specs.declared.sinks.Sink.TheVariants.{Log, Webhook}
@@ -8,7 +9,8 @@ use Rattle.connection_laws.specs.Whole.{offers_in}
 use Rattle.front_base.specs.Line.{Line}
 use Rattle.plant_lanes.specs.Served.{IsDrained, IsOwn}
 use Rattle.plant_lanes.specs.declared.options.RunOptions.{RunOptions}
-use Rattle.run_completeness.specs.Kept.{BatchesKeepAll, KeepsBatched, KeepsOwn, TriesKeepAll}
+use Rattle.queue_drain.specs.declared.drain_end.DrainEnd.{DrainEnd}
+use Rattle.run_completeness.specs.Kept.{AllWritten, BatchesKeepAll, KeepsBatched, KeepsOwn, TriesKeepAll}
 use Rattle.run_completeness.proofs.DrainLemmas.{batches_keep, map_some, some_at}
 use Rattle.run_completeness.proofs.LaneLemmas.{Accepts, Fails, Fills, Tries, account, keeps_put, lane_offered, own_taken, own_written, room_for_all}
 use Rattle.run_completeness.proofs.TellLemmas.{bay_told}
@@ -19,7 +21,9 @@ use Rattle.shared_queue.specs.Bays.{of_bay}
 use Rattle.sink_lanes.specs.Lanes.{own_lane}
 use Rattle.sink_lanes.specs.Together.{ToldQueued}
 use Rattle.sink_lanes.specs.declared.ending.SinkEnd.{SinkEnd}
-use Rattle.truncate_backend.specs.Tries.{lines_of}
+use Rattle.truncate_backend.specs.Tries.{Try, done_of, lines_of}
+use Rattle.truncate_backend.specs.declared.sink.BatchSink as sinks
+use Rattle.truncate_backend.specs.declared.tries.TryAnswer.TheVariants.{Done}
 
 -- ---- a lane over a bay's own sink
 
@@ -42,9 +46,10 @@ module _ {R L N W H T K Y D C : Type 0} (h : BayHandles R L N W H K Y D C) (set 
 
   log_keeps : (accepts : Accepts) (fills : Fills) (capacity : ℕ) (allots : List ℕ) (put : List Line) (k : ℕ) (end : BayEnd R L K Y D)
       (b : BayServed h set boot due tables logs hooks k end) → ToldQueued h.log capacity allots k put b.log
-      → KeepsBatched h set Log capacity allots put k end
-  log_keeps accepts fills capacity allots put k end b q =
+      → any_queued b.log ≡ true → KeepsBatched h set Log capacity allots put k end
+  log_keeps accepts fills capacity allots put k end b q queue =
       let t = b.told in
+      let queued = sym t.lanes.log.queued ∙ ap (λ n. n.lanes.log.queued) b.ends ∙ queue in
       let notes = offers_in b.exchanges in
       let none = b.opens.lanes.0.none_accepted in
       let is = ap (λ n. n.lanes.log.tells.accepted) b.ends ∙ q.accepted_is in
@@ -52,17 +57,18 @@ module _ {R L N W H T K Y D C : Type 0} (h : BayHandles R L N W H K Y D C) (set 
         told = bay_told h set boot due tables logs hooks k end b;
         offered = sym (ap (λ n. n.lanes.log.lines) b.ends)
             ∙ lane_offered Log t.due b.m.lanes b.n.lanes notes k t.offered b.opens.bay_is b.opens.lines.0;
-        account = account Log t.due b.m.lanes b.n.lanes notes k t.offered b.opens.bay_is b.opens.lines.0 accepts fills put none is;
-        none_full = room_for_all Log t.due b.m.lanes b.n.lanes notes k t.offered b.opens.bay_is b.opens.lines.0 accepts fills put none is
+        account = account Log t.due b.m.lanes b.n.lanes notes k t.offered b.opens.bay_is b.opens.lines.0 accepts fills put none is queued;
+        none_full = room_for_all Log t.due b.m.lanes b.n.lanes notes k t.offered b.opens.bay_is b.opens.lines.0 accepts fills put none is queued
             capacity allots (λ some. q.full (subst (λ x. 0 < x) (ap (λ n. n.lanes.log.tells.fulls) b.ends) some));
-        keeps = keeps_put Log t.due b.m.lanes b.n.lanes notes k t.offered b.opens.bay_is b.opens.lines.0 accepts fills put none is;
+        keeps = keeps_put Log t.due b.m.lanes b.n.lanes notes k t.offered b.opens.bay_is b.opens.lines.0 accepts fills put none is queued;
       }
 
   hook_keeps : (accepts : Accepts) (fills : Fills) (capacity : ℕ) (allots : List ℕ) (put : List Line) (k : ℕ) (end : BayEnd R L K Y D)
       (b : BayServed h set boot due tables logs hooks k end) → ToldQueued h.hook capacity allots k put b.hook
-      → KeepsBatched h set Webhook capacity allots put k end
-  hook_keeps accepts fills capacity allots put k end b q =
+      → any_queued b.hook ≡ true → KeepsBatched h set Webhook capacity allots put k end
+  hook_keeps accepts fills capacity allots put k end b q queue =
       let t = b.told in
+      let queued = sym t.lanes.hook.queued ∙ ap (λ n. n.lanes.hook.queued) b.ends ∙ queue in
       let notes = offers_in b.exchanges in
       let none = b.opens.lanes.1.none_accepted in
       let is = ap (λ n. n.lanes.hook.tells.accepted) b.ends ∙ q.accepted_is in
@@ -70,10 +76,10 @@ module _ {R L N W H T K Y D C : Type 0} (h : BayHandles R L N W H K Y D C) (set 
         told = bay_told h set boot due tables logs hooks k end b;
         offered = sym (ap (λ n. n.lanes.hook.lines) b.ends)
             ∙ lane_offered Webhook t.due b.m.lanes b.n.lanes notes k t.offered b.opens.bay_is b.opens.lines.1;
-        account = account Webhook t.due b.m.lanes b.n.lanes notes k t.offered b.opens.bay_is b.opens.lines.1 accepts fills put none is;
-        none_full = room_for_all Webhook t.due b.m.lanes b.n.lanes notes k t.offered b.opens.bay_is b.opens.lines.1 accepts fills put none is
+        account = account Webhook t.due b.m.lanes b.n.lanes notes k t.offered b.opens.bay_is b.opens.lines.1 accepts fills put none is queued;
+        none_full = room_for_all Webhook t.due b.m.lanes b.n.lanes notes k t.offered b.opens.bay_is b.opens.lines.1 accepts fills put none is queued
             capacity allots (λ some. q.full (subst (λ x. 0 < x) (ap (λ n. n.lanes.hook.tells.fulls) b.ends) some));
-        keeps = keeps_put Webhook t.due b.m.lanes b.n.lanes notes k t.offered b.opens.bay_is b.opens.lines.1 accepts fills put none is;
+        keeps = keeps_put Webhook t.due b.m.lanes b.n.lanes notes k t.offered b.opens.bay_is b.opens.lines.1 accepts fills put none is queued;
       }
 
   pub log_batches : (accepts : Accepts) (fills : Fills) (options : RunOptions) (bays : List (BayEnd R L K Y D)) (end : SinkEnd W K)
@@ -83,7 +89,8 @@ module _ {R L N W H T K Y D C : Type 0} (h : BayHandles R L N W H K Y D C) (set 
       batches_keep h h.log set Log options bays end logs count d (λ k. map_some (Served k)
       (KeepsBatched h set Log options.buffer d.allots (of_bay k (lines_of d.tries)) k) (slice_get bays k)
       (λ x b. log_keeps accepts fills options.buffer d.allots (of_bay k (lines_of d.tries)) k x b
-      (some_at (ToldQueued h.log options.buffer d.allots k (of_bay k (lines_of d.tries))) (slice_get logs k) b.log (d.accepted k) b.log_is))
+      (some_at (ToldQueued h.log options.buffer d.allots k (of_bay k (lines_of d.tries))) (slice_get logs k) b.log (d.accepted k) b.log_is)
+      (some_at (λ l. any_queued l ≡ true) (slice_get logs k) b.log (d.queued k) b.log_is))
       (served k))
 
   pub hook_batches : (accepts : Accepts) (fills : Fills) (options : RunOptions) (bays : List (BayEnd R L K Y D)) (end : SinkEnd H K)
@@ -93,7 +100,8 @@ module _ {R L N W H T K Y D C : Type 0} (h : BayHandles R L N W H K Y D C) (set 
       batches_keep h h.hook set Webhook options bays end hooks count d (λ k. map_some (Served k)
       (KeepsBatched h set Webhook options.buffer d.allots (of_bay k (lines_of d.tries)) k) (slice_get bays k)
       (λ x b. hook_keeps accepts fills options.buffer d.allots (of_bay k (lines_of d.tries)) k x b
-      (some_at (ToldQueued h.hook options.buffer d.allots k (of_bay k (lines_of d.tries))) (slice_get hooks k) b.hook (d.accepted k) b.hook_is))
+      (some_at (ToldQueued h.hook options.buffer d.allots k (of_bay k (lines_of d.tries))) (slice_get hooks k) b.hook (d.accepted k) b.hook_is)
+      (some_at (λ l. any_queued l ≡ true) (slice_get hooks k) b.hook (d.queued k) b.hook_is))
       (served k))
 
   -- ---- a bay's own sink

@@ -1,9 +1,9 @@
 -- What a drainer's counts say.
-use Rattle.std.proofs.Common.{◌≡◌, ◌+◌, ◌≤◌, ◌<◌, ◌-◌, ◌^◌, min, ℕ, List, length, slice_get, Option, Some, None, IfSome, sym, ap, ◌∙◌, subst, arith, sum_by}
+use Rattle.std.proofs.Common.{◌≡◌, ◌+◌, ◌≤◌, ◌<◌, ◌-◌, ◌^◌, min, ℕ, List, [], ◌∷◌, length, slice_get, Option, Some, None, IfSome, refl, sym, ap, ◌∙◌, subst, arith, sum_by}
 use Rattle.any_lane.specs.declared.lane.AnyLane.{AnyLane}
 use Rattle.audit_core.specs.declared.settings.Settings.{Settings}
 use Rattle.audit_core.specs.declared.sinks.Sink.{Sink}
-use Rattle.connection_laws.specs.Whole.{offers_in, count_of, is_full, is_failure}
+use Rattle.connection_laws.specs.Whole.{offers_in, count_of, is_full}
 use Rattle.plant_lanes.specs.Served.{IsDrained}
 use Rattle.plant_lanes.specs.declared.options.RunOptions.{RunOptions}
 use Rattle.queue_drain.specs.declared.drain_end.DrainEnd.{DrainEnd}
@@ -43,14 +43,11 @@ all_written drain tries unwritten e w l d = record {
 
 -- ---- where it wrote as many lines as were offered
 
-each_few : (put full failed due offered : ℕ) → put + full + failed ≡ due → offered ≡ due → put ≤ offered
-each_few put full failed due offered e f = omega (arith, e, f)
+each_few : (put full due offered : ℕ) → put + full ≡ due → offered ≡ due → put ≤ offered
+each_few put full due offered e f = omega (arith, e, f)
 
-no_full : (put full failed due offered : ℕ) → put + full + failed ≡ due → offered ≡ due → put ≡ offered → full ≡ 0
-no_full put full failed due offered e f g = omega (arith, e, f, g)
-
-no_failed : (put full failed due offered : ℕ) → put + full + failed ≡ due → offered ≡ due → put ≡ offered → failed ≡ 0
-no_failed put full failed due offered e f g = omega (arith, e, f, g)
+no_full : (put full due offered : ℕ) → put + full ≡ due → offered ≡ due → put ≡ offered → full ≡ 0
+no_full put full due offered e f g = omega (arith, e, f, g)
 
 wrote_all : (written done all held offered : ℕ) → written ≡ min done (2 ^ 64 - 1) → written ≡ offered → written < 2 ^ 64 - 1
     → done ≤ all → all ≤ held → held ≤ offered → done ≡ all
@@ -70,8 +67,7 @@ module _ {R L N W H K Y D C S T : Type 0} (h : BayHandles R L N W H K Y D C) (s 
   bay_few : (k : ℕ) → IfSome (slice_get bays k) (λ x. held k ≤ offered_to sink x)
   bay_few k =
       map_some (KeepsBatched h set sink options.buffer d.allots (of_bay k (lines_of d.tries)) k) (λ x. held k ≤ offered_to sink x) (slice_get bays k)
-      (λ x b. each_few (held k) (count_of is_full sink (offers_in b.told.exchanges)) (count_of is_failure sink (offers_in b.told.exchanges)) _
-      (offered_to sink x) b.account b.offered) (each k)
+      (λ x b. each_few (held k) (count_of is_full sink (offers_in b.told.exchanges)) _ (offered_to sink x) b.account b.offered) (each k)
 
   all_held : length (lines_of d.tries) ≤ total held bays
   all_held = shares bays (lines_of d.tries) (λ bay above. d.others bay (subst (λ n. n ≤ bay) count above))
@@ -80,11 +76,7 @@ module _ {R L N W H K Y D C S T : Type 0} (h : BayHandles R L N W H K Y D C) (s 
       → held k ≡ offered_to sink x → KeptBay h set sink (of_bay k (lines_of d.tries)) k x
   bay_keeps k x b e = record {
     told = b.told;
-    kept = b.keeps
-        (no_full (held k) (count_of is_full sink (offers_in b.told.exchanges)) (count_of is_failure sink (offers_in b.told.exchanges)) _
-        (offered_to sink x) b.account b.offered e)
-        (no_failed (held k) (count_of is_full sink (offers_in b.told.exchanges)) (count_of is_failure sink (offers_in b.told.exchanges)) _
-        (offered_to sink x) b.account b.offered e);
+    kept = b.keeps (no_full (held k) (count_of is_full sink (offers_in b.told.exchanges)) _ (offered_to sink x) b.account b.offered e);
   }
 
   both_some : {A : Type 0} (P Q E : A → Type 0) (o : Option A) → ((x : A) → P x → Q x → E x) → IfSome o P → IfSome o Q → IfSome o E

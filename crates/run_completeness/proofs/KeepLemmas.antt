@@ -1,5 +1,5 @@
 -- What offers keep, one after another.
-use Rattle.std.proofs.Common.{◌≡◌, ◌+◌, ◌<◌, ◌≤◌, ◌-◌, ◌^◌, ◌&&◌, min, ◌⊎◌, inl, inr, ℕ, zero, suc, Bool, true, false, if◌then◌else◌, List, [], ◌∷◌, ◌++◌, length, length-append, refl, sym, ap, ◌∙◌, arith}
+use Rattle.std.proofs.Common.{◌≡◌, ◌+◌, ◌<◌, ◌≤◌, ◌-◌, ◌^◌, ◌&&◌, min, ◌⊎◌, inl, inr, ℕ, zero, suc, Bool, true, false, if◌then◌else◌, List, [], ◌∷◌, ◌++◌, length, length-append, refl, sym, ap, ◌∙◌, subst, arith}
 use Rattle.std.proofs.lemmas.List.Elements.{All-cons, All-head, All-nil, All-same, All-tail}
 use Rattle.audit_core.specs.Offers.{Due}
 use Rattle.audit_core.specs.declared.offers.OfferNote.{OfferNote}
@@ -9,10 +9,11 @@ use Rattle.audit_core.specs.declared.sinks.Sink.{Sink}
 use Rattle.audit_core.specs.declared.sinks.Sink.TheVariants.{Log, Webhook}
 use Rattle.connection_laws.specs.Whole.{count_of, one_if, is_full, is_failure}
 use Rattle.event_offers.specs.Lanes.{LaneState, LanesState}
-use Rattle.event_offers.specs.Offering.{OffersAll, OffersTo, OffersFit, note_of, outcome_of}
+use Rattle.event_offers.specs.Offering.{OffersAll, OffersTo, OffersFit, OffersLine, next_line, note_of, outcome_of}
 use Rattle.event_offers.specs.Taken.{lane_of, is_taken, is_for, kept_line, line_in, count_in, lines_for}
 use Rattle.front_base.specs.Line.{Line}
 use Rattle.run_completeness.specs.Kept.{AllFit, AllTaken, has_line, line_due, lines_due}
+use Rattle.truncate_backend.specs.Lanes.{LaneTells, Offered}
 use Rattle.truncate_backend.specs.declared.fitted.Fit.{Fit}
 use Rattle.truncate_backend.specs.declared.fitted.Fit.TheVariants as fit
 use Rattle.truncate_backend.specs.declared.lane.Offer.{Offer}
@@ -162,6 +163,41 @@ pub never_full : (room sums own due taken full failed : ℕ) → taken + full + 
 never_full room sums own due taken zero failed c r d why = refl
 never_full room sums own due taken (suc k) failed c r d why =
     one_way room sums own due taken (suc k) failed c r d (why (omega arith))
+
+-- no offer to a queue fails
+queue_takes : (m n : LaneTells) (line : Line) (queued : Bool) (a : Offer) → Offered m line queued a n → queued ≡ true
+    → one_if (is_failure (outcome_of a)) ≡ 0
+queue_takes m n line queued answer.Taken h q = refl
+queue_takes m n line queued (answer.Full back) h q = refl
+queue_takes m n line queued (answer.Failed back) h q = let z = h.1 in absurd (cc)
+
+line_queued : (bay : ℕ) (bytes : List ℕ) (m n : LaneState) (own : Outcome) → OffersLine bay bytes m own n → m.queued ≡ true
+    → (one_if (is_failure own) ≡ 0) × (n.queued ≡ true)
+line_queued bay bytes m n own h q = (
+  ap (λ o. one_if (is_failure o)) h.outcome_is ∙ queue_takes m.tells n.tells (next_line bay m bytes) m.queued h.answer h.offered q,
+  ap (λ (s : LaneState). s.queued) h.after ∙ q,
+)
+
+fit_queued : (bay : ℕ) (written : Fit) (m n : LaneState) (own : Outcome) → OffersFit bay written m own n → m.queued ≡ true
+    → (one_if (is_failure own) ≡ 0) × (n.queued ≡ true)
+fit_queued bay (fit.Whole bytes) m n own h q = line_queued bay bytes m n own h q
+fit_queued bay (fit.Stripped bytes) m n own h q = line_queued bay bytes m n own h q
+fit_queued bay (fit.TooLarge size) m n own h q =
+    (ap (λ o. one_if (is_failure o)) h.0, ap (λ (s : LaneState). s.queued) h.1 ∙ q)
+
+one_queued : (sink to : Sink) (written : Fit) (m n : LanesState) (own : Outcome) → OffersTo to written m own n
+    → (lane_of sink m).queued ≡ true → (one_if (is_for sink to && is_failure own) ≡ 0) × ((lane_of sink n).queued ≡ true)
+one_queued Log Log written m n own h q = fit_queued m.bay written m.log n.log own h.0 q
+one_queued Log Webhook written m n own h q = (refl, ap (λ (s : LanesState). s.log.queued) h.1 ∙ q)
+one_queued Webhook Log written m n own h q = (refl, ap (λ (s : LanesState). s.hook.queued) h.1 ∙ q)
+one_queued Webhook Webhook written m n own h q = fit_queued m.bay written m.hook n.hook own h.0 q
+
+pub none_failed : (sink : Sink) (dues : List Due) (m n : LanesState) (notes : List OfferNote) → OffersAll dues m notes n
+    → (lane_of sink m).queued ≡ true → count_of is_failure sink notes ≡ 0
+none_failed sink [] m n notes h q = ap (count_of is_failure sink) h.0
+none_failed sink (due ∷ dues) m n notes h q =
+    let one = one_queued sink due.sink due.fit m h.2 h.0 h.3 q in
+    ap (count_of is_failure sink) h.4 ∙ omega (arith, one.0, none_failed sink dues h.2 n h.1 h.5 one.1)
 
 -- ---- a count that stayed
 

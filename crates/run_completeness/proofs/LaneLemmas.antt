@@ -1,18 +1,18 @@
 -- What one lane was offered and keeps.
-use Rattle.std.proofs.Common.{◌≡◌, ◌+◌, ◌≤◌, ◌<◌, ◌-◌, ◌^◌, min, ◌⊎◌, ℕ, Bool, List, [], ◌++◌, length, sum, get_or, Option, Some, None, IfSome, refl, sym, ap, ◌∙◌, subst, arith}
+use Rattle.std.proofs.Common.{◌≡◌, ◌+◌, ◌≤◌, ◌<◌, ◌-◌, ◌^◌, min, ◌⊎◌, ℕ, Bool, true, List, [], ◌∷◌, ◌++◌, length, sum, get_or, Option, Some, None, IfSome, refl, sym, ap, ◌∙◌, subst, arith}
 use Rattle.std.specs.Prelude.{option_map}
 use Rattle.audit_core.specs.Offers.{Due}
 use Rattle.audit_core.specs.declared.offers.OfferNote.{OfferNote}
 use Rattle.audit_core.specs.declared.offers.Outcome.{Outcome}
 use Rattle.audit_core.specs.declared.sinks.Sink.{Sink}
 use Rattle.connection_laws.specs.Whole.{Counts, count_of, is_full, is_failure}
-use Rattle.event_offers.specs.Lanes.{LanesState}
+use Rattle.event_offers.specs.Lanes.{LaneState, LanesState}
 use Rattle.event_offers.specs.Offering.{OffersAll}
 use Rattle.event_offers.specs.Taken.{is_taken, is_tried, lane_of, lines_for}
 use Rattle.front_base.specs.Line.{Line}
 use Rattle.front_ports.specs.Told.{Grows}
 use Rattle.run_completeness.specs.Kept.{AllFit, AllTaken, Kept, lines_due}
-use Rattle.run_completeness.proofs.KeepLemmas.{all_counted, all_kept, all_offered, all_taken, never_full, none_counted}
+use Rattle.run_completeness.proofs.KeepLemmas.{all_counted, all_kept, all_offered, all_taken, never_full, none_counted, none_failed}
 use Rattle.truncate_backend.specs.Lanes.{LaneTells}
 use Rattle.truncate_backend.specs.Owns.{own_tells}
 use Rattle.truncate_backend.specs.Told.{Joined}
@@ -66,31 +66,37 @@ module _ (sink : Sink) (dues : List Due) (m n : LanesState) (notes : List OfferN
   -- ---- a queue
 
   module _ (accepts : Accepts) (fills : Fills) (put : List Line) (none : IfSome (lane_of sink m).tells.accepted (λ xs. xs ≡ []))
-      (told : (lane_of sink n).tells.accepted ≡ Some put) where
+      (told : (lane_of sink n).tells.accepted ≡ Some put) (queued : (lane_of sink m).queued ≡ true) where
+    queue_failed : count_of is_failure sink notes ≡ 0
+    queue_failed = none_failed sink dues m n notes all queued
+
     put_is : put ≡ lines_for is_taken sink k 0 dues notes
     put_is =
         told_is (lane_of sink n).tells.accepted put _
         (grows_all (lane_of sink m).tells.accepted (lane_of sink n).tells.accepted _ none (accepts sink dues m n notes all).grows) told
         ∙ lines_from is_taken sink m.bay k (lane_of sink m).lines dues notes bay_is first
 
-    pub account : length put + count_of is_full sink notes + count_of is_failure sink notes ≡ length (lines_due sink k 0 dues)
-    account =
+    each_counted : length put + count_of is_full sink notes + count_of is_failure sink notes ≡ length (lines_due sink k 0 dues)
+    each_counted =
         ap (λ l. length l + count_of is_full sink notes + count_of is_failure sink notes) put_is
         ∙ all_counted sink dues m n notes all k 0
+
+    pub account : length put + count_of is_full sink notes ≡ length (lines_due sink k 0 dues)
+    account = omega (arith, each_counted, queue_failed)
 
     pub room_for_all : (capacity : ℕ) (allots : List ℕ)
         → (0 < (lane_of sink n).tells.fulls → (length put ≡ get_or allots k 0) ⊎ (capacity + get_or allots k 0 ≤ length put + sum allots))
         → sum allots ≤ capacity → length (lines_due sink k 0 dues) ≤ get_or allots k 0 → count_of is_full sink notes ≡ 0
     room_for_all capacity allots why room few =
         never_full capacity (sum allots) (get_or allots k 0) (length (lines_due sink k 0 dues)) (length put) (count_of is_full sink notes)
-        (count_of is_failure sink notes) account room few
+        (count_of is_failure sink notes) each_counted room few
         (λ some. why (counted_one (lane_of sink m).tells.fulls (count_of is_full sink notes) (lane_of sink n).tells.fulls
         (fills sink dues m n notes all) some))
 
-    pub keeps_put : count_of is_full sink notes ≡ 0 → count_of is_failure sink notes ≡ 0 → Kept sink k dues notes put
-    keeps_put full failed = record {
-      all = put_is ∙ all_kept is_taken refl sink dues m n notes all full failed k 0;
-      taken = all_taken sink dues m n notes all full failed;
+    pub keeps_put : count_of is_full sink notes ≡ 0 → Kept sink k dues notes put
+    keeps_put full = record {
+      all = put_is ∙ all_kept is_taken refl sink dues m n notes all full queue_failed k 0;
+      taken = all_taken sink dues m n notes all full queue_failed;
     }
 
   -- ---- a sink of the bay's own

@@ -1,5 +1,5 @@
 -- What a whole run loses nothing of (Kubernetes, "Auditing": audit backends).
-use Rattle.std.specs.Prelude.{◌≡◌, ◌<◌, ◌≤◌, ◌+◌, ◌-◌, ◌^◌, min, ℕ, Bool, true, false, if◌then◌else◌, List, [], ◌∷◌, ◌++◌, length, sum, get_or, slice_get, Some, IfSome, All}
+use Rattle.std.specs.Prelude.{◌≡◌, ◌<◌, ◌≤◌, ◌+◌, ◌-◌, ◌^◌, min, ℕ, Bool, true, false, if◌then◌else◌, List, [], ◌∷◌, ◌++◌, length, sum, get_or, slice_get, Option, Some, IfSome, All}
 use Rattle.std.specs.List.{sum_by}
 use Rattle.audit_core.specs.Offers.{Due}
 use Rattle.audit_core.specs.declared.offers.OfferNote.{OfferNote}
@@ -8,7 +8,7 @@ use Rattle.audit_core.specs.declared.settings.Settings.{Settings}
 use Rattle.audit_core.specs.declared.sinks.Sink.{Sink}
 use Rattle.audit_core.specs.declared.sinks.Sink.TheVariants.{Log, Webhook}
 use Rattle.bay_runs.specs.declared.bay_stop.BayStop.TheVariants.{Closed}
-use Rattle.connection_laws.specs.Whole.{offers_in, count_of, is_full, is_failure}
+use Rattle.connection_laws.specs.Whole.{offers_in, count_of, is_full}
 use Rattle.event_offers.specs.Taken.{is_for, count_in}
 use Rattle.front_base.specs.Line.{Line}
 use Rattle.plant_lanes.specs.declared.options.RunOptions.{RunOptions}
@@ -67,18 +67,16 @@ module _ {R L K Y D : Type 0} where
   offered_to Log end = end.log_lines
   offered_to Webhook end = end.hook_lines
 
--- A bay offered as many lines as were due, and each of these was put, or its offer was Full or Failed. None was Full where the
--- capacity has room for all allotments and the bay owed no more lines than its own. Where none was Full or Failed, all were put
+-- A bay offered as many lines as were due, and each of these was put, or its offer was Full. None was Full where the capacity has room
+-- for all allotments and the bay owed no more lines than its own. Where none was Full, all were put
 pub record KeepsBatched {R L N W H K Y D C : Type 0} (h : BayHandles R L N W H K Y D C) (set : Settings) (sink : Sink) (capacity : ℕ)
     (allots : List ℕ) (put : List Line) (bay : ℕ) (end : BayEnd R L K Y D) : Type 0 where
   pub told : BayTold h set end
   pub offered : offered_to sink end ≡ length (lines_due sink bay 0 told.due)
-  pub account : length put + count_of is_full sink (offers_in told.exchanges) + count_of is_failure sink (offers_in told.exchanges)
-      ≡ length (lines_due sink bay 0 told.due)
+  pub account : length put + count_of is_full sink (offers_in told.exchanges) ≡ length (lines_due sink bay 0 told.due)
   pub none_full : sum allots ≤ capacity → length (lines_due sink bay 0 told.due) ≤ get_or allots bay 0
       → count_of is_full sink (offers_in told.exchanges) ≡ 0
-  pub keeps : count_of is_full sink (offers_in told.exchanges) ≡ 0 → count_of is_failure sink (offers_in told.exchanges) ≡ 0
-      → Kept sink bay told.due (offers_in told.exchanges) put
+  pub keeps : count_of is_full sink (offers_in told.exchanges) ≡ 0 → Kept sink bay told.due (offers_in told.exchanges) put
 
 -- these lines are all that the bay owed the sink
 pub record KeptBay {R L N W H K Y D C : Type 0} (h : BayHandles R L N W H K Y D C) (set : Settings) (sink : Sink) (put : List Line) (bay : ℕ)

@@ -29,7 +29,7 @@ pub fn owed_lines_are_numbered()
         (λ line. (line.bay ≡ bay) × (line.number ≡ k)) }
 {}
 
-/// A sink in batch mode: each line that a bay owed stands in the tries, unless its offer was Full or Failed, and none is Full where
+/// A sink in batch mode: each line that a bay owed stands in the tries, unless its offer was Full, and none is Full where
 /// the queue has room for all allotments.
 pub fn nothing_is_lost_in_batches<P: Plant, R: Routes>()
     ensures log { (set : Settings) (options : RunOptions) (before after : PlantTells P.D.C) (tables : List R)

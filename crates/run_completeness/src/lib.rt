@@ -2,14 +2,13 @@
 //!
 //! What a bay owes a sink is `lines_due`, which speaks of nothing but what was due; by `owed_lines_are_numbered` no two of its
 //! lines are equal. `nothing_is_lost_in_batches` says of a sink in batch mode what becomes of each of them. Where no offer was
-//! Full or Failed, the lines of the tries are all that the bay owed, in order and each once. Where each try was Done, or none of
+//! Full, the lines of the tries are all that the bay owed, in order and each once. Where each try was Done, or none of
 //! their lines was counted as lost, each was written. Where as many lines were written as bays offered, nothing was lost at all.
 //! `nothing_is_lost_at_once` says it of a bay's own sink that counted no fault and no refusal. `a_run_without_faults_is_done`
 //! says which runs end with status 0, and `failed_links_are_counted` that a backend that can't be reached is counted.
 //!
-//! Not promised: that a queue isn't full, but where its capacity has room for the allotments of all bays. That an offer to a queue is
-//! never Failed is a premise here, since the contract of a run doesn't say of which kind its lanes are. Where memory ran out within a
-//! connection, a rest of what its last exchange owed isn't spoken of (`BayTold.whole`).
+//! Not promised: that a queue isn't full, but where its capacity has room for the allotments of all bays. Where
+//! memory ran out within a connection, a rest of what its last exchange owed isn't spoken of (`BayTold.whole`).
 //!
 //! Nothing runs here: these are laws of definitions.
 #![tactic(auto)]
