@@ -15,7 +15,7 @@ use Rattle.truncate_backend.specs.declared.sink.BatchSink as sinks
 module _ {S R : Type 0} where
   -- a sink that is off accepted nothing
   abbrev pub any_tells : sinks.Ghosts S → AnyLane S R → LaneTells
-  any_tells s (Off failed) = record { accepted = Some []; tried = None; fulls = 0; faults = failed }
+  any_tells s (Off failed) = record { accepted = Some []; tried = None; fulls = 0; faults = failed; sink = None }
   any_tells s (Queue lane) = lane_tells lane
   any_tells s (Own lane) = own_tells (s.tells lane.sink)
 

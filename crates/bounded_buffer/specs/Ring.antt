@@ -38,7 +38,7 @@ ring_taken r = told_of r.told (take (length r.copies.lines - length r.queue.item
 
 -- what it tells as a lane, and as an outlet
 abbrev pub ring_lane : RingLane → LaneTells
-ring_lane r = record { accepted = ring_accepted r; tried = ring_accepted r; fulls = r.fulls; faults = 0 }
+ring_lane r = record { accepted = ring_accepted r; tried = ring_accepted r; fulls = r.fulls; faults = 0; sink = None }
 
 abbrev pub ring_outlet : RingLane → OutletTells
 ring_outlet r = record { taken = ring_taken r; empties = r.empties; left = Some (ring_contents r ∷ []) }
@@ -68,7 +68,7 @@ pub record SameRoom (r s : RingLane) : Type 0 where
 
 -- nothing was offered yet
 pub record IsNewRing (r : RingLane) (capacity lines bytes : ℕ) : Type 0 where
-  pub lane : ring_lane r ≡ record { accepted = Some []; tried = Some []; fulls = 0; faults = 0 }
+  pub lane : ring_lane r ≡ record { accepted = Some []; tried = Some []; fulls = 0; faults = 0; sink = None }
   pub outlet : ring_outlet r ≡ record { taken = Some []; empties = 0; left = Some ([] ∷ []) }
   pub capacity_is : ring_capacity r ≡ capacity
   pub copies_are : ring_copies r ≡ record { lines = []; most_lines = lines; most_bytes = bytes }

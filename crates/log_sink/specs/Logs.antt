@@ -1,5 +1,5 @@
 -- What a log does with a try.
-use Rattle.std.specs.Prelude.{◌≡◌, ◌≤◌, ℕ, List, length, take, Option, None, Bool, true, false, Result, Ok, Err, ⊤}
+use Rattle.std.specs.Prelude.{◌≡◌, ◌≤◌, ℕ, List, length, take, Option, Some, None, option_map, Bool, true, false, Result, Ok, Err, ⊤}
 use Rattle.std.specs.Io.KnownBytes.{Appends}
 use Rattle.front_base.specs.Line.{Line}
 use Rattle.truncate_backend.specs.Tries.{Try, SinkTells, TriedAs}
@@ -20,9 +20,15 @@ log_out log = log.buffer.out
 abbrev pub log_notes : {W N : Type 0} → LogSink W N → N
 log_notes log = log.notes
 
--- what it tells, by what its notes tell
-abbrev pub log_tells : {W N : Type 0} → (N → Option (List Try)) → LogSink W N → SinkTells
-log_tells tries log = record { tries = kept_tries log.told (tries log.notes); faults = log.faults; refusals = 0 }
+-- what it tells, by what its sink of bytes and its notes tell
+abbrev pub log_tells : {W N : Type 0} → (W → Option (List ℕ)) → (N → Option (List Try)) → LogSink W N → SinkTells
+log_tells written tries log = record {
+  tries = kept_tries log.told (tries log.notes);
+  faults = log.faults;
+  refusals = 0;
+  text = log_text;
+  sent = option_map Some (written (log_out log));
+}
 
 -- how many of so many bytes an answer allows: all of them, or at most these
 abbrev pub SentFor : Result ⊤ SinkFault → ℕ → ℕ → Type 0

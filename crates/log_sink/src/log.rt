@@ -1,6 +1,7 @@
-ghost use Rattle.std.specs.Prelude.{◌≡◌, ◌<◌, ◌^◌, true, false, IfOk, OnErr, List, ℕ, length, is_some};
+ghost use Rattle.std.specs.Prelude.{◌≡◌, ◌<◌, ◌^◌, true, false, IfOk, OnErr, List, ℕ, Some, length, is_some, option_map};
 ghost use Rattle.front_ports.specs.Cause.{Rose};
 ghost use Rattle.log_sink.specs.Logs.{Logged, NotLogged, log_notes, log_out, log_tells};
+ghost use Rattle.log_sink.specs.Texts.{log_text};
 
 use crate::buffer::Buffer;
 use front_base::{Line, NoMemory};
@@ -26,7 +27,8 @@ impl<W: ByteSink + Drop, N: Notes + Drop> LogSink<W, N> {
         ensures faults { IfOk result (λ log. W.write_faults (log_out log) ≡ W.write_faults out) }
         ensures notes { IfOk result (λ log. log_notes log ≡ notes) }
         ensures tells { IfOk result (λ log.
-            log_tells N.tries log ≡ record { tries = N.tries notes; faults = 0; refusals = 0 }) }
+            log_tells W.written N.tries log
+            ≡ record { tries = N.tries notes; faults = 0; refusals = 0; text = log_text; sent = option_map Some (W.written out) }) }
     {
         Ok(LogSink {
             buffer: Buffer::new(alloc, out)?,
@@ -52,12 +54,12 @@ impl<W: ByteSink + Drop, N: Notes + Drop> LogSink<W, N> {
 
     fn try_lines(&mut self, lines: &[Line]) -> Result<(), SinkFault>
         requires { length lines.now < 2 ^ 32 }
-        ensures logged { Logged (log_tells N.tries self.old) (W.written (log_out self.old)) lines.now result
-            (log_tells N.tries self.new) (W.written (log_out self.new)) }
+        ensures logged { Logged (log_tells W.written N.tries self.old) (W.written (log_out self.old)) lines.now result
+            (log_tells W.written N.tries self.new) (W.written (log_out self.new)) }
         ensures full { N.has_room (log_notes self.old) lines.now ≡ false → NotLogged (W.written (log_out self.old))
-            result (log_tells N.tries self.new) (W.written (log_out self.new)) }
+            result (log_tells W.written N.tries self.new) (W.written (log_out self.new)) }
         ensures told { N.has_room (log_notes self.old) lines.now ≡ true
-            → is_some (log_tells N.tries self.new).tries ≡ is_some (log_tells N.tries self.old).tries }
+            → is_some (log_tells W.written N.tries self.new).tries ≡ is_some (log_tells W.written N.tries self.old).tries }
         ensures room { N.room (log_notes self.new) ≡ N.room (log_notes self.old) }
         ensures cause { OnErr result (N.has_room (log_notes self.old) lines.now ≡ true
             → Rose (W.write_faults (log_out self.old)) (W.write_faults (log_out self.new))) }
@@ -98,29 +100,29 @@ impl<W: ByteSink + Drop, N: Notes + Drop> BatchSink for LogSink<W, N> {
     ghost use Rattle.log_sink.specs.Logs.{Logged, NotLogged, log_notes, log_out, log_tells};
     ghost use Rattle.log_sink.specs.Texts.{Accounts};
 
-    ghost tells = { λ log. log_tells N.tries log };
+    ghost tells = { λ log. log_tells W.written N.tries log };
 
     fn put(&mut self, lines: &[Line]) -> Result<(), SinkFault>
         requires { (0 < length lines.now) × (length lines.now < 2 ^ 32) }
-        ensures tried { Tried (log_tells N.tries self.old) lines.now result (log_tells N.tries self.new) }
+        ensures tried { Tried (log_tells W.written N.tries self.old) lines.now result (log_tells W.written N.tries self.new) }
 
         // How many bytes of the text went out, and that the note says so.
-        ensures logged { Logged (log_tells N.tries self.old) (W.written (log_out self.old)) lines.now result
-            (log_tells N.tries self.new) (W.written (log_out self.new)) }
+        ensures logged { Logged (log_tells W.written N.tries self.old) (W.written (log_out self.old)) lines.now result
+            (log_tells W.written N.tries self.new) (W.written (log_out self.new)) }
 
         // Without room for its note, and with it.
         ensures full { N.has_room (log_notes self.old) lines.now ≡ false → NotLogged (W.written (log_out self.old))
-            result (log_tells N.tries self.new) (W.written (log_out self.new)) }
+            result (log_tells W.written N.tries self.new) (W.written (log_out self.new)) }
         ensures told { N.has_room (log_notes self.old) lines.now ≡ true
-            → is_some (log_tells N.tries self.new).tries ≡ is_some (log_tells N.tries self.old).tries }
+            → is_some (log_tells W.written N.tries self.new).tries ≡ is_some (log_tells W.written N.tries self.old).tries }
         ensures room { N.room (log_notes self.new) ≡ N.room (log_notes self.old) }
         ensures cause { OnErr result (N.has_room (log_notes self.old) lines.now ≡ true
             → Rose (W.write_faults (log_out self.old)) (W.write_faults (log_out self.new))) }
 
         // The bytes written stay those of the tries.
         ensures accounts { (before : List ℕ)
-            → Accounts before (W.written (log_out self.old)) (log_tells N.tries self.old).tries
-            → Accounts before (W.written (log_out self.new)) (log_tells N.tries self.new).tries }
+            → Accounts before (W.written (log_out self.old)) (log_tells W.written N.tries self.old).tries
+            → Accounts before (W.written (log_out self.new)) (log_tells W.written N.tries self.new).tries }
     {
         self.try_lines(lines)
     }

@@ -1,5 +1,5 @@
 -- What a lane of a queue tells, and what an offer to it does.
-use Rattle.std.specs.Prelude.{◌≡◌, ◌≤◌, ◌<◌, ◌+◌, ◌⊎◌, ℕ, List, [], ◌∷◌, ◌++◌, Some, length, get_or, sum}
+use Rattle.std.specs.Prelude.{◌≡◌, ◌≤◌, ◌<◌, ◌+◌, ◌⊎◌, ℕ, List, [], ◌∷◌, ◌++◌, Some, None, length, get_or, sum}
 use Rattle.crossbeam_queue.specs.Passes.{view}
 use Rattle.front_base.specs.Line.{Line}
 use Rattle.truncate_backend.specs.Lanes.{LaneTells}
@@ -35,7 +35,8 @@ module _ {R : Type 0} where
   lane_fulls l = l.fulls
 
   abbrev pub lane_tells : QueueLane R → LaneTells
-  lane_tells l = record { accepted = Some (lane_accepted l); tried = Some (lane_accepted l); fulls = lane_fulls l; faults = 0 }
+  lane_tells l =
+      record { accepted = Some (lane_accepted l); tried = Some (lane_accepted l); fulls = lane_fulls l; faults = 0; sink = None }
 
   -- what no offer changes
   pub record SameLane (l m : QueueLane R) : Type 0 where

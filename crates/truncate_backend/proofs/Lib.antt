@@ -3,3 +3,4 @@ pub mod FitLemmas
 pub mod NoteLemmas
 pub mod OwnLemmas
 pub mod TryLemmas
+pub mod SentLemmas

@@ -1,11 +1,11 @@
-ghost use Rattle.std.specs.Prelude.{◌≡◌, ◌<◌, ◌≤◌, ◌+◌, ◌++◌, ◌∷◌, [], ℕ, List, Option, Err, length, false};
+ghost use Rattle.std.specs.Prelude.{◌≡◌, ◌<◌, ◌≤◌, ◌+◌, ◌++◌, ◌∷◌, [], ℕ, List, Option, Result, Err, ⊤, length, false};
 ghost use Rattle.front_base.specs.Line as base;
 ghost use Rattle.event_text.specs.Line.{line_text, stripped};
 ghost use Rattle.event_text.specs.Members.{object};
 ghost use Rattle.stage_event.specs.declared.event.Event.{Event};
 ghost use Rattle.truncate_backend.specs.Fits.{fitted, before_objects, objects, after_objects, annotation};
 ghost use Rattle.truncate_backend.specs.Told.{Joined};
-ghost use Rattle.truncate_backend.specs.Tries.{Try, try_of, answer_of, lines_of, done_of, bytes_of};
+ghost use Rattle.truncate_backend.specs.Tries.{Try, SinkTells, Tried, KeepsSent, try_of, answer_of, lines_of, done_of, bytes_of};
 ghost use Rattle.truncate_backend.specs.declared.fitted.Fit.TheVariants as fits;
 ghost use Rattle.truncate_backend.specs.declared.tries.SinkFault.{SinkFault};
 ghost use Rattle.truncate_backend.specs.declared.tries.TryAnswer.{TryAnswer};
@@ -62,4 +62,11 @@ pub fn lists_join()
         → Joined a xs b → Joined b ys c → Joined a (xs ++ ys) c }
     ensures tries { (a b c : Option (List Try)) (xs ys : List Try)
         → Joined a xs b → Joined b ys c → Joined a (xs ++ ys) c }
+{}
+
+/// What the port of a sink was given stays what its tries sent: over one try, over none, and over tries one after another.
+pub fn tries_keep_what_was_sent()
+    ensures one { (m n : SinkTells) (lines : List base.Line) (result : Result ⊤ SinkFault) → Tried m lines result n → KeepsSent m n }
+    ensures none { (m : SinkTells) → KeepsSent m m }
+    ensures join { (a b c : SinkTells) → KeepsSent a b → KeepsSent b c → KeepsSent a c }
 {}

@@ -6,7 +6,7 @@ use front_base::Line;
 
 /// Where lines are written, many at a time.
 pub trait BatchSink {
-    /// Its tries, how often its port failed, and how often its peer refused.
+    /// Its tries, how often its port failed, how often its peer refused, the text of a try, and what its port was given.
     ghost tells: { Self → SinkTells };
 
     /// Writes these lines, in one try.
