@@ -1,11 +1,13 @@
 -- What a webhook does with a try.
-use Rattle.std.specs.Prelude.{◌≡◌, ℕ, List, Option, None, Some, Bool, true, false, Result, Err, ⊤}
+use Rattle.std.specs.Prelude.{◌≡◌, ℕ, List, [], Option, None, Some, option_map, Bool, true, false, Result, Err, ⊤}
+use Rattle.std.specs.List.{flat_map}
 use Rattle.front_base.specs.Line.{Line}
 use Rattle.front_ports.specs.declared.dial.Call.{Call}
 use Rattle.truncate_backend.specs.Tries.{Try, SinkTells, TriedAs}
 use Rattle.truncate_backend.specs.declared.tries.SinkFault.{SinkFault}
 use Rattle.truncate_backend.specs.declared.tries.SinkFault.TheVariants.{Port}
 use Rattle.webhook_sink.specs.Exchanges.{ExchangedBy}
+use Rattle.webhook_sink.specs.Hooks.{hook_named}
 use Rattle.webhook_sink.specs.Posts.{post_text}
 use Rattle.webhook_sink.specs.Replies.{result_of}
 use Rattle.webhook_sink.specs.declared.hook_url.HookUrl.{HookUrl}
@@ -27,10 +29,27 @@ hook_notes hook = hook.notes
 abbrev pub hook_url : {D N : Type 0} → WebhookSink D N → HookUrl
 hook_url hook = hook.head.url
 
--- what it tells, by what its notes tell
-abbrev pub hook_tells : {D N : Type 0} → (N → Option (List Try)) → WebhookSink D N → SinkTells
-hook_tells tries hook =
-    record { tries = kept_tries hook.told (tries hook.notes); faults = hook.faults; refusals = hook.refusals }
+-- what calls sent, joined
+abbrev pub calls_sent : List Call → List ℕ
+calls_sent calls = flat_map (λ (call : Call). call.sent) calls
+
+-- what it tells, by what its dial and its notes tell
+abbrev pub hook_tells : {D N : Type 0} → (D → Option (List Call)) → (N → Option (List Try)) → WebhookSink D N → SinkTells
+hook_tells calls tries hook = record {
+  tries = kept_tries hook.told (tries hook.notes);
+  faults = hook.faults;
+  refusals = hook.refusals;
+  text = post_text (hook_url hook);
+  sent = Some (option_map calls_sent (calls (hook_dial hook)));
+}
+
+-- the text of a try for the webhook that a text names, and none where it names no webhook
+abbrev pub text_for : Option HookUrl → List Line → List ℕ
+text_for None lines = []
+text_for (Some url) lines = post_text url lines
+
+abbrev pub hook_text : List ℕ → List Line → List ℕ
+hook_text named = text_for (hook_named named)
 
 -- the answer of an exchange: Port where a call failed
 abbrev pub answer_by : Option Reply → Result ⊤ SinkFault

@@ -1,4 +1,4 @@
-ghost use Rattle.std.specs.Prelude.{◌≡◌, ◌<◌, ◌≤◌, ◌^◌, true, false, None, Some, IfOk, IsErrOf, length};
+ghost use Rattle.std.specs.Prelude.{◌≡◌, ◌<◌, ◌≤◌, ◌^◌, true, false, None, Some, IfOk, IsErrOf, length, option_map};
 ghost use Rattle.front_ports.specs.Cause.{Rose};
 ghost use Rattle.truncate_backend.specs.Tries.{Counted, Tried, answer_of};
 ghost use Rattle.webhook_sink.specs.Exchanges.{ExchangedBy};
@@ -73,7 +73,13 @@ impl<D: Dial + Drop, N: Notes + Drop> WebhookSink<D, N> {
         ensures dial { IfOk result (λ hook. hook_dial hook ≡ dial) }
         ensures notes { IfOk result (λ hook. hook_notes hook ≡ notes) }
         ensures tells { IfOk result (λ hook.
-            hook_tells N.tries hook ≡ record { tries = N.tries notes; faults = 0; refusals = 0 }) }
+            hook_tells D.calls N.tries hook ≡ record {
+              tries = N.tries notes;
+              faults = 0;
+              refusals = 0;
+              text = posts.post_text (spec.hook_url hook);
+              sent = Some (option_map spec.calls_sent (D.calls dial));
+            }) }
     {
         let url = match read_url(alloc, url) {
             Ok(url) => url,
@@ -116,8 +122,8 @@ impl<D: Dial + Drop, N: Notes + Drop> WebhookSink<D, N> {
 
     // Counts the answer of a try.
     fn count(&mut self, answer: Result<(), SinkFault>)
-        ensures counted { Counted (hook_tells N.tries self.old) answer (hook_tells N.tries self.new) }
-        ensures tries { (hook_tells N.tries self.new).tries ≡ (hook_tells N.tries self.old).tries }
+        ensures counted { Counted (hook_tells D.calls N.tries self.old) answer (hook_tells D.calls N.tries self.new) }
+        ensures tries { (hook_tells D.calls N.tries self.new).tries ≡ (hook_tells D.calls N.tries self.old).tries }
         ensures rest { (hook_dial self.new ≡ hook_dial self.old) × (hook_notes self.new ≡ hook_notes self.old)
             × (spec.hook_url self.new ≡ spec.hook_url self.old) }
     {
@@ -154,11 +160,11 @@ impl<D: Dial + Drop, N: Notes + Drop> WebhookSink<D, N> {
     fn try_noted(&mut self, lines: &[Line]) -> Result<(), SinkFault>
         requires few { length lines.now < 2 ^ 32 }
         requires room { N.has_room (hook_notes self.old) lines.now ≡ true }
-        ensures posted { spec.Posted (hook_tells N.tries self.old) (D.calls (hook_dial self.old))
+        ensures posted { spec.Posted (hook_tells D.calls N.tries self.old) (D.calls (hook_dial self.old))
             (D.calls (hook_dial self.new)) (spec.hook_url self.old) lines.now
             (Rose (D.faults (hook_dial self.old)) (D.faults (hook_dial self.new)))
             (Rose (D.link_faults (hook_dial self.old)) (D.link_faults (hook_dial self.new))) result
-            (hook_tells N.tries self.new) }
+            (hook_tells D.calls N.tries self.new) }
         ensures url { spec.hook_url self.new ≡ spec.hook_url self.old }
         ensures fixed { N.room (hook_notes self.new) ≡ N.room (hook_notes self.old) }
     {
@@ -177,15 +183,15 @@ impl<D: Dial + Drop, N: Notes + Drop> WebhookSink<D, N> {
     fn try_lines(&mut self, lines: &[Line]) -> Result<(), SinkFault>
         requires few { length lines.now < 2 ^ 32 }
         ensures posted { N.has_room (hook_notes self.old) lines.now ≡ true
-            → spec.Posted (hook_tells N.tries self.old) (D.calls (hook_dial self.old)) (D.calls (hook_dial self.new))
+            → spec.Posted (hook_tells D.calls N.tries self.old) (D.calls (hook_dial self.old)) (D.calls (hook_dial self.new))
             (spec.hook_url self.old) lines.now
             (Rose (D.faults (hook_dial self.old)) (D.faults (hook_dial self.new)))
             (Rose (D.link_faults (hook_dial self.old)) (D.link_faults (hook_dial self.new))) result
-            (hook_tells N.tries self.new) }
+            (hook_tells D.calls N.tries self.new) }
         ensures full { N.has_room (hook_notes self.old) lines.now ≡ false
             → spec.NotPosted (D.calls (hook_dial self.old)) (D.calls (hook_dial self.new)) result
-            (hook_tells N.tries self.new) }
-        ensures tried { Tried (hook_tells N.tries self.old) lines.now result (hook_tells N.tries self.new) }
+            (hook_tells D.calls N.tries self.new) }
+        ensures tried { Tried (hook_tells D.calls N.tries self.old) lines.now result (hook_tells D.calls N.tries self.new) }
         ensures url { spec.hook_url self.new ≡ spec.hook_url self.old }
         ensures room { N.room (hook_notes self.new) ≡ N.room (hook_notes self.old) }
     {
@@ -207,29 +213,29 @@ impl<D: Dial + Drop, N: Notes + Drop> BatchSink for WebhookSink<D, N> {
     ghost use Rattle.webhook_sink.specs.Accounts.{Accounts};
     ghost use Rattle.front_ports.specs.declared.dial.Call.{Call};
 
-    ghost tells = { λ hook. hook_tells N.tries hook };
+    ghost tells = { λ hook. hook_tells D.calls N.tries hook };
 
     fn put(&mut self, lines: &[Line]) -> Result<(), SinkFault>
         requires { (0 < length lines.now) × (length lines.now < 2 ^ 32) }
-        ensures tried { Tried (hook_tells N.tries self.old) lines.now result (hook_tells N.tries self.new) }
+        ensures tried { Tried (hook_tells D.calls N.tries self.old) lines.now result (hook_tells D.calls N.tries self.new) }
 
         // One dial and one post, and what the link said.
         ensures posted { N.has_room (hook_notes self.old) lines.now ≡ true
-            → spec.Posted (hook_tells N.tries self.old) (D.calls (hook_dial self.old)) (D.calls (hook_dial self.new))
+            → spec.Posted (hook_tells D.calls N.tries self.old) (D.calls (hook_dial self.old)) (D.calls (hook_dial self.new))
             (spec.hook_url self.old) lines.now
             (Rose (D.faults (hook_dial self.old)) (D.faults (hook_dial self.new)))
             (Rose (D.link_faults (hook_dial self.old)) (D.link_faults (hook_dial self.new))) result
-            (hook_tells N.tries self.new) }
+            (hook_tells D.calls N.tries self.new) }
         ensures full { N.has_room (hook_notes self.old) lines.now ≡ false
             → spec.NotPosted (D.calls (hook_dial self.old)) (D.calls (hook_dial self.new)) result
-            (hook_tells N.tries self.new) }
+            (hook_tells D.calls N.tries self.new) }
         ensures url { spec.hook_url self.new ≡ spec.hook_url self.old }
         ensures room { N.room (hook_notes self.new) ≡ N.room (hook_notes self.old) }
 
         // The calls of the dial stay those of the tries.
         ensures accounts { (before : List Call)
-            → Accounts (spec.hook_url self.old) before (D.calls (hook_dial self.old)) (hook_tells N.tries self.old).tries
-            → Accounts (spec.hook_url self.new) before (D.calls (hook_dial self.new)) (hook_tells N.tries self.new).tries }
+            → Accounts (spec.hook_url self.old) before (D.calls (hook_dial self.old)) (hook_tells D.calls N.tries self.old).tries
+            → Accounts (spec.hook_url self.new) before (D.calls (hook_dial self.new)) (hook_tells D.calls N.tries self.new).tries }
     {
         self.try_lines(lines)
     }
