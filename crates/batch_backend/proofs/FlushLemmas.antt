@@ -1,5 +1,5 @@
 -- Pumps one after another.
-use Rattle.std.proofs.Common.{◌≡◌, ◌+◌, ◌-◌, ◌<◌, ◌^◌, min, ℕ, List, [], ◌∷◌, ◌++◌, length, append-nil, refl, sym, ap, subst, arith, true, false, is_some}
+use Rattle.std.proofs.Common.{◌≡◌, ◌+◌, ◌-◌, ◌<◌, ◌^◌, min, ℕ, List, [], ◌∷◌, ◌++◌, length, append-nil, append_assoc, refl, sym, ap, ◌∙◌, subst, arith, true, false, is_some}
 use Rattle.std.proofs.lemmas.List.Elements.{All-cons, All-nil}
 use Rattle.front_base.specs.Line.{Line}
 use Rattle.truncate_backend.specs.Tries.{Try, SinkTells}
@@ -7,10 +7,12 @@ use Rattle.truncate_backend.specs.Outlets.{OutletTells}
 use Rattle.batch_backend.specs.declared.limits.Limits.{Limits}
 use Rattle.batch_backend.specs.declared.pumped.Pumped.{Pumped}
 use Rattle.batch_backend.specs.Batches.{Drained, WithinLimits, PendsWithin}
-use Rattle.batch_backend.specs.Pumps.{PumpedAs, Put, Moved, wrote, lost, is_rest}
+use Rattle.batch_backend.specs.Closes.{AllFull, FullButLast, IsSoon}
+use Rattle.batch_backend.specs.Pumps.{PumpedAs, Put, Moved, PumpMoved, wrote, lost, is_rest}
 use Rattle.batch_backend.specs.Flushes.{Pumps, PutRest, FlushedAs, FlushMoved, PumpedOn, PumpedOut, written_of, lost_of}
+use Rattle.batch_backend.proofs.CloseLemmas.{but_last, but_last_put, none_full}
 use Rattle.batch_backend.proofs.TryLaws.{TryLaws, JoinLaws}
-use Rattle.batch_backend.proofs.PumpLemmas.{joined-none, moved-put, moved-from, moved-then, told-kept, rest-none, less-work}
+use Rattle.batch_backend.proofs.PumpLemmas.{joined-none, moved-put, put_tries, moved-from, moved-then, then_tries, full-then, told-kept, rest-none, less-work}
 use Rattle.batch_backend.proofs.PartLemmas.{pends-on, none-pends}
 
 -- ---- so far
@@ -82,11 +84,19 @@ stayed d e o n s t f g h =
       were_lost = refl;
     })
 
+full_stayed : (d e : Drained) (now : ℕ) (o n : OutletTells) (s t : SinkTells) → e ≡ d → n ≡ o → t ≡ s → PumpMoved d now o s 0 0 e n t
+unfolding stayed
+full_stayed d e now o n s t f g h =
+    rw (f, g, h) (record {
+      moved = stayed d d o o s s refl refl refl;
+      full = λ first before h a. (none_full d.limits before d.pending.lines a, h);
+    })
+
 pub pumps-move : TryLaws → JoinLaws → (answers : List Pumped) (d e : Drained) (now : ℕ) (o n : OutletTells) (s t : SinkTells)
-    → Pumps answers d now o s e n t → Moved d o s (written_of answers) (lost_of answers) e n t
-pumps-move law joins [] d e now o n s t p = stayed d e o n s t p.0 p.1 p.2
+    → Pumps answers d now o s e n t → PumpMoved d now o s (written_of answers) (lost_of answers) e n t
+pumps-move law joins [] d e now o n s t p = full_stayed d e now o n s t p.0 p.1 p.2
 pumps-move law joins (answer ∷ before) d e now o n s t (f, (m, (u, (p, a)))) =
-    moved-then law joins d f e o m n s u t (written_of before) (lost_of before) (wrote answer) (lost answer)
+    full-then law joins d f e now o m n s u t (written_of before) (lost_of before) (wrote answer) (lost answer)
     (pumps-move law joins before d f now o m s u p) (moved-from law f e now m n u t answer a)
 
 pub pumps-pend : (answers : List Pumped) (d e : Drained) (now : ℕ) (o n : OutletTells) (s t : SinkTells)
@@ -127,31 +137,41 @@ module _ (d e : Drained) (now : ℕ) (o n : OutletTells) (s t : SinkTells) (w l 
       → FlushedAs d now o s n u
   flushed-put u answer h q = flushed_by u (one_put e.pending.lines t u answer h q)
 
-  pub flush-moved : TryLaws → JoinLaws → FlushMoved d o s (w, l) e n t
+  pub flush-moved : TryLaws → JoinLaws → FlushMoved d now o s (w, l) e n t
   flush-moved law joins =
+      let x = pumps-move law joins (p.last ∷ p.before) d e now o n s t p.pumps in
       record {
         written = written_of (p.last ∷ p.before);
         lost = lost_of (p.last ∷ p.before);
-        moved = pumps-move law joins (p.last ∷ p.before) d e now o n s t p.pumps;
+        moved = x.moved;
         written_is = p.written_is;
         lost_is = p.lost_is;
+        full = λ first before h a. but_last d.limits (before ++ x.moved.tries) e.pending.lines (x.full first before h a).0;
       }
 
   pub flush-moved-put : TryLaws → JoinLaws → (f : Drained) (u : SinkTells) (answer : Pumped) (x y : ℕ)
       → f.limits ≡ e.limits → f.pending.lines ≡ [] → WithinLimits e.limits e.pending.lines → Put t e.pending.lines answer u
-      → x ≡ min (w + wrote answer) (2 ^ 64 - 1) → y ≡ min (l + lost answer) (2 ^ 64 - 1) → FlushMoved d o s (x, y) f n u
+      → x ≡ min (w + wrote answer) (2 ^ 64 - 1) → y ≡ min (l + lost answer) (2 ^ 64 - 1) → FlushMoved d now o s (x, y) f n u
   flush-moved-put law joins f u answer x y g h within put i j =
       let a = p.written_is in
       let b = p.lost_is in
-      let m = moved-put law e f e.pending.lines [] n n t u answer g within
-      (ap (λ z. e.pending.lines ++ z) h) put (joined-none n.taken) in
+      let back = ap (λ z. e.pending.lines ++ z) h in
+      let m = moved-put law e f e.pending.lines [] n n t u answer g within back put (joined-none n.taken) in
+      let q = put_tries law e f e.pending.lines [] n n t u answer g within back put (joined-none n.taken) in
+      let z = pumps-move law joins (p.last ∷ p.before) d e now o n s t p.pumps in
       record {
         written = written_of (p.last ∷ p.before) + wrote answer;
         lost = lost_of (p.last ∷ p.before) + lost answer;
         moved = moved-then law joins d e f o n n s t u (written_of (p.last ∷ p.before)) (lost_of (p.last ∷ p.before))
-            (wrote answer) (lost answer) (pumps-move law joins (p.last ∷ p.before) d e now o n s t p.pumps) m;
+            (wrote answer) (lost answer) z.moved m;
         written_is = omega arith;
         lost_is = omega arith;
+        full = λ first before h' a'.
+            subst (λ (ts : List Try). FullButLast d.limits (before ++ ts))
+            (sym (then_tries law joins d e f o n n s t u (written_of (p.last ∷ p.before)) (lost_of (p.last ∷ p.before))
+            (wrote answer) (lost answer) z.moved m ∙ ap (λ (ts : List Try). z.moved.tries ++ ts) q.1))
+            (subst (λ (ts : List Try). FullButLast d.limits ts) (append_assoc before z.moved.tries (q.0 ∷ []))
+            (but_last_put d.limits (before ++ z.moved.tries) e.pending.lines q.0 q.2 (z.full first before h' a').0));
       }
 
   pub flush-pends : PendsWithin d.limits d.pending.lines → PendsWithin e.limits e.pending.lines

@@ -3,3 +3,5 @@ pub mod AddLemmas
 pub mod PumpLemmas
 pub mod PartLemmas
 pub mod FlushLemmas
+pub mod CloseLemmas
+pub mod SentLemmas

@@ -10,8 +10,10 @@ use Rattle.batch_backend.specs.declared.limits.Limits.{Limits}
 use Rattle.batch_backend.specs.declared.pumped.Pumped.{Pumped}
 use Rattle.batch_backend.specs.declared.pumped.Pumped.TheVariants.{Took, Wrote, Lost, Waiting, Idle}
 use Rattle.batch_backend.specs.Batches.{Pending, Move, Drained, WithinLimits, IsBatch, is_over, is_whole, is_any, since_of, after_pop}
-use Rattle.batch_backend.specs.Pumps.{PumpedAs, Put, PutAfter, Moved, wrote, lost, is_rest}
+use Rattle.batch_backend.specs.Closes.{AllFull, IsSoon, StaysFull}
+use Rattle.batch_backend.specs.Pumps.{PumpedAs, Put, PutAfter, Moved, PumpMoved, wrote, lost, is_rest}
 use Rattle.batch_backend.specs.Flushes.{work_left}
+use Rattle.batch_backend.proofs.CloseLemmas.{FullTry, FullBy, full_then, none_full, not_due, popped_full}
 use Rattle.batch_backend.proofs.TryLaws.{TryLaws, JoinLaws}
 
 pub joined-none : {T : Type 0} (a : Option (List T)) → Joined a [] a
@@ -66,6 +68,31 @@ module _ (law : TryLaws) where
   moved-put d e put popped o n s t Waiting f w g p j = absurd p
   moved-put d e put popped o n s t Idle f w g p j = absurd p
 
+  -- that is one try of these lines
+  pub put_tries : (d e : Drained) (put popped : List Line) (o n : OutletTells) (s t : SinkTells) (answer : Pumped)
+      → (f : e.limits ≡ d.limits) → (w : WithinLimits d.limits put) → (g : put ++ e.pending.lines ≡ d.pending.lines ++ popped)
+      → (p : Put s put answer t) → (j : Joined o.taken popped n.taken)
+      → (one : Try) × ((moved-put d e put popped o n s t answer f w g p j).tries ≡ one ∷ []) × (one.lines ≡ put)
+  unfolding moved-put
+  put_tries d e put popped o n s t (Wrote k) f w g p j = (_, refl, refl)
+  put_tries d e put popped o n s t (Lost k) f w g p j = (_, refl, refl)
+  put_tries d e put popped o n s t Took f w g p j = absurd p
+  put_tries d e put popped o n s t Waiting f w g p j = absurd p
+  put_tries d e put popped o n s t Idle f w g p j = absurd p
+
+  full_put : (d e : Drained) (now : ℕ) (put popped : List Line) (o n : OutletTells) (s t : SinkTells) (answer : Pumped)
+      → e.limits ≡ d.limits → WithinLimits d.limits put → put ++ e.pending.lines ≡ d.pending.lines ++ popped
+      → Put s put answer t → Joined o.taken popped n.taken → FullTry d.limits now d.pending put e.pending
+      → PumpMoved d now o s (wrote answer) (lost answer) e n t
+  full_put d e now put popped o n s t answer f w g p j full =
+      let one = put_tries d e put popped o n s t answer f w g p j in
+      record {
+        moved = moved-put d e put popped o n s t answer f w g p j;
+        full = λ first before h a.
+            subst (λ (ts : List Try). AllFull d.limits (before ++ ts) e.pending.lines × IsSoon d.limits first now e.pending)
+            (sym one.1) (full first before one.0 one.2 h a);
+      }
+
   -- no line is put
   moved_rest : (d e : Drained) (popped : List Line) (o n : OutletTells) (s t : SinkTells) (answer : Pumped)
       → e.limits ≡ d.limits → e.pending.lines ≡ d.pending.lines ++ popped → t ≡ s
@@ -83,14 +110,22 @@ module _ (law : TryLaws) where
         were_lost = omega arith;
       }
 
-  moved_some : (d e : Drained) (x : Line) (put : List Line) (o n : OutletTells) (s t : SinkTells) (answer : Pumped)
+  full_rest : (d e : Drained) (now : ℕ) (popped : List Line) (o n : OutletTells) (s t : SinkTells) (answer : Pumped)
+      → e.limits ≡ d.limits → e.pending.lines ≡ d.pending.lines ++ popped → t ≡ s
+      → wrote answer ≡ 0 → lost answer ≡ 0 → Joined o.taken popped n.taken → StaysFull d.limits now d.pending [] e.pending
+      → PumpMoved d now o s (wrote answer) (lost answer) e n t
+  unfolding moved_rest
+  full_rest d e now popped o n s t answer f g h w l j full =
+      record { moved = moved_rest d e popped o n s t answer f g h w l j; full = full }
+
+  moved_some : (d e : Drained) (now : ℕ) (x : Line) (put : List Line) (o n : OutletTells) (s t : SinkTells) (answer : Pumped)
       → e.limits ≡ d.limits → IsBatch d.limits put → put ++ e.pending.lines ≡ d.pending.lines ++ x ∷ []
-      → PutAfter d.pending (Some x) s put answer t → Joined o.taken (x ∷ []) n.taken
-      → Moved d o s (wrote answer) (lost answer) e n t
-  moved_some d e x [] o n s t answer f w g h j =
-      moved_rest d e (x ∷ []) o n s t answer f g h.1 (ap wrote h.0) (ap lost h.0) j
-  moved_some d e x (l ∷ ls) o n s t answer f w g h j =
-      moved-put d e (l ∷ ls) (x ∷ []) o n s t answer f w g h j
+      → PutAfter d.pending (Some x) s put answer t → Joined o.taken (x ∷ []) n.taken → FullBy d.limits now d.pending put e.pending
+      → PumpMoved d now o s (wrote answer) (lost answer) e n t
+  moved_some d e now x [] o n s t answer f w g h j full =
+      full_rest d e now (x ∷ []) o n s t answer f g h.1 (ap wrote h.0) (ap lost h.0) j full
+  moved_some d e now x (l ∷ ls) o n s t answer f w g h j full =
+      full_put d e now (l ∷ ls) (x ∷ []) o n s t answer f w g h j full
 
   rest_zero : (b : Bool) → (wrote (if b then Waiting else Idle) ≡ 0) × (lost (if b then Waiting else Idle) ≡ 0)
   rest_zero true = (refl, refl)
@@ -114,22 +149,25 @@ module _ (law : TryLaws) where
   moved_popped : (d e : Drained) (now : ℕ) (line : Option Line) (o n : OutletTells) (s t : SinkTells) (answer : Pumped)
       → e.limits ≡ d.limits → e.pending ≡ (after_pop d.limits now d.pending line).left → Popped o line n
       → PutAfter d.pending line s (after_pop d.limits now d.pending line).put answer t
-      → IsBatch d.limits (after_pop d.limits now d.pending line).put → Moved d o s (wrote answer) (lost answer) e n t
+      → IsBatch d.limits (after_pop d.limits now d.pending line).put → PumpMoved d now o s (wrote answer) (lost answer) e n t
   moved_popped d e now None o n s t answer f l p h w =
       let z = rest_zero (is_any d.pending.lines) in
-      moved_rest d e [] o n s t answer f (ap (λ (k : Pending). k.lines) l ∙ sym (append-nil d.pending.lines)) h.1
+      full_rest d e now [] o n s t answer f (ap (λ (k : Pending). k.lines) l ∙ sym (append-nil d.pending.lines)) h.1
       (ap wrote h.0 ∙ z.0) (ap lost h.0 ∙ z.1) (taken-same o.taken n.taken p.0)
+      (subst (StaysFull d.limits now d.pending []) (sym l) (λ first before s a. (none_full d.limits before d.pending.lines a, s)))
   moved_popped d e now (Some x) o n s t answer f l p h w =
       let m : Move = after_pop d.limits now d.pending (Some x) in
-      moved_some d e x m.put o n s t answer f w
+      moved_some d e now x m.put o n s t answer f w
       (ap (λ (k : Pending). m.put ++ k.lines) l ∙ parts_of d.limits now d.pending x) h p.0
+      (subst (FullBy d.limits now d.pending m.put) (sym l) (popped_full d.limits now d.pending x))
 
   pub moved-from : (d e : Drained) (now : ℕ) (o n : OutletTells) (s t : SinkTells) (answer : Pumped)
-      → PumpedAs d now o s answer e n t → Moved d o s (wrote answer) (lost answer) e n t
+      → PumpedAs d now o s answer e n t → PumpMoved d now o s (wrote answer) (lost answer) e n t
   moved-from d e now o n s t answer (inl r) =
-      moved-put d e d.pending.lines [] o n s t answer r.limits r.within
+      full_put d e now d.pending.lines [] o n s t answer r.limits r.within
       (ap (λ (k : Pending). d.pending.lines ++ k.lines) r.left) r.put
       (subst (λ (z : OutletTells). Joined o.taken [] z.taken) (sym r.outlet) (joined-none o.taken))
+      (λ first before one same h a. absurd (not_due d.limits first now d.pending r.due h))
   moved-from d e now o n s t answer (inr r) =
       moved_popped d e now r.line o n s t answer r.limits r.left r.popped r.put r.within
 
@@ -163,6 +201,22 @@ module _ (law : TryLaws) where
             (subst (λ (z : Limits). All (λ (t : Try). WithinLimits z t.lines) y.tries) x.limits y.within);
         were_written = omega arith;
         were_lost = omega arith;
+      }
+
+  pub then_tries : (joins : JoinLaws) (d e f : Drained) (o n m : OutletTells) (s t u : SinkTells) (w l v k : ℕ)
+      → (x : Moved d o s w l e n t) → (y : Moved e n t v k f m u)
+      → (moved-then joins d e f o n m s t u w l v k x y).tries ≡ x.tries ++ y.tries
+  unfolding moved-then
+  then_tries joins d e f o n m s t u w l v k x y = refl
+
+  pub full-then : JoinLaws → (d e f : Drained) (now : ℕ) (o n m : OutletTells) (s t u : SinkTells) (w l v k : ℕ)
+      → PumpMoved d now o s w l e n t → PumpMoved e now n t v k f m u → PumpMoved d now o s (w + v) (l + k) f m u
+  unfolding moved-then
+  full-then joins d e f now o n m s t u w l v k x y =
+      record {
+        moved = moved-then joins d e f o n m s t u w l v k x.moved y.moved;
+        full = full_then d.limits now d.pending e.pending f.pending x.moved.tries y.moved.tries x.full
+            (subst (λ (z : Limits). StaysFull z now e.pending y.moved.tries f.pending) x.moved.limits y.full);
       }
 
 -- ---- how much is left

@@ -8,6 +8,7 @@ use Rattle.truncate_backend.specs.declared.tries.SinkFault.{SinkFault}
 use Rattle.batch_backend.specs.declared.pumped.Pumped.{Pumped}
 use Rattle.batch_backend.specs.declared.pumped.Pumped.TheVariants.{Took, Wrote, Lost, Waiting, Idle}
 use Rattle.batch_backend.specs.Batches.{Pending, Drained, is_any, is_due, after_pop, WithinLimits, IsBatch, PendsWithin}
+use Rattle.batch_backend.specs.Closes.{StaysFull}
 
 -- one put of these lines
 abbrev pub Put : SinkTells → List Line → Pumped → SinkTells → Type 0
@@ -93,6 +94,11 @@ pub record Moved (d : Drained) (o : OutletTells) (s : SinkTells) (written lost :
   pub within : All (λ (t : Try). WithinLimits d.limits t.lines) tries
   pub were_written : length (done_of tries) ≡ written
   pub were_lost : length (done_of tries) + lost ≡ length (lines_of tries)
+
+-- one pump moved these, and says for which reason a batch ends
+pub record PumpMoved (d : Drained) (now : ℕ) (o : OutletTells) (s : SinkTells) (written lost : ℕ) (e : Drained) (n : OutletTells) (t : SinkTells) : Type 0 where
+  pub moved : Moved d o s written lost e n t
+  pub full : StaysFull d.limits now d.pending moved.tries e.pending
 
 -- the tries' lines joined, followed by what waits, are what was taken, where both are told
 abbrev pub InParts : Option (List Try) → List Line → Option (List Line) → Type 0

@@ -2,15 +2,18 @@ ghost use Rattle.std.specs.Prelude.{◌≡◌, ◌<◌, ◌≤◌, ◌+◌, ◌^
 ghost use Rattle.front_base.specs.Line as base;
 ghost use Rattle.batch_backend.specs.Batches as spec;
 ghost use Rattle.batch_backend.specs.Flushes.{FlushedAs, FlushMoved, PumpedOut};
-ghost use Rattle.batch_backend.specs.Pumps.{Put, Takes, PumpedAs, Moved, BatchParts, wrote, lost};
+ghost use Rattle.batch_backend.specs.Pumps.{Put, Takes, PumpedAs, PumpMoved, BatchParts, wrote, lost};
 ghost use Rattle.truncate_backend.specs.Outlets.{NoneLeft};
+ghost use Rattle.truncate_backend.specs.Tries.{KeepsSent};
 
 use crate::limits::Limits;
 use crate::pumped::Pumped;
 use front_base::{Line, Moment, NoMemory};
 use std::alloc::Global;
 use std::marker::Model;
-use truncate_backend::{BatchSink, Outlet, bytes_join, lists_join, one_try, tries_join};
+use truncate_backend::{
+    BatchSink, Outlet, bytes_join, lists_join, one_try, tries_join, tries_keep_what_was_sent,
+};
 
 /// Takes lines from an outlet, and puts them into a sink in batches.
 #[derive(Drop)]
@@ -175,14 +178,16 @@ impl Drainer {
     ) -> Pumped
         ensures pumped { PumpedAs self.old now (U.tells outlet.old) (S.tells sink.old) result
             self.new (U.tells outlet.new) (S.tells sink.new) }
-        ensures moved { Moved self.old (U.tells outlet.old) (S.tells sink.old) (wrote result) (lost result)
+        ensures moved { PumpMoved self.old now (U.tells outlet.old) (S.tells sink.old) (wrote result) (lost result)
             self.new (U.tells outlet.new) (S.tells sink.new) }
+        ensures sent { KeepsSent (S.tells sink.old) (S.tells sink.new) }
         ensures parts { BatchParts self.old (S.tells sink.old).tries (U.tells outlet.old).taken
             → BatchParts self.new (S.tells sink.new).tries (U.tells outlet.new).taken }
         ensures home { U.home outlet.new ≡ U.home outlet.old }
     {
         tries_join();
         one_try();
+        tries_keep_what_was_sent();
         self.pump_once(outlet, sink, now)
     }
 
@@ -220,8 +225,9 @@ impl Drainer {
         requires { is_some (U.tells outlet.old).left ≡ true }
         ensures flushed { FlushedAs self.old now (U.tells outlet.old) (S.tells sink.old)
             (U.tells outlet.new) (S.tells sink.new) }
-        ensures moved { FlushMoved self.old (U.tells outlet.old) (S.tells sink.old) result
+        ensures moved { FlushMoved self.old now (U.tells outlet.old) (S.tells sink.old) result
             self.new (U.tells outlet.new) (S.tells sink.new) }
+        ensures sent { KeepsSent (S.tells sink.old) (S.tells sink.new) }
         ensures pending { self.new.pending.lines ≡ [] }
         ensures left { (is_some (U.tells outlet.new).left ≡ true) × NoneLeft (U.tells outlet.new).left }
         ensures parts { BatchParts self.old (S.tells sink.old).tries (U.tells outlet.old).taken
@@ -231,6 +237,7 @@ impl Drainer {
         tries_join();
         one_try();
         lists_join();
+        tries_keep_what_was_sent();
         let (written, unwritten) = self.pump_all(outlet, sink, now);
         if self.is_empty() {
             return (written, unwritten);

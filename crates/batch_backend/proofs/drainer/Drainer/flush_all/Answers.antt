@@ -1,8 +1,9 @@
-use Rattle.std.proofs.Common.{arith, ap}
+use Rattle.std.proofs.Common.{arith, ap, ◌∷◌}
 use Rattle.batch_backend.specs.Batches.{Drained}
 use Rattle.batch_backend.proofs.TryLaws.{TryLaws, JoinLaws}
 use Rattle.batch_backend.proofs.FlushLemmas.{flush-moved, flush-moved-put, flush-pends, flush-pends-put}
 use Rattle.batch_backend.proofs.PartLemmas.{parts-moved}
+use Rattle.batch_backend.proofs.SentLemmas.{SentLaws, put_sent, pumps_sent}
 use Rattle.batch_backend.proofs.drainer.Drainer.flush_all.Goals as goal
 
 pub returns-then-is_empty-clause-moved : goal.returns-then-is_empty-clause-moved
@@ -64,3 +65,20 @@ returns-clause-parts g c = λ h.
     parts-moved law c.args.self.now c.put_due-answer.new.self _ _ _ _ _ _ m
     (flush-pends-put _ _ _ _ _ _ _ _ _ c.pump_all-written.ensures.pumped c.put_due-answer.new.self
     (ap (λ (z : Drained). z.limits) e.left) (ap (λ (z : Drained). z.pending.lines) e.left)) h
+
+pub returns-then-is_empty-clause-sent : goal.returns-then-is_empty-clause-sent
+returns-then-is_empty-clause-sent g c =
+    let keeps = c.tries_keep_what_was_sent.ensures in
+    let law : SentLaws = record { one = keeps.one; none = keeps.none; join = keeps.join } in
+    let p = c.pump_all-written.ensures.pumped in
+    pumps_sent law (p.last ∷ p.before) c.args.self.now c.pump_all-written.new.self c.args.now _ _ _ _ p.pumps
+
+pub returns-clause-sent : goal.returns-clause-sent
+returns-clause-sent g c =
+    let keeps = c.tries_keep_what_was_sent.ensures in
+    let law : SentLaws = record { one = keeps.one; none = keeps.none; join = keeps.join } in
+    let p = c.pump_all-written.ensures.pumped in
+    keeps.join (g.S.BatchSink.tells c.args.sink.now) (g.S.BatchSink.tells c.pump_all-written.new.sink)
+    (g.S.BatchSink.tells c.put_due-answer.new.sink)
+    (pumps_sent law (p.last ∷ p.before) c.args.self.now c.pump_all-written.new.self c.args.now _ _ _ _ p.pumps)
+    (put_sent law _ _ _ c.put_due-answer.result c.put_due-answer.ensures.put)

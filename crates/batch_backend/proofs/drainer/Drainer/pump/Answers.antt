@@ -1,6 +1,7 @@
 use Rattle.batch_backend.proofs.TryLaws.{TryLaws}
 use Rattle.batch_backend.proofs.PumpLemmas.{moved-from}
 use Rattle.batch_backend.proofs.PartLemmas.{parts-moved, pends-on}
+use Rattle.batch_backend.proofs.SentLemmas.{SentLaws, pump_sent}
 use Rattle.batch_backend.proofs.drainer.Drainer.pump.Goals as goal
 
 pub returns-clause-moved : goal.returns-clause-moved
@@ -35,5 +36,11 @@ returns-clause-parts g c = λ h.
     let n = g.U.Outlet.tells c.pump_once.new.outlet in
     let s = g.S.BatchSink.tells c.args.sink.now in
     let t = g.S.BatchSink.tells c.pump_once.new.sink in
-    parts-moved law d e o n s t _ _ (moved-from law d e c.args.now o n s t c.pump_once.result c.pump_once.ensures.pumped)
+    parts-moved law d e o n s t _ _ (moved-from law d e c.args.now o n s t c.pump_once.result c.pump_once.ensures.pumped).moved
     (pends-on d e c.args.now o n s t c.pump_once.result c.pump_once.ensures.pumped) h
+
+pub returns-clause-sent : goal.returns-clause-sent
+returns-clause-sent g c =
+    let keeps = c.tries_keep_what_was_sent.ensures in
+    let law : SentLaws = record { one = keeps.one; none = keeps.none; join = keeps.join } in
+    pump_sent law c.args.self.now c.pump_once.new.self c.args.now _ _ _ _ c.pump_once.result c.pump_once.ensures.pumped
