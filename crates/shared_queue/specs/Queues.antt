@@ -53,7 +53,7 @@ module _ {R : Type 0} where
 
   -- a new lane of the outlet's queue, for this bay: nothing was offered to it yet
   pub record IsNewLane (outlet : QueueOutlet R) (bay : ℕ) (l : QueueLane R) : Type 0 where
-    pub tells : lane_tells l ≡ record { accepted = Some []; tried = Some []; fulls = 0; faults = 0 }
+    pub tells : lane_tells l ≡ record { accepted = Some []; tried = Some []; fulls = 0; faults = 0; sink = None }
     pub bay_is : lane_bay l ≡ bay
     pub home_is : lane_home l ≡ outlet_home outlet
     pub allotment_is : lane_allotment l ≡ get_or (outlet_allotments outlet) bay 0
