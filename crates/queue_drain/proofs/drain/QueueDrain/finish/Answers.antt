@@ -1,10 +1,10 @@
 use Rattle.std.proofs.Common.{refl, ap, ◌∙◌, arith, Some, [], ◌∷◌}
 use Rattle.shared_queue.specs.Queues.{end_accepted, end_capacity, end_tells}
-use Rattle.queue_drain.proofs.AccountLemmas.{accounts_more, pumps_keep, ends_drain}
+use Rattle.queue_drain.proofs.AccountLemmas.{pumps_keep, ends_drain}
 use Rattle.queue_drain.proofs.drain.QueueDrain.finish.Goals as goal
 
-pub returns : goal.returns
-returns g c =
+pub returns-clause-ends : goal.returns-clause-ends
+returns-clause-ends g c =
     let laws = c.tries_join.ensures in
     let parts = c.pops_keep_the_parts.ensures in
     let end = c.finish-end.result in
@@ -17,11 +17,10 @@ returns g c =
     let l = says.moved.lost_is in
     let tells = g.S.BatchSink.tells in
     let flushed = says.flushed in
-    let account = accounts_more laws.lines laws.done c.args.self.drainer after.self _ [] _ _ (end_tells end) (end_tells after.outlet)
-    (tells c.args.self.sink) (tells after.sink) _ _ _ _ _ _
-    says.moved.moved (ap (λ z. Some z) is.end.taken) refl (omega arith) (omega arith) c.requires.accounts in
     let kept = pumps_keep parts.pop (end_accepted end) (end_capacity end) (flushed.last ∷ flushed.before) c.args.self.drainer
-    flushed.between c.now-now.result (end_tells end) (end_tells after.outlet) (tells c.args.self.sink) flushed.tells
+    flushed.between c.later-now.result (end_tells end) (end_tells after.outlet) (tells c.args.self.sink) flushed.tells
     flushed.pumps is.parts in
-    ends_drain _ _ [] c.args.lanes.items (end_accepted end) _ _ _ _ _ _ says.moved.moved.limits account says.pending is.end.accepted
-    (parts.drained _ _ _ (end_capacity end) kept says.left.1) (c.fulls-fulls.ensures ∙ is.end.fulls)
+    ends_drain laws.lines laws.done c.args.self.drainer after.self _ c.args.lanes.items (end_accepted end) _ _ (end_tells end)
+    (end_tells after.outlet) (tells c.args.self.sink) (tells after.sink) c.args.self.began _ c.later-now.result _ _ _ _ _ _ _ _
+    says.moved (ap (λ z. Some z) is.end.taken) refl c.later-now.ensures.0 (omega arith) (omega arith) c.requires.accounts says.pending
+    is.end.accepted (parts.drained _ _ _ (end_capacity end) kept says.left.1) (c.fulls-fulls.ensures ∙ is.end.fulls) c.micros.ensures.value c.micros-2.ensures.value

@@ -9,5 +9,5 @@ same_some xs ys e = cc
 
 pub returns-clause-accounts : goal.returns-clause-accounts
 returns-clause-accounts g c =
-    accounts_none _ _ _ _ (g.S.BatchSink.tells c.args.sink) (same_some _ _ c.requires.outlet)
-    (ap (λ (d : Drained). d.pending.lines) c.in_ok-start.ensures.new) c.requires.sink
+    accounts_none _ _ _ _ _ _ (g.S.BatchSink.tells c.args.sink) (same_some _ _ c.requires.outlet)
+    (ap (λ (d : Drained). d.pending.lines) c.in_ok-drainer.ensures.new) c.requires.sink

@@ -11,8 +11,9 @@ returns g c =
     let y = c.saturating_add-self-2.ensures in
     let moved = c.pump-answer.ensures.moved in
     record {
-      same = record { limits = moved.limits; home = c.pump-answer.ensures.home };
+      same = record { limits = moved.moved.limits; home = c.pump-answer.ensures.home };
       accounts = λ a.
-          accounts_more laws.lines laws.done c.args.self.now.drainer c.pump-answer.new.self _ _ _ _ _ _ _ _ _ _ _ _ _ _
-          moved refl refl (omega arith) (omega arith) a;
+          accounts_more laws.lines laws.done c.args.self.now.drainer c.pump-answer.new.self _ _ _ _ _ _ _ _ _ _ _ _ _ _ _ _ _
+          moved refl refl c.later-now.ensures.0 (omega arith) (omega arith) a;
+      sent = c.pump-answer.ensures.sent;
     }
