@@ -13,6 +13,7 @@ use Rattle.shared_queue.specs.declared.outlet.QueueOutlet.{QueueOutlet}
 use Rattle.sink_lanes.specs.Ends.{CanEnd, queued_parts}
 use Rattle.sink_lanes.specs.Lanes.{AreQueued, queue_lane}
 use Rattle.sink_lanes.specs.Together.{SameAny, ToldQueued, StayTogether}
+use Rattle.truncate_backend.specs.Tries.{SinkTells, KeepsSent}
 use Rattle.truncate_backend.specs.declared.sink.BatchSink as sinks
 
 -- what holds at each place, over pairs
@@ -93,10 +94,10 @@ module _ {S R : Type 0} (s : sinks.Ghosts S) (one : OneHome R) (parts : (l : Que
   told_each (l ∷ ls) (suc i) bay h = told_each ls i bay h
 
 module _ {S R K : Type 0} (s : sinks.Ghosts S) (one : OneHome R) (parts : (l : QueueLane R) → LaneParts l) where
-  stay_one : (capacity : ℕ) (allots : List ℕ) (limits : Limits) (before after : List (AnyLane S R)) (drain : Option (QueueDrain S R K)) (d : QueueDrain S R K)
-      (made : AreQueued s capacity allots limits before drain) → AllPairs SameAny before after → RanDrain s made.drained d
-      → StayTogether s capacity allots limits after (Some d)
-  stay_one capacity allots limits before after drain d made p r =
+  stay_one : (capacity : ℕ) (allots : List ℕ) (limits : Limits) (sink : SinkTells) (before after : List (AnyLane S R)) (drain : Option (QueueDrain S R K)) (d : QueueDrain S R K)
+      (made : AreQueued s capacity allots limits sink before drain) → AllPairs SameAny before after → RanDrain s made.drained d
+      → StayTogether s capacity allots limits sink after (Some d)
+  stay_one capacity allots limits sink before after drain d made p r =
       let outlet = made.outlet in
       let new = made.new in
       let q = after_queued made.queue after (subst (λ z. AllPairs SameAny z after) made.lanes_are p) in
@@ -116,20 +117,21 @@ module _ {S R K : Type 0} (s : sinks.Ghosts S) (one : OneHome R) (parts : (l : Q
       record {
         can_end = (subst (λ z. AreOneQueue z (drain_outlet d)) (sym same) queue, r.accounts made.accounts);
         limits_are = r.same.limits ∙ made.limits_are;
+        sent = subst (λ (z : SinkTells). KeepsSent z (drain_state s d).sink) made.sink_is r.sent;
         told = λ bay.
             subst (λ z. IfSome (slice_get after bay) (ToldQueued s capacity allots bay (get_or (map lane_accepted z) bay []))) (sym same)
             (subst (λ z. IfSome (slice_get z bay) (ToldQueued s capacity allots bay (get_or (map lane_accepted ls) bay []))) (sym q.1)
             (told_each s one parts capacity allots outlet new.capacity_is new.allotments_are ls bay bay (at bay)));
       }
 
-  stay_some : (capacity : ℕ) (allots : List ℕ) (limits : Limits) (before after : List (AnyLane S R)) (drain ran : Option (QueueDrain S R K))
-      (made : AreQueued s capacity allots limits before drain) → AllPairs SameAny before after → IfBoth (RanDrain s) (Some made.drained) ran
-      → StayTogether s capacity allots limits after ran
-  stay_some capacity allots limits before after drain None made p r = absurd r
-  stay_some capacity allots limits before after drain (Some d) made p r = stay_one capacity allots limits before after drain d made p r
+  stay_some : (capacity : ℕ) (allots : List ℕ) (limits : Limits) (sink : SinkTells) (before after : List (AnyLane S R)) (drain ran : Option (QueueDrain S R K))
+      (made : AreQueued s capacity allots limits sink before drain) → AllPairs SameAny before after → IfBoth (RanDrain s) (Some made.drained) ran
+      → StayTogether s capacity allots limits sink after ran
+  stay_some capacity allots limits sink before after drain None made p r = absurd r
+  stay_some capacity allots limits sink before after drain (Some d) made p r = stay_one capacity allots limits sink before after drain d made p r
 
-  pub stay_together : (capacity : ℕ) (allots : List ℕ) (limits : Limits) (before after : List (AnyLane S R)) (drain ran : Option (QueueDrain S R K))
-      → AreQueued s capacity allots limits before drain → AllPairs SameAny before after → IfBoth (RanDrain s) drain ran
-      → StayTogether s capacity allots limits after ran
-  stay_together capacity allots limits before after drain ran made p r =
-      stay_some capacity allots limits before after drain ran made p (subst (λ z. IfBoth (RanDrain s) z ran) made.drain_is r)
+  pub stay_together : (capacity : ℕ) (allots : List ℕ) (limits : Limits) (sink : SinkTells) (before after : List (AnyLane S R)) (drain ran : Option (QueueDrain S R K))
+      → AreQueued s capacity allots limits sink before drain → AllPairs SameAny before after → IfBoth (RanDrain s) drain ran
+      → StayTogether s capacity allots limits sink after ran
+  stay_together capacity allots limits sink before after drain ran made p r =
+      stay_some capacity allots limits sink before after drain ran made p (subst (λ z. IfBoth (RanDrain s) z ran) made.drain_is r)

@@ -7,6 +7,7 @@ use Rattle.queue_drain.specs.declared.drain.QueueDrain.{QueueDrain}
 use Rattle.queue_drain.specs.declared.drain_end.DrainEnd.{DrainEnd}
 use Rattle.shared_queue.specs.Queues.{AreOneQueue}
 use Rattle.shared_queue.specs.declared.lane.QueueLane.{QueueLane}
+use Rattle.truncate_backend.specs.Tries.{KeepsSent}
 use Rattle.truncate_backend.specs.declared.sink.BatchSink as sinks
 
 abbrev pub some_first : {A : Type 0} → Option A → List A → List A
@@ -41,9 +42,11 @@ module _ {S R K : Type 0} where
   CanEnd s queue None = ⊤
   CanEnd s queue (Some d) = AreOneQueue queue (drain_outlet d) × Accounts (drain_state s d)
 
-  -- and then it has put all that they accepted
+  -- and then it has put all that they accepted, and its sink sent what its tries say
   abbrev pub Ends : sinks.Ghosts S → List (QueueLane R) → Option (QueueDrain S R K) → Option (DrainEnd S K) → Type 0
   Ends s queue None None = ⊤
   Ends s queue None (Some e) = ⊥
   Ends s queue (Some d) None = ⊥
-  Ends s queue (Some d) (Some e) = EndsDrain (drain_state s d).limits queue (s.tells e.sink) e.written e.lost e.fulls
+  Ends s queue (Some d) (Some e) =
+      EndsDrain (drain_state s d).limits queue (s.tells e.sink) e.written e.lost e.fulls e.began e.ended
+      × KeepsSent (drain_state s d).sink (s.tells e.sink)

@@ -8,6 +8,7 @@ use Rattle.queue_drain.specs.declared.drain.QueueDrain.{QueueDrain}
 use Rattle.shared_queue.specs.Queues.{IsNewQueue, outlet_home}
 use Rattle.shared_queue.specs.declared.lane.QueueLane.{QueueLane}
 use Rattle.shared_queue.specs.declared.outlet.QueueOutlet.{QueueOutlet}
+use Rattle.truncate_backend.specs.Tries.{SinkTells}
 use Rattle.truncate_backend.specs.declared.sink.BatchSink as sinks
 
 module _ {S R : Type 0} where
@@ -29,9 +30,9 @@ module _ {S R : Type 0} where
   abbrev pub queue_lane : QueueLane R → AnyLane S R
   queue_lane lane = Queue lane
 
--- the lanes of a new queue with this capacity and these allotments, and its drainer, which took nothing yet
-pub record AreQueued {S R K : Type 0} (s : sinks.Ghosts S) (capacity : ℕ) (allots : List ℕ) (limits : Limits) (lanes : List (AnyLane S R))
-    (drain : Option (QueueDrain S R K)) : Type 0 where
+-- the lanes of a new queue with this capacity and these allotments, and its drainer, which took nothing yet and has this sink
+pub record AreQueued {S R K : Type 0} (s : sinks.Ghosts S) (capacity : ℕ) (allots : List ℕ) (limits : Limits) (sink : SinkTells)
+    (lanes : List (AnyLane S R)) (drain : Option (QueueDrain S R K)) : Type 0 where
   pub queue : List (QueueLane R)
   pub outlet : QueueOutlet R
   pub drained : QueueDrain S R K
@@ -40,4 +41,5 @@ pub record AreQueued {S R K : Type 0} (s : sinks.Ghosts S) (capacity : ℕ) (all
   pub drain_is : drain ≡ Some drained
   pub home : (drain_state s drained).home ≡ outlet_home outlet
   pub limits_are : (drain_state s drained).limits ≡ limits
+  pub sink_is : (drain_state s drained).sink ≡ sink
   pub accounts : Accounts (drain_state s drained)

@@ -11,6 +11,7 @@ use Rattle.shared_queue.specs.Lanes.{lane_accepted}
 use Rattle.sink_lanes.specs.Ends.{CanEnd, queued_parts}
 use Rattle.sink_lanes.specs.Lanes.{AreQueued}
 use Rattle.front_base.specs.Line.{Line}
+use Rattle.truncate_backend.specs.Tries.{SinkTells, KeepsSent}
 use Rattle.truncate_backend.specs.declared.sink.BatchSink as sinks
 
 -- what no offer changes of a lane
@@ -28,15 +29,16 @@ pub record ToldQueued {S R : Type 0} (s : sinks.Ghosts S) (capacity : ℕ) (allo
       → (length accepted ≡ get_or allots bay 0) ⊎ (capacity + get_or allots bay 0 ≤ length accepted + sum allots)
 
 -- lanes and a drainer that were made together make one queue still, each bay's lane at the bay's place
-pub record StayTogether {S R K : Type 0} (s : sinks.Ghosts S) (capacity : ℕ) (allots : List ℕ) (limits : Limits) (lanes : List (AnyLane S R))
-    (drain : Option (QueueDrain S R K)) : Type 0 where
+pub record StayTogether {S R K : Type 0} (s : sinks.Ghosts S) (capacity : ℕ) (allots : List ℕ) (limits : Limits) (sink : SinkTells)
+    (lanes : List (AnyLane S R)) (drain : Option (QueueDrain S R K)) : Type 0 where
   pub can_end : CanEnd s (queued_parts lanes) drain
   pub limits_are : IfSome drain (λ d. (drain_state s d).limits ≡ limits)
+  pub sent : IfSome drain (λ d. KeepsSent sink (drain_state s d).sink)
   pub told : (bay : ℕ) → IfSome (slice_get lanes bay)
       (ToldQueued s capacity allots bay (get_or (map lane_accepted (queued_parts lanes)) bay []))
 
 abbrev pub StaysTogether : (S R K : Type 0) → sinks.Ghosts S → Type 0
 StaysTogether S R K s =
-    (capacity : ℕ) (allots : List ℕ) (limits : Limits) (before after : List (AnyLane S R)) (drain ran : Option (QueueDrain S R K))
-    → AreQueued s capacity allots limits before drain → AllPairs SameAny before after → IfBoth (RanDrain s) drain ran
-    → StayTogether s capacity allots limits after ran
+    (capacity : ℕ) (allots : List ℕ) (limits : Limits) (sink : SinkTells) (before after : List (AnyLane S R)) (drain ran : Option (QueueDrain S R K))
+    → AreQueued s capacity allots limits sink before drain → AllPairs SameAny before after → IfBoth (RanDrain s) drain ran
+    → StayTogether s capacity allots limits sink after ran
