@@ -116,14 +116,14 @@ added_full limits now p x true e =
     by_try limits now p (whole_move now p x).left (p.lines ++ x ∷ []) (omega arith)
     (λ first before t same s a. (
       all_put limits before (p.lines ++ x ∷ []) [] t same (or_left (is_whole limits (p.lines ++ x ∷ [])) false e)
-      (all_grow limits before p.lines (x ∷ []) a),
+          (all_grow limits before p.lines (x ∷ []) a),
       soon_with limits first now p (whole_move now p x).left (λ h. cc) s,
     ))
 added_full limits now p x false e =
     λ first before s a. (
       none_full limits before (p.lines ++ x ∷ []) (all_grow limits before p.lines (x ∷ []) a),
       soon_with limits first now p (part_move now p x).left
-      (λ h. since_later limits first now p (is_any p.lines) refl s) s,
+          (λ h. since_later limits first now p (is_any p.lines) refl s) s,
     )
 
 some_lines : (lines : List Line) → is_any lines ≡ true → 0 < length lines
@@ -137,7 +137,7 @@ over_full limits now p x true e =
     by_try limits now p (alone_move now p x).left p.lines (some_lines p.lines (and_first (is_any p.lines) _ e))
     (λ first before t same s a. (
       all_put limits before p.lines (x ∷ []) t same
-      (or_right (is_whole limits p.lines) _ (and_second (is_any p.lines) _ e)) a,
+          (or_right (is_whole limits p.lines) _ (and_second (is_any p.lines) _ e)) a,
       soon_with limits first now p (alone_move now p x).left (λ h. s.later) s,
     ))
 over_full limits now p x false e = added_full limits now p x (is_whole limits (p.lines ++ x ∷ [])) refl
