@@ -43,7 +43,7 @@ fn tell<W: Write>(out: &mut W, sink: &str, line: &Line) {
 impl<W: Write> Lane for TellingLane<W> {
     ghost use Rattle.std.specs.Prelude.{None, [], false};
 
-    ghost tells = { λ l. record { accepted = None; tried = None; fulls = 0; faults = l.faults } };
+    ghost tells = { λ l. record { accepted = None; tried = None; fulls = 0; faults = l.faults; sink = None } };
 
     ghost bay = { λ _. None };
 

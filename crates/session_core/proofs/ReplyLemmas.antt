@@ -8,7 +8,7 @@ use Rattle.audit_core.specs.Owed.{omits}
 use Rattle.audit_core.specs.declared.offers.OfferNote.{OfferNote}
 use Rattle.audit_core.specs.declared.settings.Settings.{Settings}
 use Rattle.event_offers.specs.Lanes.{LanesState, AreLanesOf}
-use Rattle.event_offers.specs.Offering.{Noted, OffersAll, stage_events, events_by, event_unless}
+use Rattle.event_offers.specs.Offering.{Noted, OffersAll, stage_events, started_events, events_by, event_unless}
 use Rattle.audit_core.specs.declared.routed.Handling.{Handling}
 use Rattle.exchange_replies.specs.Sent.{DialState, is_head}
 use Rattle.exchange_replies.specs.Streams.{RepliedTo, RepliedPart, GivenBack, WritesTo}
@@ -25,7 +25,7 @@ use Rattle.front_ports.specs.Written.{AppendsFront}
 use Rattle.http_edge.specs.declared.request.Request.{Request}
 use Rattle.policy_rules.specs.declared.decision.Decision.{Decision}
 use Rattle.session_core.specs.Bays.{BayState, CanOffer}
-use Rattle.session_core.specs.Parts.{StartedBy, StageReached, StageHalts, StartHalts, CompleteHalts, Started, Completed, Replied, ReplyHalts, IsTimedBy, with_start, with_end, known_facts, object_due, later_due, later_moments, clock_and_lanes, dial_clock_and_lanes}
+use Rattle.session_core.specs.Parts.{StartedBy, StartIsOffered, StageReached, StageHalts, StartHalts, CompleteHalts, Started, Completed, Replied, ReplyHalts, IsTimedBy, with_start, with_end, known_facts, object_due, later_due, later_moments, clock_and_lanes, dial_clock_and_lanes}
 use Rattle.session_core.specs.Steps.{WorkState, with_kept, with_object}
 use Rattle.session_core.proofs.ChainLemmas.{grows_join, grows_none, Join, noted_join, noted_none, RefusesNone, refuses_same}
 use Rattle.stage_event.specs.Begun.{filled}
@@ -55,6 +55,32 @@ part_of state r id handling due sent k n w0 w1 rose own t = record {
 }
 
 -- ---- the events
+
+-- what its start is due was offered last
+start_is_offered : (set : Settings) (long : Bool) (m n : BayState) (w v : WorkState) → is_long_running w.facts.info ≡ long
+    → StartedBy long set m w n v → StartIsOffered set n.lanes v
+start_is_offered set false m n w v e h =
+    let none : started_events v.decision v.facts ≡ [] =
+    ap (λ (z : WorkState). started_events z.decision z.facts) h.1
+    ∙ ap (λ (b : Bool). if b then stage_events w.decision w.facts ResponseStarted else []) e in
+    record {
+      before = n.lanes;
+      old = v.notes;
+      noted = subst (λ (l : List Event). Noted (offers_due set l) n.lanes v.notes n.lanes v.notes) (sym none) (noted_none n.lanes v.notes);
+    }
+start_is_offered set true m n w v e h =
+    let facts = with_start n.last w.facts in
+    let these : started_events v.decision v.facts ≡ stage_events w.decision facts ResponseStarted =
+    ap (λ (z : WorkState). started_events z.decision z.facts) h.work_is
+    ∙ ap (λ (b : Bool). if b then stage_events w.decision facts ResponseStarted else []) e in
+    record {
+      before = m.lanes;
+      old = w.notes;
+      noted = subst (λ (l : List Event). Noted (offers_due set l) m.lanes w.notes n.lanes v.notes) (sym these) h.noted;
+    }
+
+pub start-offered : (set : Settings) (m n : BayState) (w v : WorkState) → Started set m w n v → StartIsOffered set n.lanes v
+start-offered set m n w v h = start_is_offered set (is_long_running w.facts.info) m n w v refl h
 
 -- the event of the reply's start doesn't depend on when it was complete
 abbrev pub HidesEnd : Type 0

@@ -10,6 +10,8 @@ use Rattle.audit_core.specs.declared.errand.Errand.{Errand}
 use Rattle.audit_core.specs.declared.link_note.LinkNote.{LinkNote}
 use Rattle.audit_core.specs.declared.routed.Routed.{Routed}
 use Rattle.audit_core.specs.declared.settings.Settings.{Settings}
+use Rattle.audit_core.specs.declared.offers.OfferNote.{OfferNote}
+use Rattle.event_offers.specs.Lanes.{LanesState}
 use Rattle.event_offers.specs.Offering.{Noted, stage_events, started_events}
 use Rattle.exchange_replies.specs.Sent as sent
 use Rattle.exchange_replies.specs.Sent.{is_head, sent_on, StopsSending}
@@ -137,6 +139,12 @@ StartedBy true set m w n v = StageReached set stage.ResponseStarted m w n v (wit
 
 abbrev pub Started : Settings → BayState → WorkState → BayState → WorkState → Type 0
 Started set m w n v = StartedBy (is_long_running w.facts.info) set m w n v
+
+-- what its reply's start is due was offered, and nothing since: these offers left the lanes as they are
+pub record StartIsOffered (set : Settings) (lanes : LanesState) (w : WorkState) : Type 0 where
+  pub before : LanesState
+  pub old : List OfferNote
+  pub noted : Noted (offers_due set (started_events w.decision w.facts)) before old lanes w.notes
 
 abbrev pub Completed : Settings → BayState → WorkState → BayState → WorkState → Type 0
 Completed set m w n v = StageReached set stage.ResponseComplete m w n v (with_end n.last w.facts)

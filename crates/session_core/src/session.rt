@@ -1,9 +1,9 @@
 // One request, from its arrival to its last event.
 ghost use Rattle.std.specs.Prelude.{◌≡◌, ◌≤◌, ◌<◌, ◌+◌, IfOk, OnOk, OnErr, [], true};
 ghost use Rattle.audit_core.specs.Exchange.{decision_in};
-ghost use Rattle.event_offers.specs.Lanes.{AreLanesOf};
+ghost use Rattle.event_offers.specs.Lanes.{AreLanesOf, lanes_state};
 ghost use Rattle.exchange_replies.specs.Statuses.{IsFinalErrand, IsFinalHandling};
-ghost use Rattle.exchange_replies.specs.Streams.{IsFinalSent};
+ghost use Rattle.exchange_replies.specs.Streams.{IsFinalSent, RepliedPart, RepliedTo};
 ghost use Rattle.front_base.specs.declared.audit_id.TheConstants.{MOST_REQUESTS};
 ghost use Rattle.front_ports.specs.Cause.{Rose};
 ghost use Rattle.session_core.specs.Bays.{bay_state, CanOffer, IsReady};
@@ -17,9 +17,10 @@ use crate::work::{Work, errand_after};
 use apiservice_table::Routes;
 use audit_core::{Errand, Settings, Stamp, handle_errand};
 use event_offers::{
-    lanes_stay, later_stages_refuse_nothing, offer_stage, offers_join, stages_make_up_what_is_owed,
+    Lanes, lanes_stay, later_stages_refuse_nothing, offer_stage, offers_join,
+    stages_make_up_what_is_owed,
 };
-use exchange_replies::{SentOn, forward, give_back, reply_to, statuses_are_final};
+use exchange_replies::{ReplyEnd, SentOn, forward, give_back, reply_to, statuses_are_final};
 use front_base::{AuditId, MOST_REQUESTS, NoMemory, Stage};
 use front_ports::{ByteSink, Clock, Conn, Dial};
 use http_edge::Request;
@@ -149,6 +150,54 @@ fn complete<R: Routes, D: Dial, A: Lane, B: Lane, K: Clock, Y: Diary>(
     )
 }
 
+// Writes its reply, once the event of its start was offered: no byte of it goes out before.
+fn write_reply<O: ByteSink, D: Dial, A: Lane, B: Lane>(
+    alloc: Global,
+    settings: &Settings,
+    lanes: &Lanes<A, B>,
+    dial: &mut D,
+    out: &mut O,
+    request: &Request,
+    work: &Work,
+    sent: SentOn<D::K>,
+    due: bool,
+) -> Result<ReplyEnd, NoMemory>
+    requires started { spec.StartIsOffered settings.now (lanes_state A.Lane B.Lane lanes.now) (work_state work.now) }
+    requires handling { IsFinalHandling work.now.handling }
+    requires sent { IsFinalSent sent }
+    ensures ok { IfOk result (RepliedTo (λ link. record {
+      left = D.K.left link;
+      written = D.K.written link;
+      number = D.K.number link;
+      faults = D.K.read_faults link + D.K.write_faults link;
+    }) request.now work.now.facts.id work.now.handling due sent
+        (record { calls = D.calls dial.old; faults = D.faults dial.old; link_faults = D.link_faults dial.old })
+        (record { calls = D.calls dial.new; faults = D.faults dial.new; link_faults = D.link_faults dial.new })
+        (O.written out.old) (O.written out.new) (Rose (O.write_faults out.old) (O.write_faults out.new))) }
+    ensures err { OnErr result (RepliedPart (λ link. record {
+      left = D.K.left link;
+      written = D.K.written link;
+      number = D.K.number link;
+      faults = D.K.read_faults link + D.K.write_faults link;
+    }) request.now work.now.facts.id work.now.handling sent
+        (record { calls = D.calls dial.old; faults = D.faults dial.old; link_faults = D.link_faults dial.old })
+        (record { calls = D.calls dial.new; faults = D.faults dial.new; link_faults = D.link_faults dial.new })
+        (O.written out.old) (O.written out.new)) }
+    ensures later { O.write_faults out.old ≤ O.write_faults out.new }
+    ensures aside { O.inward out.new ≡ O.inward out.old }
+{
+    reply_to(
+        alloc,
+        dial,
+        out,
+        request,
+        work.facts.id,
+        &work.handling,
+        sent,
+        due,
+    )
+}
+
 // Writes its reply, between the events of its start and of its end.
 fn reply<O: ByteSink, R: Routes, D: Dial, A: Lane, B: Lane, K: Clock, Y: Diary>(
     alloc: Global,
@@ -193,13 +242,14 @@ fn reply<O: ByteSink, R: Routes, D: Dial, A: Lane, B: Lane, K: Clock, Y: Diary>(
             return Err(NoMemory);
         }
     }
-    let replied = reply_to(
+    let replied = write_reply(
         alloc,
+        settings,
+        &bay.lanes,
         &mut bay.dial,
         out,
         request,
-        work.facts.id,
-        &work.handling,
+        work,
         sent,
         due,
     )?;

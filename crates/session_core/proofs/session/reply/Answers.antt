@@ -1,13 +1,16 @@
 use Rattle.std.proofs.Common.{refl}
 use Rattle.exchange_replies.specs.Sent.{is_head}
 use Rattle.session_core.proofs.ChainLemmas.{on_err}
-use Rattle.session_core.proofs.ReplyLemmas.{begins, replied, halts_start, halts_write, halts_end, may_end}
+use Rattle.session_core.proofs.ReplyLemmas.{begins, replied, start-offered, halts_start, halts_write, halts_end, may_end}
 use Rattle.session_core.proofs.session.reply.Goals as goal
 
 pub returns-in-Err-clause-err : goal.returns-in-Err-clause-err
 returns-in-Err-clause-err g c =
     halts_start c.offers_join.ensures c.later_stages_refuse_nothing.ensures c.stages_hide.ensures.started
     c.args.settings.now _ c.args.request.now c.args.sent _ _ _ _ _ _ c.in-Err.ensures.err refl (c.give_back.ensures.back (is_head c.args.request.now))
+
+pub write_reply-requires-clause-started : goal.write_reply-requires-clause-started
+write_reply-requires-clause-started g c = start-offered c.args.settings.now _ _ _ _ c.in-Ok.ensures.ok
 
 pub returns-in_err-replied-clause-err : goal.returns-in_err-replied-clause-err
 returns-in_err-replied-clause-err g c =
