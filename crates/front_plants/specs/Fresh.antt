@@ -1,8 +1,11 @@
 -- Handles that have done nothing yet: what they tell is empty, and their counts are 0.
-use Rattle.std.specs.Prelude.{◌≡◌, ℕ, List, [], Option, IfSome}
+use Rattle.std.specs.Prelude.{◌≡◌, ℕ, List, [], Option, Some, IfSome}
+use Rattle.front_base.specs.Line.{Line}
 use Rattle.front_ports.specs.declared.dial.Call.{Call}
 use Rattle.front_ports.specs.declared.door.Visit.{Visit}
-use Rattle.truncate_backend.specs.Tries.{SinkTells}
+use Rattle.log_sink.specs.Texts.{log_text}
+use Rattle.truncate_backend.specs.Tries.{SinkTells, SentAfter}
+use Rattle.webhook_sink.specs.Hooked.{hook_text}
 
 -- a door that gave nothing
 pub record IsNewDoor (given : Option (List Visit)) (closes faults : ℕ) : Type 0 where
@@ -21,8 +24,33 @@ pub record IsNewClock (given : Option (List ℕ)) (last : ℕ) : Type 0 where
   pub no_moment : IfSome given (λ moments. moments ≡ [])
   pub none_last : last ≡ 0
 
+-- what a new sink tells: the text of a try with given lines, and the bytes that its port was given
+pub record SinkOpens : Type 0 where
+  pub text : List Line → List ℕ
+  pub sent : Option (Option (List ℕ))
+
+-- what the new logs and webhooks of a plant tell of the bytes that their ports were given: `Some (Some [])` where they tell these
+pub record Openings : Type 0 where
+  pub log : Option (Option (List ℕ))
+  pub hook : Option (Option (List ℕ))
+
+abbrev pub log_opens : Openings → SinkOpens
+log_opens o = record { text = log_text; sent = o.log }
+
+-- the webhook that this text names
+abbrev pub hook_opens : Openings → List ℕ → SinkOpens
+hook_opens o url = record { text = hook_text url; sent = o.hook }
+
 -- a sink that made no try
-pub record IsNewSink (sink : SinkTells) : Type 0 where
+pub record IsNewSink (opens : SinkOpens) (sink : SinkTells) : Type 0 where
+  pub text_is : sink.text ≡ opens.text
+  pub sent_is : sink.sent ≡ opens.sent
   pub no_try : IfSome sink.tries (λ tries. tries ≡ [])
   pub no_fault : sink.faults ≡ 0
   pub no_refusal : sink.refusals ≡ 0
+
+-- what a sink tells that opened so: the text of a try is the same, and where its port told that it was given nothing then, it was
+-- given the bytes of the sink's tries, where both are still told
+pub record SentAll (opens : SinkOpens) (sink : SinkTells) : Type 0 where
+  pub text_is : sink.text ≡ opens.text
+  pub bytes : opens.sent ≡ Some (Some []) → SentAfter [] opens.text sink.sent sink.tries

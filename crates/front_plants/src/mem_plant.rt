@@ -102,13 +102,13 @@ impl<R: Threads + Wait + Copy + Drop> Plant for MemPlant<R> {
     ghost use Rattle.truncate_backend.specs.MemoryNotes.{noted_room};
     ghost use Rattle.webhook_sink.specs.Hooked.{hook_dial, hook_notes, hook_url};
     ghost use Rattle.webhook_sink.specs.Hooks.{hook_named};
-    ghost use Rattle.front_plants.specs.Fresh.{IsNewClock, IsNewDial, IsNewDoor, IsNewSink};
+    ghost use Rattle.front_plants.specs.Fresh.{IsNewClock, IsNewDial, IsNewDoor, IsNewSink, log_opens, hook_opens};
     ghost use Rattle.front_plants.specs.MemoryPlant.{plant_tells, plant_boot, plant_allots, allotment_in};
     ghost use Rattle.front_plants.specs.MemoryPlant.{plant_door, plant_dials, plant_logs, plant_hooks};
     ghost use Rattle.front_plants.specs.MemoryPlant.{plant_start, plant_step, plant_room};
     ghost use Rattle.front_plants.specs.MemoryPlant.{plant_fails, plant_calls, plant_will_fail};
     ghost use Rattle.front_plants.specs.MemoryPlant.{OnlyNotes, OnlyDoors, OnlyDials, OnlyLogs, OnlyHooks};
-    ghost use Rattle.front_plants.specs.MemorySinks.{mem_log_tells, mem_hook_tells};
+    ghost use Rattle.front_plants.specs.MemorySinks.{mem_log_tells, mem_hook_tells, told_openings};
     ghost use Rattle.front_plants.specs.Noted.{LosesPast};
     ghost use Rattle.front_plants.specs.Plants.{Called, Opened, HasCause};
     ghost use Rattle.front_plants.specs.declared.call.PlantCall.TheVariants as calls;
@@ -129,6 +129,8 @@ impl<R: Threads + Wait + Copy + Drop> Plant for MemPlant<R> {
     type H = WebhookSink<MemDial, MemNotes>;
 
     ghost tells = { plant_tells };
+
+    ghost opens = { told_openings };
 
     fn boot(&mut self) -> u64
         ensures called { Called (plant_tells self.old) (calls.Boot result ∷ []) (plant_tells self.new) }
@@ -256,7 +258,7 @@ impl<R: Threads + Wait + Copy + Drop> Plant for MemPlant<R> {
     fn log(&mut self, alloc: Global, path: &str) -> Result<LogSink<MemBytes, MemNotes>, PlantFail>
         ensures called { Called (plant_tells self.old) (calls.Log path.now ∷ []) (plant_tells self.new) }
         ensures cause { HasCause (plant_tells self.old).faults result (plant_tells self.new).faults }
-        ensures fresh { IfOk result (λ log. IsNewSink (mem_log_tells log)) }
+        ensures fresh { IfOk result (λ log. IsNewSink (log_opens told_openings) (mem_log_tells log)) }
 
         // It writes to the next of the sinks, and tells its tries while there is room for their notes.
         ensures sinks { OnOk result (plant_logs self.new ≡ drop 1 (plant_logs self.old)) }
@@ -300,7 +302,7 @@ impl<R: Threads + Wait + Copy + Drop> Plant for MemPlant<R> {
     ) -> Result<WebhookSink<MemDial, MemNotes>, PlantFail>
         ensures called { Called (plant_tells self.old) (calls.Hook url.now ∷ []) (plant_tells self.new) }
         ensures cause { HasCause (plant_tells self.old).faults result (plant_tells self.new).faults }
-        ensures fresh { IfOk result (λ hook. IsNewSink (mem_hook_tells hook)) }
+        ensures fresh { IfOk result (λ hook. IsNewSink (hook_opens told_openings url.now) (mem_hook_tells hook)) }
 
         // It dials with the next of the dials, posts to this URL, and tells its tries while there is room for their notes.
         ensures first { IfOk result (λ hook. plant_hooks self.old ≡ hook_dial hook ∷ plant_hooks self.new) }

@@ -1,5 +1,5 @@
 ghost use Rattle.std.specs.Prelude.{◌≡◌, ◌≤◌, [], ◌∷◌, ℕ, IfOk, IfSome};
-ghost use Rattle.front_plants.specs.Fresh.{IsNewDoor, IsNewDial, IsNewSink, IsNewClock};
+ghost use Rattle.front_plants.specs.Fresh.{IsNewDoor, IsNewDial, IsNewSink, IsNewClock, Openings, log_opens, hook_opens};
 ghost use Rattle.front_plants.specs.Plants.{PlantTells, Called, Opened, HasCause};
 ghost use Rattle.front_plants.specs.declared.call.PlantCall.TheVariants as calls;
 ghost use Rattle.front_plants.specs.declared.plant.TheConstants.{MOST_ALLOTTED};
@@ -35,6 +35,9 @@ pub trait Plant {
 
     /// Its calls, the connections that the doors to come will give, and how often a call failed.
     ghost tells: { Self → PlantTells Self.D.C };
+
+    /// What its new logs and webhooks tell of the bytes that their ports were given.
+    ghost opens: { Openings };
 
     /// The word that the audit IDs of this run begin with.
     fn boot(&mut self) -> u64
@@ -81,11 +84,11 @@ pub trait Plant {
     fn log(&mut self, alloc: Global, path: &str) -> Result<Self::W, PlantFail>
         ensures called { Called (tells self.old) (calls.Log path.now ∷ []) (tells self.new) }
         ensures cause { HasCause (tells self.old).faults result (tells self.new).faults }
-        ensures fresh { IfOk result (λ log. IsNewSink (Self.W.tells log)) };
+        ensures fresh { IfOk result (λ log. IsNewSink (log_opens opens) (Self.W.tells log)) };
 
     /// The webhook at this URL. One that no webhook can have is a failed call.
     fn hook(&mut self, alloc: Global, url: &str) -> Result<Self::H, PlantFail>
         ensures called { Called (tells self.old) (calls.Hook url.now ∷ []) (tells self.new) }
         ensures cause { HasCause (tells self.old).faults result (tells self.new).faults }
-        ensures fresh { IfOk result (λ hook. IsNewSink (Self.H.tells hook)) };
+        ensures fresh { IfOk result (λ hook. IsNewSink (hook_opens opens url.now) (Self.H.tells hook)) };
 }

@@ -93,6 +93,8 @@ impl<
 
     ghost tells = { plant_tells };
 
+    ghost opens = { record { log = None; hook = Some None } };
+
     fn boot(&mut self) -> u64 {
         self.boot
     }
