@@ -1,13 +1,13 @@
 -- Calls one after another.
-use Rattle.std.proofs.Common.{◌≡◌, ◌+◌, ℕ, zero, suc, List, [], ◌∷◌, ◌++◌, length, Option, Some, None, refl, sym, ap, subst, ◌∙◌, append_assoc, append-nil, arith, ◌⊎◌, inl, inr}
-use Rattle.std.specs.Prelude.{replicate}
+use Rattle.std.proofs.Common.{◌≡◌, ◌≤◌, ◌+◌, ◌-◌, ℕ, zero, suc, List, [], ◌∷◌, ◌++◌, length, Option, Some, None, refl, sym, ap, subst, ◌∙◌, append_assoc, append-nil, arith, ◌⊎◌, inl, inr}
+use Rattle.std.specs.Prelude.{replicate, Result, Ok, Err, OnErr}
 use Rattle.std.proofs.lemmas.List.{length-replicate}
 use Rattle.audit_core.specs.declared.sinks.SinkMode.{SinkMode}
 use Rattle.audit_core.specs.declared.sinks.SinkMode.TheVariants.{Off, Batch, Blocking, Strict}
 use Rattle.front_plants.specs.declared.call.PlantCall.{PlantCall}
 use Rattle.front_plants.specs.declared.call.PlantCall.TheVariants.{Allot, Clock}
 use Rattle.front_ports.specs.Told.{Grows}
-use Rattle.plant_lanes.specs.Calls.{allot_calls, sink_calls, CalledFor}
+use Rattle.plant_lanes.specs.Calls.{allot_calls, sink_calls, CalledFor, CallsPart, CalledInPart}
 use Rattle.truncate_backend.specs.Told.{Joined}
 
 module _ {T : Type 0} where
@@ -75,3 +75,88 @@ called_own opens bays mode a b (inr e) p = record {
   count = length-replicate bays 0;
   made = subst (λ m. Joined a (sink_calls opens bays (replicate bays 0) m) b) (sym e) p;
 }
+
+-- ---- some of the calls
+
+pub part_none : (a : Option (List PlantCall)) (xs : List PlantCall) → CallsPart xs a a
+part_none a xs = record { front = []; rest = xs; is = refl; made = joins_none a }
+
+pub part_whole : (a b : Option (List PlantCall)) (xs : List PlantCall) → Joined a xs b → CallsPart xs a b
+part_whole a b xs p = record { front = xs; rest = []; is = sym (append-nil xs); made = p }
+
+pub part_less : (a b : Option (List PlantCall)) (xs ys : List PlantCall) → CallsPart xs a b → CallsPart (xs ++ ys) a b
+part_less a b xs ys p = record {
+  front = p.front;
+  rest = p.rest ++ ys;
+  is = ap (λ l. l ++ ys) p.is ∙ append_assoc p.front p.rest ys;
+  made = p.made;
+}
+
+pub part_more : (a b c : Option (List PlantCall)) (xs ys : List PlantCall) → Joined a xs b → CallsPart ys b c → CallsPart (xs ++ ys) a c
+part_more a b c xs ys p q = record {
+  front = xs ++ q.front;
+  rest = q.rest;
+  is = ap (λ l. xs ++ l) q.is ∙ sym (append_assoc xs q.front q.rest);
+  made = joins a b c xs q.front p q.made;
+}
+
+replicate_split : {T : Type 0} (i k : ℕ) (x : T) → replicate (i + k) x ≡ replicate i x ++ replicate k x
+replicate_split zero k x = ap (λ n. replicate n x) (let e : zero + k ≡ k = omega arith in e)
+replicate_split (suc i) k x =
+    ap (λ n. replicate n x) (let e : suc i + k ≡ suc (i + k) = omega arith in e) ∙ ap (λ l. x ∷ l) (replicate_split i k x)
+
+-- so many of equal calls
+pub part_of_equal : (a b : Option (List PlantCall)) (x : PlantCall) (i n : ℕ) → i ≤ n → Joined a (replicate i x) b
+    → CallsPart (replicate n x) a b
+part_of_equal a b x i n h p =
+    let e : i + (n - i) ≡ n = omega arith in record {
+      front = replicate i x;
+      rest = replicate (n - i) x;
+      is = ap (λ m. replicate m x) (sym e) ∙ replicate_split i (n - i) x;
+      made = p;
+    }
+
+-- ---- by the sink's mode
+
+pub in_part_none : (opens : PlantCall) (bays : ℕ) (mode : SinkMode) (a : Option (List PlantCall)) → CalledInPart opens bays mode a a
+in_part_none opens bays mode a = record {
+  allots = replicate bays 0;
+  count = length-replicate bays 0;
+  part = part_none a (sink_calls opens bays (replicate bays 0) mode);
+}
+
+-- all of them
+pub in_part_all : (opens : PlantCall) (bays : ℕ) (mode : SinkMode) (a b : Option (List PlantCall)) → CalledFor opens bays mode a b
+    → CalledInPart opens bays mode a b
+in_part_all opens bays mode a b p = record { allots = p.allots; count = p.count; part = part_whole a b (sink_calls opens bays p.allots mode) p.made }
+
+-- those of the allotments and of the sink, but not of the clock
+pub in_part_batch : (opens opened : PlantCall) (bays : ℕ) (mode : SinkMode) (allots : List ℕ) (a b c : Option (List PlantCall)) → mode ≡ Batch
+    → length allots ≡ bays → Joined a (allot_calls 0 allots) b → Joined b (opened ∷ []) c → opened ≡ opens
+    → CalledInPart opens bays mode a c
+in_part_batch opens opened bays mode allots a b c e n p q o = record {
+  allots = allots;
+  count = n;
+  part = subst (λ m. CallsPart (sink_calls opens bays allots m) a c) (sym e)
+      (part_more a b c (allot_calls 0 allots) (opens ∷ Clock ∷ []) p
+      (part_less b c (opens ∷ []) (Clock ∷ []) (part_whole b c (opens ∷ []) (subst (λ z. Joined b (z ∷ []) c) o q))));
+}
+
+pub in_part_own : (opens : PlantCall) (bays : ℕ) (mode : SinkMode) (a b : Option (List PlantCall)) → (mode ≡ Blocking) ⊎ (mode ≡ Strict)
+    → CallsPart (replicate bays opens) a b → CalledInPart opens bays mode a b
+in_part_own opens bays mode a b (inl e) p = record {
+  allots = replicate bays 0;
+  count = length-replicate bays 0;
+  part = subst (λ m. CallsPart (sink_calls opens bays (replicate bays 0) m) a b) (sym e) p;
+}
+in_part_own opens bays mode a b (inr e) p = record {
+  allots = replicate bays 0;
+  count = length-replicate bays 0;
+  part = subst (λ m. CallsPart (sink_calls opens bays (replicate bays 0) m) a b) (sym e) p;
+}
+
+-- ---- answers that are an error
+
+pub on_err : {A E : Type 0} (r : Result A E) (P : Type 0) → P → OnErr r P
+on_err (Ok x) P p = tt
+on_err (Err x) P p = p

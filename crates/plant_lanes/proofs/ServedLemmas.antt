@@ -1,12 +1,15 @@
 -- What becomes of the lanes of a sink.
-use Rattle.std.proofs.Common.{◌≡◌, ◌≤◌, ◌+◌, ℕ, zero, suc, true, List, [], ◌∷◌, length, map, get_or, slice_get, Option, Some, None, IfSome, All, refl, sym, ap, ◌∙◌, subst, arith}
+use Rattle.std.proofs.Common.{◌≡◌, ◌<◌, ◌≤◌, ◌+◌, ◌-◌, ℕ, zero, suc, true, List, [], ◌∷◌, length, map, get_or, slice_get, Option, Some, None, IfSome, All, refl, sym, ap, ◌∙◌, subst, arith}
 use Rattle.any_lane.specs.Lanes.{any_queued}
 use Rattle.any_lane.specs.declared.lane.AnyLane.{AnyLane}
 use Rattle.any_lane.specs.declared.lane.AnyLane.TheVariants as lane
 use Rattle.audit_core.specs.declared.sinks.SinkMode.{SinkMode}
 use Rattle.audit_core.specs.declared.sinks.SinkMode.TheVariants.{Off, Batch, Blocking, Strict}
 use Rattle.batch_backend.specs.Batches.{WithinLimits}
+use Rattle.batch_backend.specs.Closes.{FullButLast}
 use Rattle.batch_backend.specs.declared.limits.Limits.{Limits}
+use Rattle.front_base.specs.Line.{Line}
+use Rattle.front_plants.specs.Fresh.{SinkOpens, IsNewSink, SentAll}
 use Rattle.plant_lanes.specs.Lanes.{AreShared, AreOwn}
 use Rattle.plant_lanes.specs.Served.{IsDrained, IsOwn, CanAllEnd, AreAllServed}
 use Rattle.queue_drain.specs.Drains.{RanDrain, drain_state}
@@ -20,7 +23,7 @@ use Rattle.sink_lanes.specs.Ends.{CanEnd, Ends, own_parts, queued_part, queued_p
 use Rattle.sink_lanes.specs.Lanes.{own_lane, queue_lane}
 use Rattle.sink_lanes.specs.Together.{SameAny, StayTogether, StaysTogether, ToldQueued}
 use Rattle.sink_lanes.specs.declared.ending.SinkEnd.{SinkEnd}
-use Rattle.truncate_backend.specs.Tries.{Try, lines_of}
+use Rattle.truncate_backend.specs.Tries.{Try, SinkTells, SentAfter, KeepsSent, lines_of}
 use Rattle.truncate_backend.specs.declared.sink.BatchSink as sinks
 
 pairs_count : {A B : Type 0} (T : A → B → Type 0) (xs : List A) (ys : List B) → AllPairs T xs ys → length ys ≡ length xs
@@ -65,7 +68,25 @@ module _ {S R : Type 0} where
   queued_after (q ∷ queue) (x ∷ after) p zero = p.0.queued
   queued_after (q ∷ queue) (x ∷ after) p (suc bay) = queued_after queue after p.1 bay
 
-module _ {S R K : Type 0} (s : sinks.Ghosts S) (stay : StaysTogether S R K s) where
+-- a new sink that made no try was given nothing
+none_sent : (text : List Line → List ℕ) (sent : Option (Option (List ℕ))) (tries : Option (List Try)) → sent ≡ Some (Some [])
+    → IfSome tries (λ ts. ts ≡ []) → SentAfter [] text sent tries
+none_sent text sent None e h = subst (λ (z : Option (Option (List ℕ))). SentAfter [] text z None) (sym e) tt
+none_sent text sent (Some ts) e h =
+    subst (λ (z : Option (Option (List ℕ))). SentAfter [] text z (Some ts)) (sym e)
+    (subst (λ (z : List Try). SentAfter [] text (Some (Some [])) (Some z)) (sym h) refl)
+
+pub sent_all : (opens : SinkOpens) (m n : SinkTells) → IsNewSink opens m → KeepsSent m n → SentAll opens n
+sent_all opens m n new keeps =
+    let text : n.text ≡ opens.text = keeps.text_is ∙ new.text_is in
+    record {
+      text_is = text;
+      bytes = λ e.
+          subst (λ (z : List Line → List ℕ). SentAfter [] z n.sent n.tries) text
+          (keeps.follows [] (none_sent m.text m.sent m.tries (new.sent_is ∙ e) new.no_try));
+    }
+
+module _ {S R K : Type 0} (s : sinks.Ghosts S) (opens : SinkOpens) (stay : StaysTogether S R K s) where
   -- where there is no drainer, nothing is left of one
   none_ran : (drain ran : Option (QueueDrain S R K)) → drain ≡ None → IfBoth (RanDrain s) drain ran → ran ≡ None
   none_ran None None e b = refl
@@ -81,7 +102,7 @@ module _ {S R K : Type 0} (s : sinks.Ghosts S) (stay : StaysTogether S R K s) wh
   none_ends queue ran e = subst (CanEnd s queue) (sym e) tt
 
   own_served : (bays : ℕ) (before after : List (AnyLane S R)) (drain ran : Option (QueueDrain S R K)) (end : SinkEnd S K)
-      → AreOwn s bays before drain → AllPairs SameAny before after → IfBoth (RanDrain s) drain ran
+      → AreOwn s opens bays before drain → AllPairs SameAny before after → IfBoth (RanDrain s) drain ran
       → end.own.items ≡ own_parts after → Ends s (queued_parts after) ran end.drain → IsOwn bays after end
   own_served bays before after drain ran end a p b o x =
       let q = subst (λ z. AllPairs SameAny z after) a.lanes_are p in
@@ -95,14 +116,14 @@ module _ {S R K : Type 0} (s : sinks.Ghosts S) (stay : StaysTogether S R K s) wh
         no_drain = none_left (queued_parts after) ran end.drain (none_ran drain ran a.no_drain b) x;
       }
 
-  some_drained : (bays capacity : ℕ) (limits : Limits) (allots : List ℕ) (after : List (AnyLane S R)) (ran : Option (QueueDrain S R K))
+  some_drained : (bays capacity : ℕ) (limits : Limits) (allots : List ℕ) (sink : SinkTells) (after : List (AnyLane S R)) (ran : Option (QueueDrain S R K))
       (end : SinkEnd S K) (o : Option (DrainEnd S K)) (d : QueueDrain S R K) → end.drain ≡ o → length allots ≡ bays → length after ≡ bays
       → ((bay : ℕ) → IfSome (slice_get after bay) (λ l. any_queued l ≡ true))
-      → IfBoth (RanDrain s) (Some d) ran → StayTogether s capacity allots limits after ran → Ends s (queued_parts after) ran o
-      → IsDrained s bays capacity limits after end
-  some_drained bays capacity limits allots after None end o d e n m q b t x = absurd b
-  some_drained bays capacity limits allots after (Some r) end None d e n m q b t x = absurd x
-  some_drained bays capacity limits allots after (Some r) end (Some left) d e n m q b t x = record {
+      → IfBoth (RanDrain s) (Some d) ran → IsNewSink opens sink → StayTogether s capacity allots limits sink after ran
+      → Ends s (queued_parts after) ran o → IsDrained s opens bays capacity limits after end
+  some_drained bays capacity limits allots sink after None end o d e n m q b new t x = absurd b
+  some_drained bays capacity limits allots sink after (Some r) end None d e n m q b new t x = absurd x
+  some_drained bays capacity limits allots sink after (Some r) end (Some left) d e n m q b new t (x, sent) = record {
     allots = allots;
     allotted = n;
     drain = left;
@@ -120,31 +141,37 @@ module _ {S R K : Type 0} (s : sinks.Ghosts S) (stay : StaysTogether S R K s) wh
     each = x.each;
     written_is = x.written_is;
     lost_is = x.lost_is;
+    sent = sent_all opens sink (s.tells left.sink) new
+        (record { text_is = sent.text_is ∙ t.sent.text_is; follows = λ before h. sent.follows before (t.sent.follows before h) });
+    full = λ soon.
+        subst (λ (z : Limits). FullButLast z x.tries) t.limits_are
+        (x.full (subst (λ (z : Limits). left.ended - left.began < z.wait) (sym t.limits_are) soon));
   }
 
   batch_served : (bays capacity : ℕ) (limits : Limits) (before after : List (AnyLane S R)) (drain ran : Option (QueueDrain S R K)) (end : SinkEnd S K)
-      → AreShared s bays capacity limits before drain → AllPairs SameAny before after → IfBoth (RanDrain s) drain ran
-      → Ends s (queued_parts after) ran end.drain → IsDrained s bays capacity limits after end
+      → AreShared s opens bays capacity limits before drain → AllPairs SameAny before after → IfBoth (RanDrain s) drain ran
+      → Ends s (queued_parts after) ran end.drain → IsDrained s opens bays capacity limits after end
   batch_served bays capacity limits before after drain ran end a p b x =
-      let t = stay capacity a.allots limits before after drain ran a.queued p b in
+      let t = stay capacity a.allots limits a.sink before after drain ran a.queued p b in
       let n = pairs_count SameAny before after p in
       let m : length before ≡ bays =
       ap length a.queued.lanes_are ∙ (image_count queue_lane a.queued.queue ∙ (a.queued.new.count ∙ a.count)) in
-      some_drained bays capacity limits a.allots after ran end end.drain a.queued.drained refl a.count (n ∙ m)
+      some_drained bays capacity limits a.allots a.sink after ran end end.drain a.queued.drained refl a.count (n ∙ m)
       (queued_after a.queued.queue after (subst (λ z. AllPairs SameAny z after) a.queued.lanes_are p))
-      (subst (λ z. IfBoth (RanDrain s) z ran) a.queued.drain_is b) t x
+      (subst (λ z. IfBoth (RanDrain s) z ran) a.queued.drain_is b) a.new t x
 
+module _ {S R K : Type 0} (s : sinks.Ghosts S) (stay : StaysTogether S R K s) where
   pub can_all_end : CanAllEnd S R K s
-  can_all_end Off bays capacity limits before after drain ran a p b = none_ends (queued_parts after) ran (none_ran drain ran a.no_drain b)
-  can_all_end Batch bays capacity limits before after drain ran a p b =
-      (stay capacity a.allots limits before after drain ran a.queued p b).can_end
-  can_all_end Blocking bays capacity limits before after drain ran a p b = none_ends (queued_parts after) ran (none_ran drain ran a.no_drain b)
-  can_all_end Strict bays capacity limits before after drain ran a p b = none_ends (queued_parts after) ran (none_ran drain ran a.no_drain b)
+  can_all_end opens Off bays capacity limits before after drain ran a p b = none_ends s opens stay (queued_parts after) ran (none_ran s opens stay drain ran a.no_drain b)
+  can_all_end opens Batch bays capacity limits before after drain ran a p b =
+      (stay capacity a.allots limits a.sink before after drain ran a.queued p b).can_end
+  can_all_end opens Blocking bays capacity limits before after drain ran a p b = none_ends s opens stay (queued_parts after) ran (none_ran s opens stay drain ran a.no_drain b)
+  can_all_end opens Strict bays capacity limits before after drain ran a p b = none_ends s opens stay (queued_parts after) ran (none_ran s opens stay drain ran a.no_drain b)
 
   pub are_all_served : AreAllServed S R K s
-  are_all_served Off bays capacity limits before after drain ran end a p b o x =
-      none_left (queued_parts after) ran end.drain (none_ran drain ran a.no_drain b) x
-  are_all_served Batch bays capacity limits before after drain ran end a p b o x =
-      batch_served bays capacity limits before after drain ran end a p b x
-  are_all_served Blocking bays capacity limits before after drain ran end a p b o x = own_served bays before after drain ran end a p b o x
-  are_all_served Strict bays capacity limits before after drain ran end a p b o x = own_served bays before after drain ran end a p b o x
+  are_all_served opens Off bays capacity limits before after drain ran end a p b o x =
+      none_left s opens stay (queued_parts after) ran end.drain (none_ran s opens stay drain ran a.no_drain b) x
+  are_all_served opens Batch bays capacity limits before after drain ran end a p b o x =
+      batch_served s opens stay bays capacity limits before after drain ran end a p b x
+  are_all_served opens Blocking bays capacity limits before after drain ran end a p b o x = own_served s opens stay bays before after drain ran end a p b o x
+  are_all_served opens Strict bays capacity limits before after drain ran end a p b o x = own_served s opens stay bays before after drain ran end a p b o x

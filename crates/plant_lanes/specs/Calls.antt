@@ -24,3 +24,16 @@ pub record CalledFor (opens : PlantCall) (bays : ℕ) (mode : SinkMode) (before 
   pub allots : List ℕ
   pub count : length allots ≡ bays
   pub made : Joined before (sink_calls opens bays allots mode) after
+
+-- some of these calls, from the first one on, were made, and no other
+pub record CallsPart (calls : List PlantCall) (before after : Option (List PlantCall)) : Type 0 where
+  pub front : List PlantCall
+  pub rest : List PlantCall
+  pub is : calls ≡ front ++ rest
+  pub made : Joined before front after
+
+-- the same of the calls for the lanes of a sink
+pub record CalledInPart (opens : PlantCall) (bays : ℕ) (mode : SinkMode) (before after : Option (List PlantCall)) : Type 0 where
+  pub allots : List ℕ
+  pub count : length allots ≡ bays
+  pub part : CallsPart (sink_calls opens bays allots mode) before after

@@ -4,25 +4,28 @@ use Rattle.any_lane.specs.declared.lane.AnyLane.{AnyLane}
 use Rattle.audit_core.specs.declared.sinks.SinkMode.{SinkMode}
 use Rattle.audit_core.specs.declared.sinks.SinkMode.TheVariants.{Off, Batch, Blocking, Strict}
 use Rattle.batch_backend.specs.declared.limits.Limits.{Limits}
-use Rattle.front_plants.specs.Fresh.{IsNewSink}
+use Rattle.front_plants.specs.Fresh.{SinkOpens, IsNewSink}
 use Rattle.queue_drain.specs.declared.drain.QueueDrain.{QueueDrain}
 use Rattle.sink_lanes.specs.Lanes.{AllOff, AreQueued, own_lane}
+use Rattle.truncate_backend.specs.Tries.{SinkTells}
 use Rattle.truncate_backend.specs.declared.sink.BatchSink as sinks
 
 -- a new sink of its own for each bay
-pub record AreOwn {S R K : Type 0} (s : sinks.Ghosts S) (bays : ℕ) (lanes : List (AnyLane S R)) (drain : Option (QueueDrain S R K)) : Type 0 where
+pub record AreOwn {S R K : Type 0} (s : sinks.Ghosts S) (opens : SinkOpens) (bays : ℕ) (lanes : List (AnyLane S R)) (drain : Option (QueueDrain S R K)) : Type 0 where
   pub own : List S
   pub lanes_are : lanes ≡ map own_lane own
   pub count : length own ≡ bays
-  pub new : All (λ (sink : S). IsNewSink (s.tells sink)) own
+  pub new : All (λ (sink : S). IsNewSink opens (s.tells sink)) own
   pub no_drain : drain ≡ None
 
--- a queue that all bays share, with so many lanes
-pub record AreShared {S R K : Type 0} (s : sinks.Ghosts S) (bays capacity : ℕ) (limits : Limits) (lanes : List (AnyLane S R))
+-- a queue that all bays share, with so many lanes, and a new sink
+pub record AreShared {S R K : Type 0} (s : sinks.Ghosts S) (opens : SinkOpens) (bays capacity : ℕ) (limits : Limits) (lanes : List (AnyLane S R))
     (drain : Option (QueueDrain S R K)) : Type 0 where
   pub allots : List ℕ
   pub count : length allots ≡ bays
-  pub queued : AreQueued s capacity allots limits lanes drain
+  pub sink : SinkTells
+  pub new : IsNewSink opens sink
+  pub queued : AreQueued s capacity allots limits sink lanes drain
 
 -- no sink
 pub record AreNone {S R K : Type 0} (bays : ℕ) (lanes : List (AnyLane S R)) (drain : Option (QueueDrain S R K)) : Type 0 where
@@ -31,8 +34,8 @@ pub record AreNone {S R K : Type 0} (bays : ℕ) (lanes : List (AnyLane S R)) (d
   pub no_drain : drain ≡ None
 
 module _ {S R K : Type 0} where
-  abbrev pub LanesFor : sinks.Ghosts S → SinkMode → ℕ → ℕ → Limits → List (AnyLane S R) → Option (QueueDrain S R K) → Type 0
-  LanesFor s Off bays capacity limits lanes drain = AreNone bays lanes drain
-  LanesFor s Batch bays capacity limits lanes drain = AreShared s bays capacity limits lanes drain
-  LanesFor s Blocking bays capacity limits lanes drain = AreOwn s bays lanes drain
-  LanesFor s Strict bays capacity limits lanes drain = AreOwn s bays lanes drain
+  abbrev pub LanesFor : sinks.Ghosts S → SinkOpens → SinkMode → ℕ → ℕ → Limits → List (AnyLane S R) → Option (QueueDrain S R K) → Type 0
+  LanesFor s opens Off bays capacity limits lanes drain = AreNone bays lanes drain
+  LanesFor s opens Batch bays capacity limits lanes drain = AreShared s opens bays capacity limits lanes drain
+  LanesFor s opens Blocking bays capacity limits lanes drain = AreOwn s opens bays lanes drain
+  LanesFor s opens Strict bays capacity limits lanes drain = AreOwn s opens bays lanes drain

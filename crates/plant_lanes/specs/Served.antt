@@ -1,11 +1,13 @@
 -- What became of the lines that bays offered for a sink, by the sink's mode.
-use Rattle.std.specs.Prelude.{◌≡◌, ◌+◌, ◌≤◌, ◌^◌, ◌-◌, min, ℕ, List, [], map, length, slice_get, Option, Some, None, IfSome, All, true}
+use Rattle.std.specs.Prelude.{◌≡◌, ◌<◌, ◌+◌, ◌≤◌, ◌^◌, ◌-◌, min, ℕ, List, [], map, length, slice_get, Option, Some, None, IfSome, All, true}
 use Rattle.any_lane.specs.Lanes.{any_queued}
 use Rattle.any_lane.specs.declared.lane.AnyLane.{AnyLane}
 use Rattle.audit_core.specs.declared.sinks.SinkMode.{SinkMode}
 use Rattle.audit_core.specs.declared.sinks.SinkMode.TheVariants.{Off, Batch, Blocking, Strict}
 use Rattle.batch_backend.specs.Batches.{WithinLimits}
+use Rattle.batch_backend.specs.Closes.{FullButLast}
 use Rattle.batch_backend.specs.declared.limits.Limits.{Limits}
+use Rattle.front_plants.specs.Fresh.{SinkOpens, SentAll}
 use Rattle.plant_lanes.specs.Lanes.{LanesFor}
 use Rattle.queue_drain.specs.Drains.{RanDrain}
 use Rattle.queue_drain.specs.declared.drain.QueueDrain.{QueueDrain}
@@ -22,7 +24,7 @@ use Rattle.truncate_backend.specs.declared.sink.BatchSink as sinks
 -- Of a sink in batch mode: these tries were made by its one drainer, and are those of the sink where it tells them. Their lines,
 -- joined, have each bay's accepted lines in order, each once, and no line of anybody else. Each lane is one of a queue, and was Full only
 -- where its allotment is spent, or where the queue can be full
-pub record IsDrained {S R K : Type 0} (s : sinks.Ghosts S) (bays capacity : ℕ) (limits : Limits) (lanes : List (AnyLane S R)) (end : SinkEnd S K)
+pub record IsDrained {S R K : Type 0} (s : sinks.Ghosts S) (opens : SinkOpens) (bays capacity : ℕ) (limits : Limits) (lanes : List (AnyLane S R)) (end : SinkEnd S K)
     : Type 0 where
   pub allots : List ℕ
   pub allotted : length allots ≡ bays
@@ -38,6 +40,8 @@ pub record IsDrained {S R K : Type 0} (s : sinks.Ghosts S) (bays capacity : ℕ)
   pub each : length (done_of tries) + unwritten ≡ length (lines_of tries)
   pub written_is : drain.written ≡ min (length (done_of tries)) (2 ^ 64 - 1)
   pub lost_is : drain.lost ≡ min unwritten (2 ^ 64 - 1)
+  pub sent : SentAll opens (s.tells drain.sink)
+  pub full : drain.ended - drain.began < limits.wait → FullButLast limits tries
 
 -- of a sink in the modes blocking and strict: each bay's lane is over the bay's own sink
 pub record IsOwn {S R K : Type 0} (bays : ℕ) (lanes : List (AnyLane S R)) (end : SinkEnd S K) : Type 0 where
@@ -46,24 +50,24 @@ pub record IsOwn {S R K : Type 0} (bays : ℕ) (lanes : List (AnyLane S R)) (end
   pub no_drain : end.drain ≡ None
 
 module _ {S R K : Type 0} where
-  abbrev pub SinkServed : sinks.Ghosts S → SinkMode → ℕ → ℕ → Limits → List (AnyLane S R) → SinkEnd S K → Type 0
-  SinkServed s Off bays capacity limits lanes end = end.drain ≡ None
-  SinkServed s Batch bays capacity limits lanes end = IsDrained s bays capacity limits lanes end
-  SinkServed s Blocking bays capacity limits lanes end = IsOwn bays lanes end
-  SinkServed s Strict bays capacity limits lanes end = IsOwn bays lanes end
+  abbrev pub SinkServed : sinks.Ghosts S → SinkOpens → SinkMode → ℕ → ℕ → Limits → List (AnyLane S R) → SinkEnd S K → Type 0
+  SinkServed s opens Off bays capacity limits lanes end = end.drain ≡ None
+  SinkServed s opens Batch bays capacity limits lanes end = IsDrained s opens bays capacity limits lanes end
+  SinkServed s opens Blocking bays capacity limits lanes end = IsOwn bays lanes end
+  SinkServed s opens Strict bays capacity limits lanes end = IsOwn bays lanes end
 
 -- lanes that were made for a sink can be taken back, whatever bays offered and the drainer took
 abbrev pub CanAllEnd : (S R K : Type 0) → sinks.Ghosts S → Type 0
 CanAllEnd S R K s =
-    (mode : SinkMode) (bays capacity : ℕ) (limits : Limits) (before after : List (AnyLane S R)) (drain ran : Option (QueueDrain S R K))
-    → LanesFor s mode bays capacity limits before drain → AllPairs SameAny before after → IfBoth (RanDrain s) drain ran
+    (opens : SinkOpens) (mode : SinkMode) (bays capacity : ℕ) (limits : Limits) (before after : List (AnyLane S R)) (drain ran : Option (QueueDrain S R K))
+    → LanesFor s opens mode bays capacity limits before drain → AllPairs SameAny before after → IfBoth (RanDrain s) drain ran
     → CanEnd s (queued_parts after) ran
 
 -- and what is left of them accounts for all that was accepted
 abbrev pub AreAllServed : (S R K : Type 0) → sinks.Ghosts S → Type 0
 AreAllServed S R K s =
-    (mode : SinkMode) (bays capacity : ℕ) (limits : Limits) (before after : List (AnyLane S R)) (drain ran : Option (QueueDrain S R K))
+    (opens : SinkOpens) (mode : SinkMode) (bays capacity : ℕ) (limits : Limits) (before after : List (AnyLane S R)) (drain ran : Option (QueueDrain S R K))
     (end : SinkEnd S K)
-    → LanesFor s mode bays capacity limits before drain → AllPairs SameAny before after → IfBoth (RanDrain s) drain ran
+    → LanesFor s opens mode bays capacity limits before drain → AllPairs SameAny before after → IfBoth (RanDrain s) drain ran
     → end.own.items ≡ own_parts after → Ends s (queued_parts after) ran end.drain
-    → SinkServed s mode bays capacity limits after end
+    → SinkServed s opens mode bays capacity limits after end

@@ -1,9 +1,9 @@
 // The lanes of all bays for each sink.
-ghost use Rattle.std.specs.Prelude.{◌≡◌, ◌≤◌, IfOk, All, length, replicate};
-ghost use Rattle.front_plants.specs.Fresh.{IsNewSink};
+ghost use Rattle.std.specs.Prelude.{◌≡◌, ◌≤◌, IfOk, OnErr, All, length, replicate};
+ghost use Rattle.front_plants.specs.Fresh.{IsNewSink, log_opens, hook_opens};
 ghost use Rattle.front_plants.specs.Plants.{HasCause};
 ghost use Rattle.front_plants.specs.declared.call.PlantCall.TheVariants as calls;
-ghost use Rattle.plant_lanes.specs.Calls.{CalledFor, allot_calls};
+ghost use Rattle.plant_lanes.specs.Calls.{CalledFor, CalledInPart, CallsPart, allot_calls};
 ghost use Rattle.plant_lanes.specs.Lanes.{LanesFor};
 ghost use Rattle.plant_lanes.specs.Options.{AreFit};
 ghost use Rattle.shared_queue.specs.declared.making.TheConstants.{MOST_ALLOTTED};
@@ -22,6 +22,7 @@ fn ask_allotments<P: Plant>(alloc: Global, plant: &mut P, bays: u16) -> Result<V
     ensures most { IfOk result (λ allots. All (λ n. n ≤ MOST_ALLOTTED) allots.items) }
     ensures plant { ((P.tells plant.new).faults ≡ (P.tells plant.old).faults) × ((P.tells plant.new).due ≡ (P.tells plant.old).due) }
     ensures called { IfOk result (λ allots. Joined (P.tells plant.old).made (allot_calls 0 allots.items) (P.tells plant.new).made) }
+    ensures uncalled { OnErr result ((P.tells plant.new).made ≡ (P.tells plant.old).made) }
 {
     let mut allots = Vec::with_capacity(alloc, usize::from(bays))?;
     for bay in 0..bays {
@@ -37,8 +38,10 @@ fn open_logs<P: Plant>(
     options: &RunOptions,
 ) -> Result<Vec<P::W>, PlantFail>
     ensures count { IfOk result (λ sinks. length sinks.items ≡ options.now.bays) }
-    ensures new { IfOk result (λ sinks. All (λ sink. IsNewSink (P.W.tells sink)) sinks.items) }
+    ensures new { IfOk result (λ sinks. All (λ sink. IsNewSink (log_opens P.opens) (P.W.tells sink)) sinks.items) }
     ensures called { IfOk result (λ sinks. Joined (P.tells plant.old).made (replicate options.now.bays (calls.Log options.now.log_path))
+        (P.tells plant.new).made) }
+    ensures stopped { OnErr result (CallsPart (replicate options.now.bays (calls.Log options.now.log_path)) (P.tells plant.old).made
         (P.tells plant.new).made) }
     ensures cause { HasCause (P.tells plant.old).faults result (P.tells plant.new).faults }
     ensures due { (P.tells plant.new).due ≡ (P.tells plant.old).due }
@@ -61,8 +64,10 @@ fn open_hooks<P: Plant>(
     options: &RunOptions,
 ) -> Result<Vec<P::H>, PlantFail>
     ensures count { IfOk result (λ sinks. length sinks.items ≡ options.now.bays) }
-    ensures new { IfOk result (λ sinks. All (λ sink. IsNewSink (P.H.tells sink)) sinks.items) }
+    ensures new { IfOk result (λ sinks. All (λ sink. IsNewSink (hook_opens P.opens options.now.hook_url) (P.H.tells sink)) sinks.items) }
     ensures called { IfOk result (λ sinks. Joined (P.tells plant.old).made (replicate options.now.bays (calls.Hook options.now.hook_url))
+        (P.tells plant.new).made) }
+    ensures stopped { OnErr result (CallsPart (replicate options.now.bays (calls.Hook options.now.hook_url)) (P.tells plant.old).made
         (P.tells plant.new).made) }
     ensures cause { HasCause (P.tells plant.old).faults result (P.tells plant.new).faults }
     ensures due { (P.tells plant.new).due ≡ (P.tells plant.old).due }
@@ -87,9 +92,11 @@ pub fn log_lanes<P: Plant>(
     mode: SinkMode,
 ) -> Result<SinkLanes<P::W, P::Rt, P::K>, PlantFail>
     requires { AreFit options.now }
-    ensures lanes { IfOk result (λ made. LanesFor P.W.BatchSink mode options.now.bays options.now.buffer options.now.limits
-        made.lanes.items made.drain) }
+    ensures lanes { IfOk result (λ made. LanesFor P.W.BatchSink (log_opens P.opens) mode options.now.bays options.now.buffer
+        options.now.limits made.lanes.items made.drain) }
     ensures called { IfOk result (λ made. CalledFor (calls.Log options.now.log_path) options.now.bays mode
+        (P.tells plant.old).made (P.tells plant.new).made) }
+    ensures stopped { OnErr result (CalledInPart (calls.Log options.now.log_path) options.now.bays mode
         (P.tells plant.old).made (P.tells plant.new).made) }
     ensures cause { HasCause (P.tells plant.old).faults result (P.tells plant.new).faults }
     ensures due { (P.tells plant.new).due ≡ (P.tells plant.old).due }
@@ -119,9 +126,11 @@ pub fn hook_lanes<P: Plant>(
     mode: SinkMode,
 ) -> Result<SinkLanes<P::H, P::Rt, P::K>, PlantFail>
     requires { AreFit options.now }
-    ensures lanes { IfOk result (λ made. LanesFor P.H.BatchSink mode options.now.bays options.now.buffer options.now.limits
-        made.lanes.items made.drain) }
+    ensures lanes { IfOk result (λ made. LanesFor P.H.BatchSink (hook_opens P.opens options.now.hook_url) mode options.now.bays options.now.buffer
+        options.now.limits made.lanes.items made.drain) }
     ensures called { IfOk result (λ made. CalledFor (calls.Hook options.now.hook_url) options.now.bays mode
+        (P.tells plant.old).made (P.tells plant.new).made) }
+    ensures stopped { OnErr result (CalledInPart (calls.Hook options.now.hook_url) options.now.bays mode
         (P.tells plant.old).made (P.tells plant.new).made) }
     ensures cause { HasCause (P.tells plant.old).faults result (P.tells plant.new).faults }
     ensures due { (P.tells plant.new).due ≡ (P.tells plant.old).due }

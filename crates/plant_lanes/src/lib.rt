@@ -14,5 +14,5 @@ mod laws;
 mod options;
 
 pub use lanes::{hook_lanes, log_lanes};
-pub use laws::{calls_join, lanes_are_served};
+pub use laws::{calls_in_part, calls_join, lanes_are_served, new_sinks_send_their_tries};
 pub use options::RunOptions;

@@ -1,0 +1,5 @@
+use Rattle.plant_lanes.proofs.ServedLemmas.{sent_all}
+use Rattle.plant_lanes.proofs.laws.new_sinks_send_their_tries.Goals as goal
+
+pub returns : goal.returns
+returns c = sent_all
