@@ -1,5 +1,6 @@
 -- Lists that are walked by value, beside what was made of them.
 use Rattle.std.proofs.Common.{◌≡◌, ◌<◌, ◌≤◌, ◌+◌, ℕ, zero, suc, List, [], ◌∷◌, ◌++◌, length, length-append, map, slice_get, IfSome, append_assoc, append-nil, refl, sym, ap, subst, ◌∙◌, arith}
+use Rattle.std.specs.Prelude.{Result, Ok, Err, OnErr}
 use Rattle.std.proofs.lemmas.List.{map-append}
 use Rattle.front_base.specs.declared.address.Address.{Address}
 use Rattle.serve_bays.specs.Calls.{bay_calls, bays_calls}
@@ -69,6 +70,21 @@ bays_more listen connections bay (suc n) m e =
     ap (λ l. bay_calls listen connections bay ++ l) (bays_more listen connections (suc bay) n m (omega arith))
     ∙ sym (append_assoc (bay_calls listen connections bay) (bays_calls listen connections (suc bay) n) (bay_calls listen connections m))
 
+-- the calls of some bays, of the next one, and of the others
+pub bays_split : (listen : Address) (connections bay m k : ℕ) → bays_calls listen connections bay (m + suc k)
+    ≡ bays_calls listen connections bay m
+    ++ (bay_calls listen connections (bay + m) ++ bays_calls listen connections (suc (bay + m)) k)
+bays_split listen connections bay zero k =
+    ap (bays_calls listen connections bay) (let e : zero + suc k ≡ suc k = omega arith in e)
+    ∙ ap (λ b. bay_calls listen connections b ++ bays_calls listen connections (suc b) k) (let e : bay ≡ bay + zero = omega arith in e)
+bays_split listen connections bay (suc m) k =
+    ap (bays_calls listen connections bay) (let e : suc m + suc k ≡ suc (m + suc k) = omega arith in e)
+    ∙ (ap (λ l. bay_calls listen connections bay ++ l) (bays_split listen connections (suc bay) m k)
+    ∙ (ap (λ b. bay_calls listen connections bay ++ (bays_calls listen connections (suc bay) m
+    ++ (bay_calls listen connections b ++ bays_calls listen connections (suc b) k)))
+    (let e : suc bay + m ≡ bay + suc m = omega arith in e)
+    ∙ sym (append_assoc (bay_calls listen connections bay) (bays_calls listen connections (suc bay) m) _)))
+
 -- as many stand beside each other, so where one more comes there is one more beside it
 pub some_left : {A B T : Type 0} (f : A → B) (done : List A) (rest items : List B) (tables yielded left more : List T) (x : T)
     → map f done ++ rest ≡ items → length items ≡ length tables → tables ≡ yielded ++ left → left ≡ x ∷ more
@@ -98,3 +114,7 @@ image_more f done more a ys y e p q =
 
 pub one_longer : {T : Type 0} (ys : List T) (y : T) → length (ys ++ y ∷ []) ≡ suc (length ys)
 one_longer ys y = omega (arith, length-append ys (y ∷ []))
+
+pub on_err : {A E : Type 0} (r : Result A E) (P : Type 0) → P → OnErr r P
+on_err (Ok x) P p = tt
+on_err (Err x) P p = p

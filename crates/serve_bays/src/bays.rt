@@ -1,9 +1,10 @@
 // The bays of a run.
-ghost use Rattle.std.specs.Prelude.{◌≡◌, ◌≢◌, ◌≤◌, ℕ, IfOk, IfSome, length, map, slice_get};
+ghost use Rattle.std.specs.Prelude.{◌≡◌, ◌≢◌, ◌≤◌, ℕ, IfOk, IfSome, OnErr, length, map, slice_get};
 ghost use Rattle.std.specs.Arc.{arc_value};
 ghost use Rattle.audit_core.specs.declared.settings.Settings.{Settings};
 ghost use Rattle.front_base.specs.declared.line.TheConstants.{MOST_LINE_BYTES};
 ghost use Rattle.front_plants.specs.Plants.{HasCause};
+ghost use Rattle.plant_lanes.specs.Calls.{CallsPart};
 ghost use Rattle.serve_roles.specs.Ends.{log_lane, hook_lane};
 ghost use Rattle.serve_roles.specs.Ready.{TakesLines};
 ghost use Rattle.serve_roles.specs.Doors.{bay_handles};
@@ -18,7 +19,7 @@ use bay_runs::{BayStop, EndCounts};
 use event_offers::Lanes;
 use front_plants::{Plant, PlantFail};
 use local_replies::LocalPaths;
-use plant_lanes::{RunOptions, calls_join};
+use plant_lanes::{RunOptions, calls_in_part, calls_join};
 use serve_roles::{BayRole, ReadyBay};
 use session_core::Bay;
 use std::alloc::Global;
@@ -55,7 +56,10 @@ fn make_bay<P: Plant, R: Routes + Drop>(
     ensures due { (other : ℕ) → other ≢ lanes.bay → (P.tells plant.new).due other ≡ (P.tells plant.old).due other }
     ensures called { IfOk result (λ _. Joined (P.tells plant.old).made
         (bay_calls options.now.listen options.now.connections lanes.bay) (P.tells plant.new).made) }
+    ensures stopped { OnErr result (CallsPart (bay_calls options.now.listen options.now.connections lanes.bay)
+        (P.tells plant.old).made (P.tells plant.new).made) }
 {
+    calls_in_part();
     let Ok(settings) = Arc::try_clone(&shared.settings) else {
         return Err(PlantFail::NoMemory);
     };
@@ -111,9 +115,12 @@ pub fn make_bays<P: Plant, R: Routes + Drop>(
     ensures routes { IfOk result (λ bays. map routes_of bays.items ≡ routes.items) }
     ensures called { IfOk result (λ _. Joined (P.tells plant.old).made
         (bays_calls options.now.listen options.now.connections 0 (length routes.items)) (P.tells plant.new).made) }
+    ensures stopped { OnErr result (CallsPart (bays_calls options.now.listen options.now.connections 0 (length routes.items))
+        (P.tells plant.old).made (P.tells plant.new).made) }
     ensures cause { HasCause (P.tells plant.old).faults result (P.tells plant.new).faults }
 {
     calls_join();
+    calls_in_part();
     let Ok(mut bays) = Vec::with_capacity(alloc, routes.len()) else {
         return Err(PlantFail::NoMemory);
     };

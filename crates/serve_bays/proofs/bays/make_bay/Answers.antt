@@ -1,4 +1,5 @@
 use Rattle.std.proofs.Common.{◌∷◌, []}
+use Rattle.serve_bays.proofs.Walks.{on_err}
 use Rattle.front_plants.specs.declared.call.PlantCall.TheVariants.{Dial, Door, Clock, Diary}
 use Rattle.serve_bays.proofs.bays.make_bay.Goals as goal
 
@@ -9,3 +10,11 @@ returns-clause-called g c =
     join _ _ _ (Dial ∷ []) (Door o.listen c.args.lanes.bay o.connections ∷ Clock ∷ Diary ∷ []) c.in_ok-dial.ensures.called.made
     (join _ _ _ (Door o.listen c.args.lanes.bay o.connections ∷ []) (Clock ∷ Diary ∷ []) c.in_ok-door.ensures.called.made
     (join _ _ _ (Clock ∷ []) (Diary ∷ []) c.clock-clock.ensures.called.made c.diary-diary.ensures.called.made))
+
+pub returns-in_err-door-clause-stopped : goal.returns-in_err-door-clause-stopped
+returns-in_err-door-clause-stopped g c =
+    let part = c.calls_in_part.ensures in
+    let o = c.args.options.now in
+    let door = Door o.listen c.args.lanes.bay o.connections in
+    on_err _ _ (part.more _ _ _ (Dial ∷ []) (door ∷ Clock ∷ Diary ∷ []) c.in_ok-dial.ensures.called.made
+    (part.less _ _ (door ∷ []) (Clock ∷ Diary ∷ []) (part.whole _ _ (door ∷ []) c.in_err-door.ensures.called.made)))

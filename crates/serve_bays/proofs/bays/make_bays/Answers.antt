@@ -1,8 +1,9 @@
-use Rattle.std.proofs.Common.{rules, arith, refl, sym, ap, subst, ◌∙◌, ◌≡◌, ◌≤◌, ◌++◌, ◌∷◌, [], ℕ, suc, length, length-append, map, slice_get, IfSome, Option, List}
+use Rattle.std.proofs.Common.{rules, arith, refl, sym, ap, subst, ◌∙◌, ◌≡◌, ◌≤◌, ◌+◌, ◌-◌, ◌++◌, ◌∷◌, [], ℕ, suc, length, length-append, map, slice_get, IfSome, Option, List}
 use Rattle.std.specs.Arc.{arc_value}
+use Rattle.plant_lanes.specs.Calls.{CallsPart}
 use Rattle.serve_bays.specs.Bays.{IsNewBay, routes_of}
 use Rattle.serve_bays.specs.Calls.{bay_calls, bays_calls}
-use Rattle.serve_bays.proofs.Walks.{walk_next, walk_more, walk_end, next_whole, next_below, all_of, each_more, some_left, none_left, image_more, one_longer, bays_more}
+use Rattle.serve_bays.proofs.Walks.{walk_next, walk_more, walk_end, next_whole, next_below, all_of, each_more, some_left, none_left, image_more, one_longer, bays_more, bays_split, on_err}
 use Rattle.serve_bays.proofs.bays.make_bays.Goals as goal
 use Rattle.serve_roles.specs.Doors.{bay_handles}
 use Rattle.serve_roles.specs.Ends.{log_lane, hook_lane}
@@ -132,3 +133,26 @@ returns-clause-called g c =
     let all = all_of c.args.routes.items c.loop-table.yielded rest.items i.whole (omega (arith, rest.ok.0, c.in-None.ensures.steps.0)) in
     subst (λ n. Joined (g.P.Plant.tells c.args.plant.now).made (bays_calls o.listen o.connections 0 n) (g.P.Plant.tells c.loop-table.plant).made)
     (ap length all) i.made
+
+pub returns-in_err-role-clause-stopped : goal.returns-in_err-role-clause-stopped
+returns-in_err-role-clause-stopped g c =
+    let i = c.loop-table.invariant in
+    let o = c.args.options.now in
+    let first = (g.P.Plant.tells c.args.plant.now).made in
+    let last = (g.P.Plant.tells c.make_bay.new.plant).made in
+    let m = length c.loop-table.yielded in
+    let n = length c.args.routes.items in
+    let below = next_below c.args.routes.items c.loop-table.yielded c.loop-table.table-iterator.rest.items _ c.in-Some.table i.whole c.in-Some.ensures.steps.0 in
+    let k = n - m - 1 in
+    let all : m + suc k ≡ n = omega (arith, below) in
+    let part = c.calls_in_part.ensures in
+    let rest = bays_calls o.listen o.connections (suc (0 + m)) k in
+    let own = subst (λ b. CallsPart (bay_calls o.listen o.connections b) (g.P.Plant.tells c.loop-table.plant).made last)
+    (let e : c.loop-table.bay ≡ 0 + m = omega (arith, i.bay) in e) c.in_err-role.ensures.stopped in
+    on_err _ _ (subst (λ j. CallsPart (bays_calls o.listen o.connections 0 j) first last) all
+    (subst (λ l. CallsPart l first last) (sym (bays_split o.listen o.connections 0 m k))
+    (part.more first _ last (bays_calls o.listen o.connections 0 m) (bay_calls o.listen o.connections (0 + m) ++ rest) i.made
+    (part.less _ last (bay_calls o.listen o.connections (0 + m)) rest own))))
+
+pub returns-in_default-clause-stopped : goal.returns-in_default-clause-stopped
+returns-in_default-clause-stopped g c = c.calls_in_part.ensures.none _ _
