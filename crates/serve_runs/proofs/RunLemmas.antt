@@ -13,7 +13,7 @@ use Rattle.batch_backend.specs.declared.limits.Limits.{Limits}
 use Rattle.bay_runs.specs.Counts.{no_ends}
 use Rattle.bay_runs.specs.Runs.{door_state}
 use Rattle.bay_runs.specs.declared.end_counts.EndCounts.{EndCounts}
-use Rattle.front_plants.specs.Fresh.{IsNewSink}
+use Rattle.front_plants.specs.Fresh.{IsNewSink, Openings, SinkOpens, log_opens, hook_opens}
 use Rattle.front_plants.specs.Plants.{PlantTells}
 use Rattle.plant_lanes.specs.Lanes.{LanesFor}
 use Rattle.plant_lanes.specs.Served.{SinkServed}
@@ -73,84 +73,86 @@ own_strict R [] i k = tt
 own_strict R (s ∷ own) zero k = λ e. ((λ b q. absurd cc), refl)
 own_strict R (s ∷ own) (suc i) k = own_strict R own i k
 
-pub lanes_take : {S R K : Type 0} (s : sinks.Ghosts S) (mode : SinkMode) (bays capacity : ℕ) (limits : Limits) (lanes : List (AnyLane S R))
-    (drain : Option (QueueDrain S R K)) → LanesFor s mode bays capacity limits lanes drain → (k : ℕ) → IfSome (slice_get lanes k) (TakesLines k mode)
-lanes_take s Off bays capacity limits lanes drain h k = off_at (slice_get lanes k) k
-lanes_take {S = S} s Batch bays capacity limits lanes drain h k =
+pub lanes_take : {S R K : Type 0} (s : sinks.Ghosts S) (opens : SinkOpens) (mode : SinkMode) (bays capacity : ℕ) (limits : Limits) (lanes : List (AnyLane S R))
+    (drain : Option (QueueDrain S R K)) → LanesFor s opens mode bays capacity limits lanes drain → (k : ℕ) → IfSome (slice_get lanes k) (TakesLines k mode)
+lanes_take s opens Off bays capacity limits lanes drain h k = off_at (slice_get lanes k) k
+lanes_take {S = S} s opens Batch bays capacity limits lanes drain h k =
     subst (λ z. IfSome (slice_get z k) (TakesLines k Batch)) (sym h.queued.lanes_are)
     (queue_at S h.queued.outlet h.queued.queue k k (h.queued.new.lanes_are k))
-lanes_take {R = R} s Blocking bays capacity limits lanes drain h k =
+lanes_take {R = R} s opens Blocking bays capacity limits lanes drain h k =
     subst (λ z. IfSome (slice_get z k) (TakesLines k Blocking)) (sym h.lanes_are) (own_blocking R h.own k k)
-lanes_take {R = R} s Strict bays capacity limits lanes drain h k =
+lanes_take {R = R} s opens Strict bays capacity limits lanes drain h k =
     subst (λ z. IfSome (slice_get z k) (TakesLines k Strict)) (sym h.lanes_are) (own_strict R h.own k k)
 
 pub image_count : {A B : Type 0} (f : A → B) (ys : List A) → length (map f ys) ≡ length ys
 image_count f [] = refl
 image_count f (y ∷ ys) = ap suc (image_count f ys)
 
-pub lanes_count : {S R K : Type 0} (s : sinks.Ghosts S) (mode : SinkMode) (bays capacity : ℕ) (limits : Limits) (lanes : List (AnyLane S R))
-    (drain : Option (QueueDrain S R K)) → LanesFor s mode bays capacity limits lanes drain → length lanes ≡ bays
-lanes_count s Off bays capacity limits lanes drain h = h.count
-lanes_count s Batch bays capacity limits lanes drain h =
+pub lanes_count : {S R K : Type 0} (s : sinks.Ghosts S) (opens : SinkOpens) (mode : SinkMode) (bays capacity : ℕ) (limits : Limits) (lanes : List (AnyLane S R))
+    (drain : Option (QueueDrain S R K)) → LanesFor s opens mode bays capacity limits lanes drain → length lanes ≡ bays
+lanes_count s opens Off bays capacity limits lanes drain h = h.count
+lanes_count s opens Batch bays capacity limits lanes drain h =
     ap length h.queued.lanes_are ∙ (image_count queue_lane h.queued.queue ∙ (h.queued.new.count ∙ h.count))
-lanes_count s Blocking bays capacity limits lanes drain h = ap length h.lanes_are ∙ (image_count own_lane h.own ∙ h.count)
-lanes_count s Strict bays capacity limits lanes drain h = ap length h.lanes_are ∙ (image_count own_lane h.own ∙ h.count)
+lanes_count s opens Blocking bays capacity limits lanes drain h = ap length h.lanes_are ∙ (image_count own_lane h.own ∙ h.count)
+lanes_count s opens Strict bays capacity limits lanes drain h = ap length h.lanes_are ∙ (image_count own_lane h.own ∙ h.count)
 
 -- ---- to which lanes nothing was offered
 
-abbrev Unoffered : {S R : Type 0} → sinks.Ghosts S → AnyLane S R → Type 0
-Unoffered s lane = IsUnoffered (any_tells s lane)
+abbrev Unoffered : {S R : Type 0} → sinks.Ghosts S → SinkOpens → AnyLane S R → Type 0
+Unoffered s opens lane = IsUnoffered opens (any_tells s lane)
 
-off_fresh : {S R : Type 0} (s : sinks.Ghosts S) (l : AnyLane S R) → IsOff l → Unoffered s l
-off_fresh s (lane.Off n) h = record { none_accepted = refl; none_tried = tt }
-off_fresh s (lane.Queue l) h = absurd h
-off_fresh s (lane.Own l) h = absurd h
+off_fresh : {S R : Type 0} (s : sinks.Ghosts S) (opens : SinkOpens) (l : AnyLane S R) → IsOff l → Unoffered s opens l
+off_fresh s opens (lane.Off n) h = record { none_accepted = refl; none_tried = tt; new = tt }
+off_fresh s opens (lane.Queue l) h = absurd h
+off_fresh s opens (lane.Own l) h = absurd h
 
-all_off_fresh : {S R : Type 0} (s : sinks.Ghosts S) (ls : List (AnyLane S R)) (k : ℕ) → AllOff ls → IfSome (slice_get ls k) (Unoffered s)
-all_off_fresh s [] k h = tt
-all_off_fresh s (l ∷ ls) zero h = off_fresh s l h.0
-all_off_fresh s (l ∷ ls) (suc k) h = all_off_fresh s ls k h.1
+all_off_fresh : {S R : Type 0} (s : sinks.Ghosts S) (opens : SinkOpens) (ls : List (AnyLane S R)) (k : ℕ) → AllOff ls → IfSome (slice_get ls k) (Unoffered s opens)
+all_off_fresh s opens [] k h = tt
+all_off_fresh s opens (l ∷ ls) zero h = off_fresh s opens l h.0
+all_off_fresh s opens (l ∷ ls) (suc k) h = all_off_fresh s opens ls k h.1
 
-queue_fresh : {S R : Type 0} (s : sinks.Ghosts S) (outlet : QueueOutlet R) (k : ℕ) (l : QueueLane R) → IsNewLane outlet k l
-    → Unoffered s (queue_lane l)
-queue_fresh s outlet k l n = record {
+queue_fresh : {S R : Type 0} (s : sinks.Ghosts S) (opens : SinkOpens) (outlet : QueueOutlet R) (k : ℕ) (l : QueueLane R) → IsNewLane outlet k l
+    → Unoffered s opens (queue_lane l)
+queue_fresh s opens outlet k l n = record {
   none_accepted = subst (λ (t : LaneTells). IfSome t.accepted (λ xs. xs ≡ [])) (sym n.tells) refl;
   none_tried = subst (λ (t : LaneTells). IfSome t.tried (λ xs. xs ≡ [])) (sym n.tells) refl;
+  new = subst (λ (t : LaneTells). IfSome t.sink (IsNewSink opens)) (sym n.tells) tt;
 }
 
-queues_fresh : {S R : Type 0} (s : sinks.Ghosts S) (outlet : QueueOutlet R) (ls : List (QueueLane R)) (i k : ℕ)
-    → IfSome (slice_get ls i) (IsNewLane outlet k) → IfSome (slice_get (map queue_lane ls) i) (Unoffered s)
-queues_fresh s outlet [] i k h = tt
-queues_fresh s outlet (l ∷ ls) zero k h = queue_fresh s outlet k l h
-queues_fresh s outlet (l ∷ ls) (suc i) k h = queues_fresh s outlet ls i k h
+queues_fresh : {S R : Type 0} (s : sinks.Ghosts S) (opens : SinkOpens) (outlet : QueueOutlet R) (ls : List (QueueLane R)) (i k : ℕ)
+    → IfSome (slice_get ls i) (IsNewLane outlet k) → IfSome (slice_get (map queue_lane ls) i) (Unoffered s opens)
+queues_fresh s opens outlet [] i k h = tt
+queues_fresh s opens outlet (l ∷ ls) zero k h = queue_fresh s opens outlet k l h
+queues_fresh s opens outlet (l ∷ ls) (suc i) k h = queues_fresh s opens outlet ls i k h
 
 tries_fresh : (tries : Option (List Try)) → IfSome tries (λ ts. ts ≡ [])
     → IfSome (option_map done_of tries) (λ xs. xs ≡ []) × IfSome (option_map lines_of tries) (λ xs. xs ≡ [])
 tries_fresh None h = (tt, tt)
 tries_fresh (Some ts) h = (ap done_of h, ap lines_of h)
 
-own_fresh : {S : Type 0} (R : Type 0) (s : sinks.Ghosts S) (sink : S) → IsNewSink (s.tells sink) → Unoffered {R = R} s (own_lane sink)
-own_fresh R s sink n =
+own_fresh : {S : Type 0} (R : Type 0) (s : sinks.Ghosts S) (opens : SinkOpens) (sink : S) → IsNewSink opens (s.tells sink)
+    → Unoffered {R = R} s opens (own_lane sink)
+own_fresh R s opens sink n =
     let t = tries_fresh (s.tells sink).tries n.no_try in
-    record { none_accepted = t.0; none_tried = t.1 }
+    record { none_accepted = t.0; none_tried = t.1; new = n }
 
-owns_fresh : {S : Type 0} (R : Type 0) (s : sinks.Ghosts S) (own : List S) (k : ℕ) → All (λ sink. IsNewSink (s.tells sink)) own
-    → IfSome (slice_get (map own_lane own) k) (Unoffered {R = R} s)
-owns_fresh R s [] k h = tt
-owns_fresh R s (x ∷ own) zero h = own_fresh R s x (All-head (λ z. IsNewSink (s.tells z)) x own h)
-owns_fresh R s (x ∷ own) (suc k) h = owns_fresh R s own k (All-tail (λ z. IsNewSink (s.tells z)) x own h)
+owns_fresh : {S : Type 0} (R : Type 0) (s : sinks.Ghosts S) (opens : SinkOpens) (own : List S) (k : ℕ)
+    → All (λ sink. IsNewSink opens (s.tells sink)) own → IfSome (slice_get (map own_lane own) k) (Unoffered {R = R} s opens)
+owns_fresh R s opens [] k h = tt
+owns_fresh R s opens (x ∷ own) zero h = own_fresh R s opens x (All-head (λ z. IsNewSink opens (s.tells z)) x own h)
+owns_fresh R s opens (x ∷ own) (suc k) h = owns_fresh R s opens own k (All-tail (λ z. IsNewSink opens (s.tells z)) x own h)
 
-pub lanes_fresh : {S R K : Type 0} (s : sinks.Ghosts S) (mode : SinkMode) (bays capacity : ℕ) (limits : Limits) (lanes : List (AnyLane S R))
-    (drain : Option (QueueDrain S R K)) → LanesFor s mode bays capacity limits lanes drain
-    → (k : ℕ) → IfSome (slice_get lanes k) (λ lane. IsUnoffered (any_tells s lane))
-lanes_fresh s Off bays capacity limits lanes drain h k = all_off_fresh s lanes k h.off
-lanes_fresh s Batch bays capacity limits lanes drain h k =
-    subst (λ z. IfSome (slice_get z k) (Unoffered s)) (sym h.queued.lanes_are)
-    (queues_fresh s h.queued.outlet h.queued.queue k k (h.queued.new.lanes_are k))
-lanes_fresh {R = R} s Blocking bays capacity limits lanes drain h k =
-    subst (λ z. IfSome (slice_get z k) (Unoffered s)) (sym h.lanes_are) (owns_fresh R s h.own k h.new)
-lanes_fresh {R = R} s Strict bays capacity limits lanes drain h k =
-    subst (λ z. IfSome (slice_get z k) (Unoffered s)) (sym h.lanes_are) (owns_fresh R s h.own k h.new)
+pub lanes_fresh : {S R K : Type 0} (s : sinks.Ghosts S) (opens : SinkOpens) (mode : SinkMode) (bays capacity : ℕ) (limits : Limits) (lanes : List (AnyLane S R))
+    (drain : Option (QueueDrain S R K)) → LanesFor s opens mode bays capacity limits lanes drain
+    → (k : ℕ) → IfSome (slice_get lanes k) (λ lane. IsUnoffered opens (any_tells s lane))
+lanes_fresh s opens Off bays capacity limits lanes drain h k = all_off_fresh s opens lanes k h.off
+lanes_fresh s opens Batch bays capacity limits lanes drain h k =
+    subst (λ z. IfSome (slice_get z k) (Unoffered s opens)) (sym h.queued.lanes_are)
+    (queues_fresh s opens h.queued.outlet h.queued.queue k k (h.queued.new.lanes_are k))
+lanes_fresh {R = R} s opens Blocking bays capacity limits lanes drain h k =
+    subst (λ z. IfSome (slice_get z k) (Unoffered s opens)) (sym h.lanes_are) (owns_fresh R s opens h.own k h.new)
+lanes_fresh {R = R} s opens Strict bays capacity limits lanes drain h k =
+    subst (λ z. IfSome (slice_get z k) (Unoffered s opens)) (sym h.lanes_are) (owns_fresh R s opens h.own k h.new)
 
 -- ---- what bays did
 
@@ -223,11 +225,11 @@ all_four None P Q V W Z f p q v w = tt
 all_four (Some x) P Q V W Z f p q v w = f x p q v w
 
 module _ {R L N W H T K Y D C : Type 0} (h : BayHandles R L N W H K Y D C) where
-  pub ran_count : (set : Settings) (options : RunOptions) (before after : PlantTells C) (tables : List R)
+  pub ran_count : (set : Settings) (options : RunOptions) (opens : Openings) (before after : PlantTells C) (tables : List R)
       (m n : Roles (BayRole R L W H T K Y D) (QueueDrain W T K) (QueueDrain H T K))
-      → AreMade h set options before after tables m → RanAll (RanBay h) (RanDrain h.log) (RanDrain h.hook) m n
+      → AreMade h set options opens before after tables m → RanAll (RanBay h) (RanDrain h.log) (RanDrain h.hook) m n
       → length n.bays.items ≡ options.bays
-  ran_count set options before after tables m n made ran = pairs_count (RanBay h) m.bays.items n.bays.items ran.bays ∙ made.count
+  ran_count set options opens before after tables m n made ran = pairs_count (RanBay h) m.bays.items n.bays.items ran.bays ∙ made.count
 
   same_log : (a b : BayRole R L W H T K Y D) → RanBay h a b → SameAny (log_lane a) (log_lane b)
   same_log a b r = let s = r.ran.told.lanes.log in record { bay = s.bay; home = s.home; queued = s.queued }
@@ -242,34 +244,35 @@ module _ {R L N W H T K Y D C : Type 0} (h : BayHandles R L N W H K Y D C) where
   same_hooks xs ys p = pairs_image (RanBay h) SameAny hook_lane same_hook xs ys p
 
   -- a new bay with its routes, to whose lanes nothing was offered
-  record NewAt (set : Settings) (boot : ℕ) (due : ℕ → Option (List C)) (tables : List R) (k : ℕ) (a : BayRole R L W H T K Y D) : Type 0 where
+  record NewAt (set : Settings) (log_new hook_new : SinkOpens) (boot : ℕ) (due : ℕ → Option (List C)) (tables : List R) (k : ℕ) (a : BayRole R L W H T K Y D) : Type 0 where
     new : IsNewBay h set boot (due k) k a
     table : slice_get tables k ≡ Some (routes_of a)
-    log : IsUnoffered (any_tells h.log (log_lane a))
-    hook : IsUnoffered (any_tells h.hook (hook_lane a))
+    log : IsUnoffered log_new (any_tells h.log (log_lane a))
+    hook : IsUnoffered hook_new (any_tells h.hook (hook_lane a))
 
-  new_at : (set : Settings) (options : RunOptions) (before after : PlantTells C) (tables : List R)
-      (m : Roles (BayRole R L W H T K Y D) (QueueDrain W T K) (QueueDrain H T K)) (made : AreMade h set options before after tables m)
-      → (k : ℕ) → IfSome (slice_get m.bays.items k) (NewAt set made.boot before.due tables k)
-  new_at set options before after tables m made k =
+  new_at : (set : Settings) (options : RunOptions) (opens : Openings) (before after : PlantTells C) (tables : List R)
+      (m : Roles (BayRole R L W H T K Y D) (QueueDrain W T K) (QueueDrain H T K)) (made : AreMade h set options opens before after tables m)
+      → (k : ℕ) → IfSome (slice_get m.bays.items k) (NewAt set (log_opens opens) (hook_opens opens options.hook_url) made.boot before.due tables k)
+  new_at set options opens before after tables m made k =
       let xs = m.bays.items in
       let o = slice_get xs k in
       all_four o (IsNewBay h set made.boot (before.due k) k) (λ a. slice_get tables k ≡ Some (routes_of a))
-      (λ a. IsUnoffered (any_tells h.log (log_lane a))) (λ a. IsUnoffered (any_tells h.hook (hook_lane a)))
-      (NewAt set made.boot before.due tables k)
+      (λ a. IsUnoffered (log_opens opens) (any_tells h.log (log_lane a)))
+      (λ a. IsUnoffered (hook_opens opens options.hook_url) (any_tells h.hook (hook_lane a)))
+      (NewAt set (log_opens opens) (hook_opens opens options.hook_url) made.boot before.due tables k)
       (λ a p q r s. record { new = p; table = q; log = r; hook = s })
       (made.each k)
       (subst (λ l. IfSome o (λ a. slice_get l k ≡ Some (routes_of a))) made.routes (at_image routes_of xs k))
-      (of_image log_lane (λ l. IsUnoffered (any_tells h.log l)) xs k
-      (lanes_fresh h.log set.log options.bays options.buffer options.limits (map log_lane xs) m.log made.log k))
-      (of_image hook_lane (λ l. IsUnoffered (any_tells h.hook l)) xs k
-      (lanes_fresh h.hook set.hook options.bays options.buffer options.limits (map hook_lane xs) m.hook made.hook k))
+      (of_image log_lane (λ l. IsUnoffered (log_opens opens) (any_tells h.log l)) xs k
+      (lanes_fresh h.log (log_opens opens) set.log options.bays options.buffer options.limits (map log_lane xs) m.log made.log k))
+      (of_image hook_lane (λ l. IsUnoffered (hook_opens opens options.hook_url) (any_tells h.hook l)) xs k
+      (lanes_fresh h.hook (hook_opens opens options.hook_url) set.hook options.bays options.buffer options.limits (map hook_lane xs) m.hook made.hook k))
 
-  bay_served : (set : Settings) (boot : ℕ) (due : ℕ → Option (List C)) (tables : List R) (logs : List (AnyLane W T)) (hooks : List (AnyLane H T))
-      (k : ℕ) (a b : BayRole R L W H T K Y D) → NewAt set boot due tables k a → RanBay h a b
+  bay_served : (set : Settings) (log_new hook_new : SinkOpens) (boot : ℕ) (due : ℕ → Option (List C)) (tables : List R) (logs : List (AnyLane W T)) (hooks : List (AnyLane H T))
+      (k : ℕ) (a b : BayRole R L W H T K Y D) → NewAt set log_new hook_new boot due tables k a → RanBay h a b
       → slice_get logs k ≡ Some (log_lane b) → slice_get hooks k ≡ Some (hook_lane b)
-      → BayServed h set boot due tables logs hooks k (bay_end b)
-  bay_served set boot due tables logs hooks k a b at r log hook =
+      → BayServed h set log_new hook_new boot due tables logs hooks k (bay_end b)
+  bay_served set log_new hook_new boot due tables logs hooks k a b at r log hook =
       let new = at.new in
       let ran : RanDoor h set a.own.bay a.door no_ends b.stop b.own.bay b.door b.counts =
       subst (λ (z : EndCounts). RanDoor h set a.own.bay a.door z b.stop b.own.bay b.door b.counts) new.counts
@@ -304,16 +307,16 @@ module _ {R L N W H T K Y D C : Type 0} (h : BayHandles R L N W H K Y D C) where
         told = ran.told;
       }
 
-  pub run_served : (set : Settings) (options : RunOptions) (before after : PlantTells C) (tables : List R)
+  pub run_served : (set : Settings) (options : RunOptions) (opens : Openings) (before after : PlantTells C) (tables : List R)
       (m n : Roles (BayRole R L W H T K Y D) (QueueDrain W T K) (QueueDrain H T K)) (ended : Ended R L W H K Y D)
-      → AreMade h set options before after tables m → after.faults ≡ before.faults
+      → AreMade h set options opens before after tables m → after.faults ≡ before.faults
       → RanAll (RanBay h) (RanDrain h.log) (RanDrain h.hook) m n
       → ended.bays.items ≡ map bay_end n.bays.items
-      → SinkServed h.log set.log options.bays options.buffer options.limits (map log_lane n.bays.items) ended.log
-      → SinkServed h.hook set.hook options.bays options.buffer options.limits (map hook_lane n.bays.items) ended.hook
+      → SinkServed h.log (log_opens opens) set.log options.bays options.buffer options.limits (map log_lane n.bays.items) ended.log
+      → SinkServed h.hook (hook_opens opens options.hook_url) set.hook options.bays options.buffer options.limits (map hook_lane n.bays.items) ended.hook
       → ended.status ≡ status_of (stops_of ended.bays.items)
-      → RunServed h T set options before after tables ended
-  run_served set options before after tables m n ended made faults ran e log hook status =
+      → RunServed h T set options opens before after tables ended
+  run_served set options opens before after tables m n ended made faults ran e log hook status =
       let logs = map log_lane n.bays.items in
       let hooks = map hook_lane n.bays.items in
       record {
@@ -322,15 +325,15 @@ module _ {R L N W H T K Y D C : Type 0} (h : BayHandles R L N W H K Y D C) where
         faults = faults;
         logs = logs;
         hooks = hooks;
-        count = ap length e ∙ (image_count bay_end n.bays.items ∙ ran_count set options before after tables m n made ran);
+        count = ap length e ∙ (image_count bay_end n.bays.items ∙ ran_count set options opens before after tables m n made ran);
         each = λ k.
-            subst (λ l. IfSome (slice_get l k) (BayServed h set made.boot before.due tables logs hooks k)) (sym e)
-            (pairs_all (RanBay h) (NewAt set made.boot before.due tables) bay_end log_lane hook_lane
-            (λ i x. BayServed h set made.boot before.due tables logs hooks i x)
+            subst (λ l. IfSome (slice_get l k) (BayServed h set (log_opens opens) (hook_opens opens options.hook_url) made.boot before.due tables logs hooks k)) (sym e)
+            (pairs_all (RanBay h) (NewAt set (log_opens opens) (hook_opens opens options.hook_url) made.boot before.due tables) bay_end log_lane hook_lane
+            (λ i x. BayServed h set (log_opens opens) (hook_opens opens options.hook_url) made.boot before.due tables logs hooks i x)
             logs hooks
-            (λ i a b new r p q. bay_served set made.boot before.due tables logs hooks i a b new r p q)
+            (λ i a b new r p q. bay_served set (log_opens opens) (hook_opens opens options.hook_url) made.boot before.due tables logs hooks i a b new r p q)
             m.bays.items n.bays.items ran.bays refl refl
-            (new_at set options before after tables m made) k);
+            (new_at set options opens before after tables m made) k);
         log = log;
         hook = hook;
         status_is = status;

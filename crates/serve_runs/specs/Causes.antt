@@ -1,5 +1,10 @@
 -- Why nothing ran.
-use Rattle.std.specs.Prelude.{◌≡◌, ℕ}
+use Rattle.std.specs.Prelude.{◌≡◌, ℕ, List, []}
+use Rattle.audit_core.specs.declared.settings.Settings.{Settings}
+use Rattle.front_plants.specs.Plants.{PlantTells}
+use Rattle.plant_lanes.specs.declared.options.RunOptions.{RunOptions}
+use Rattle.serve_runs.specs.Made.{RunCallsPart}
+use Rattle.serve_runs.specs.declared.ended.Ended.{Ended}
 use Rattle.serve_runs.specs.declared.ended.RunStatus.{RunStatus}
 use Rattle.serve_runs.specs.declared.ended.RunStatus.TheVariants.{Done, PortFault, NoMemory, NumbersSpent}
 use Rattle.truncate_backend.specs.Told.{Rises}
@@ -10,3 +15,10 @@ NoRun before after Done = ⊥
 NoRun before after PortFault = Rises before after
 NoRun before after NoMemory = after ≡ before
 NoRun before after NumbersSpent = ⊥
+
+-- there are no bays; why; and the plant had some of the calls that a run makes, from the first one on, and no other
+pub record NothingRan {R L W H K Y D C : Type 0} (set : Settings) (options : RunOptions) (before after : PlantTells C)
+    (ended : Ended R L W H K Y D) : Type 0 where
+  pub none : ended.bays.items ≡ []
+  pub cause : NoRun before.faults after.faults ended.status
+  pub called : RunCallsPart set options before.made after.made

@@ -7,7 +7,7 @@ use Rattle.bay_laws.specs.Whole.{TellsEach, TellsAll}
 use Rattle.bay_runs.specs.Counts.{no_ends}
 use Rattle.bay_runs.specs.Runs.{DoorState, Runs, door_state, ends_of}
 use Rattle.event_offers.specs.Lanes.{lane_state}
-use Rattle.front_plants.specs.Fresh.{IsNewClock, IsNewDial, IsNewDoor}
+use Rattle.front_plants.specs.Fresh.{IsNewClock, IsNewDial, IsNewDoor, IsNewSink, Openings, SinkOpens, log_opens, hook_opens}
 use Rattle.front_plants.specs.Plants.{PlantTells}
 use Rattle.plant_lanes.specs.Served.{SinkServed}
 use Rattle.plant_lanes.specs.declared.options.RunOptions.{RunOptions}
@@ -20,18 +20,19 @@ use Rattle.session_core.specs.Bays.{BayState}
 use Rattle.session_core.specs.declared.exchange.Exchange.{Exchange}
 use Rattle.truncate_backend.specs.Lanes.{LaneTells}
 
--- a lane to which nothing was offered
-pub record IsUnoffered (tells : LaneTells) : Type 0 where
+-- a lane to which nothing was offered, and whose own sink, if it has one, is new
+pub record IsUnoffered (opens : SinkOpens) (tells : LaneTells) : Type 0 where
   pub none_accepted : IfSome tells.accepted (λ lines. lines ≡ [])
   pub none_tried : IfSome tells.tried (λ lines. lines ≡ [])
+  pub new : IfSome tells.sink (IsNewSink opens)
 
 -- a bay that served nothing yet, and its door
-pub record Opens {C : Type 0} (boot : ℕ) (due : Option (List C)) (bay : ℕ) (m : BayState) (d : DoorState C) : Type 0 where
+pub record Opens {C : Type 0} (log hook : SinkOpens) (boot : ℕ) (due : Option (List C)) (bay : ℕ) (m : BayState) (d : DoorState C) : Type 0 where
   pub boot_is : m.boot ≡ boot
   pub number : m.number ≡ 0
   pub bay_is : m.lanes.bay ≡ bay
   pub lines : (m.lanes.log.lines ≡ 0) × (m.lanes.hook.lines ≡ 0)
-  pub lanes : IsUnoffered m.lanes.log.tells × IsUnoffered m.lanes.hook.tells
+  pub lanes : IsUnoffered log m.lanes.log.tells × IsUnoffered hook m.lanes.hook.tells
   pub dial : IsNewDial m.dial.calls m.dial.faults m.dial.link_faults
   pub clock : IsNewClock m.given m.last
   pub diary : IfSome m.notes (λ notes. notes ≡ [])
@@ -46,11 +47,11 @@ pub record Sees {R L N W H K Y D C : Type 0} (h : BayHandles R L N W H K Y D C) 
 
 -- Of a bay: from its beginning, with the routes that it was given, it served the connections that were due to it, one after another, and these exchanges are all that
 -- it noted and offered. What it leaves is what it told at its end, with its lanes
-pub record BayServed {R L N W H T K Y D C : Type 0} (h : BayHandles R L N W H K Y D C) (set : Settings) (boot : ℕ) (due : ℕ → Option (List C))
+pub record BayServed {R L N W H T K Y D C : Type 0} (h : BayHandles R L N W H K Y D C) (set : Settings) (log_new hook_new : SinkOpens) (boot : ℕ) (due : ℕ → Option (List C))
     (tables : List R) (logs : List (AnyLane W T)) (hooks : List (AnyLane H T)) (bay : ℕ) (end : BayEnd R L K Y D) : Type 0 where
   pub m : BayState
   pub d : DoorState C
-  pub opens : Opens boot (due bay) bay m d
+  pub opens : Opens log_new hook_new boot (due bay) bay m d
   pub table : R
   pub table_is : slice_get tables bay ≡ Some table
   pub sees : Sees h table m
@@ -83,14 +84,14 @@ pub record BayServed {R L N W H T K Y D C : Type 0} (h : BayHandles R L N W H K 
 -- Of a run: it had these calls of its plant and no other, none of which failed; what each bay did; what became of all lines that
 -- bays offered for each sink; and its status is told by why bays stopped
 pub record RunServed {R L N W H K Y D C : Type 0} (h : BayHandles R L N W H K Y D C) (T : Type 0) (set : Settings) (options : RunOptions)
-    (before after : PlantTells C) (tables : List R) (ended : Ended R L W H K Y D) : Type 0 where
+    (opens : Openings) (before after : PlantTells C) (tables : List R) (ended : Ended R L W H K Y D) : Type 0 where
   pub boot : ℕ
   pub called : RunCalls set options boot before.made after.made
   pub faults : after.faults ≡ before.faults
   pub logs : List (AnyLane W T)
   pub hooks : List (AnyLane H T)
   pub count : length ended.bays.items ≡ options.bays
-  pub each : (bay : ℕ) → IfSome (slice_get ended.bays.items bay) (BayServed h set boot before.due tables logs hooks bay)
-  pub log : SinkServed h.log set.log options.bays options.buffer options.limits logs ended.log
-  pub hook : SinkServed h.hook set.hook options.bays options.buffer options.limits hooks ended.hook
+  pub each : (bay : ℕ) → IfSome (slice_get ended.bays.items bay) (BayServed h set (log_opens opens) (hook_opens opens options.hook_url) boot before.due tables logs hooks bay)
+  pub log : SinkServed h.log (log_opens opens) set.log options.bays options.buffer options.limits logs ended.log
+  pub hook : SinkServed h.hook (hook_opens opens options.hook_url) set.hook options.bays options.buffer options.limits hooks ended.hook
   pub status_is : ended.status ≡ status_of (stops_of ended.bays.items)

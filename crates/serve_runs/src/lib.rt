@@ -5,14 +5,16 @@
 //! due to it, and what it offers is what its diary has; each line that a queue accepted stands in one try of its sink, in its bay's
 //! order; Full comes only where a bay's allotment is spent or the queue can be full; and the status is told by why bays stopped.
 //!
-//! Nothing is promised of time, or of two bays running at once. Which calls the plant had isn't told.
+//! Nothing is promised of time, or of two bays running at once.
 #![tactic(auto)]
 
 mod ended;
+mod laws;
 mod roles;
 mod run;
 mod running;
 mod status;
 
 pub use ended::{Ended, RunStatus};
+pub use laws::no_calls_yet;
 pub use run::{nothing_ran, run_serve};

@@ -1,18 +1,18 @@
-ghost use Rattle.std.specs.Prelude.{◌≡◌, ◌≤◌, ◌∷◌, [], IfOk, length};
+ghost use Rattle.std.specs.Prelude.{◌≡◌, ◌≤◌, ◌∷◌, [], ℕ, IfOk, OnErr, length};
 ghost use Rattle.std.specs.Arc.{arc_value};
 ghost use Rattle.front_base.specs.declared.line.TheConstants.{MOST_LINE_BYTES};
 ghost use Rattle.front_plants.specs.Plants.{HasCause};
 ghost use Rattle.front_plants.specs.declared.call.PlantCall.TheVariants as calls;
 ghost use Rattle.plant_lanes.specs.Options.{AreFit};
 ghost use Rattle.serve_roles.specs.Doors.{bay_handles};
-ghost use Rattle.serve_runs.specs.Made.{AreMade};
+ghost use Rattle.serve_runs.specs.Made.{AreMade, RunCallsPart};
 ghost use Rattle.truncate_backend.specs.Told.{Joined};
 
 use apiservice_table::Routes;
 use audit_core::Settings;
 use front_plants::{Plant, PlantFail};
 use local_replies::LocalPaths;
-use plant_lanes::{RunOptions, calls_join, hook_lanes, log_lanes};
+use plant_lanes::{RunOptions, calls_in_part, calls_join, hook_lanes, log_lanes};
 use queue_drain::QueueDrain;
 use role_threads::Roles;
 use serve_bays::{SharedParts, make_bays};
@@ -50,6 +50,7 @@ fn share<P: Plant>(
     ensures settings { IfOk result (λ shared. arc_value shared.settings ≡ settings) }
     ensures plant { ((P.tells plant.new).faults ≡ (P.tells plant.old).faults) × ((P.tells plant.new).due ≡ (P.tells plant.old).due) }
     ensures called { IfOk result (λ shared. Joined (P.tells plant.old).made (calls.Boot shared.boot ∷ []) (P.tells plant.new).made) }
+    ensures stopped { OnErr result ((boot : ℕ) × Joined (P.tells plant.old).made (calls.Boot boot ∷ []) (P.tells plant.new).made) }
     ensures cause { HasCause (P.tells plant.old).faults result (P.tells plant.new).faults }
 {
     let boot = plant.boot();
@@ -80,10 +81,12 @@ pub(crate) fn make_roles<P: Plant, R: Routes + Drop>(
     requires routes { length routes.items ≡ options.now.bays }
     requires max { settings.max_event ≤ MOST_LINE_BYTES }
     ensures made { IfOk result (AreMade (bay_handles R.Routes P.L.Dial P.W.BatchSink P.H.BatchSink P.K.Clock P.Y.Diary P.D.Door
-        P.D.C.Source P.D.C.ByteSink P.D.C.Conn.own) settings options.now (P.tells plant.old) (P.tells plant.new) routes.items) }
+        P.D.C.Source P.D.C.ByteSink P.D.C.Conn.own) settings options.now P.opens (P.tells plant.old) (P.tells plant.new) routes.items) }
+    ensures stopped { OnErr result (RunCallsPart settings options.now (P.tells plant.old).made (P.tells plant.new).made) }
     ensures cause { HasCause (P.tells plant.old).faults result (P.tells plant.new).faults }
 {
     calls_join();
+    calls_in_part();
     let (log_mode, hook_mode) = (settings.log, settings.hook);
     let shared = share(alloc, plant, settings, paths)?;
     let log_side = log_lanes(rt, alloc, plant, options, log_mode)?;

@@ -1,9 +1,10 @@
-ghost use Rattle.std.specs.Prelude.{◌≡◌, ◌≤◌, ◌⊎◌, [], IfOk, length};
+ghost use Rattle.std.specs.Prelude.{◌≡◌, ◌≤◌, ◌⊎◌, [], IfOk, OnErr, length};
 ghost use Rattle.front_base.specs.declared.line.TheConstants.{MOST_LINE_BYTES};
 ghost use Rattle.front_plants.specs.Plants.{HasCause};
 ghost use Rattle.plant_lanes.specs.Options.{AreFit};
 ghost use Rattle.serve_roles.specs.Doors.{bay_handles};
-ghost use Rattle.serve_runs.specs.Causes.{NoRun};
+ghost use Rattle.serve_runs.specs.Causes.{NothingRan};
+ghost use Rattle.serve_runs.specs.Made.{RunCallsPart};
 ghost use Rattle.serve_runs.specs.Served.{RunServed};
 
 use crate::ended::{Ended, RunStatus};
@@ -15,7 +16,7 @@ use audit_core::Settings;
 use front_plants::{Plant, PlantFail};
 use front_ports::{Dial, Door};
 use local_replies::LocalPaths;
-use plant_lanes::{RunOptions, lanes_are_served};
+use plant_lanes::{RunOptions, calls_in_part, lanes_are_served};
 use role_threads::Roles;
 use serve_roles::{EndRoom, EndedBays, end_bays};
 use sink_lanes::{SinkEnd, SinkRoom, end_lanes};
@@ -56,11 +57,13 @@ where
     requires routes { length routes.items ≡ options.now.bays }
     requires max { settings.max_event ≤ MOST_LINE_BYTES }
     ensures served { IfOk result (RunServed (bay_handles R.Routes P.L.Dial P.W.BatchSink P.H.BatchSink P.K.Clock P.Y.Diary P.D.Door
-        P.D.C.Source P.D.C.ByteSink P.D.C.Conn.own) P.Rt settings options.now (P.tells plant.old) (P.tells plant.new) routes.items) }
+        P.D.C.Source P.D.C.ByteSink P.D.C.Conn.own) P.Rt settings options.now P.opens (P.tells plant.old) (P.tells plant.new) routes.items) }
+    ensures stopped { OnErr result (RunCallsPart settings options.now (P.tells plant.old).made (P.tells plant.new).made) }
     ensures cause { HasCause (P.tells plant.old).faults result (P.tells plant.new).faults }
 {
     lanes_are_served::<P::W, P::Rt, P::K>();
     lanes_are_served::<P::H, P::Rt, P::K>();
+    calls_in_part();
     let count = usize::from(options.bays);
     let room = EndRoom::new(alloc, count)?;
     let log_room = SinkRoom::new(alloc, count)?;
@@ -128,8 +131,8 @@ where
     requires routes { length routes.items ≡ options.now.bays }
     requires max { settings.max_event ≤ MOST_LINE_BYTES }
     ensures { RunServed (bay_handles R.Routes P.L.Dial P.W.BatchSink P.H.BatchSink P.K.Clock P.Y.Diary P.D.Door
-        P.D.C.Source P.D.C.ByteSink P.D.C.Conn.own) P.Rt settings options.now (P.tells plant.old) (P.tells plant.new) routes.items result
-        ⊎ ((result.bays.items ≡ []) × NoRun (P.tells plant.old).faults (P.tells plant.new).faults result.status) }
+        P.D.C.Source P.D.C.ByteSink P.D.C.Conn.own) P.Rt settings options.now P.opens (P.tells plant.old) (P.tells plant.new) routes.items result
+        ⊎ NothingRan settings options.now (P.tells plant.old) (P.tells plant.new) result }
 {
     match serve(rt, alloc, settings, paths, options, routes, plant) {
         Ok(ended) => ended,
