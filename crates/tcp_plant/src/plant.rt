@@ -1,4 +1,4 @@
-ghost use Rattle.std.specs.Prelude.{◌≡◌, IfOk};
+ghost use Rattle.std.specs.Prelude.{◌≡◌, None, Some, IfOk};
 ghost use Rattle.truncate_backend.specs.Told.{Rises};
 ghost use Rattle.front_plants.specs.declared.call.PlantFail.TheVariants.{Port};
 ghost use Rattle.tcp_plant.specs.Handles.{plant_tells};
