@@ -15,10 +15,12 @@ use Rattle.event_offers.specs.Lanes.{LaneState, LanesState}
 use Rattle.event_offers.specs.Offering.{OffersAll}
 use Rattle.event_offers.specs.Taken.{is_taken, is_tried, lane_of, lines_for}
 use Rattle.front_base.specs.Line.{Line}
+use Rattle.front_plants.specs.Fresh.{SinkOpens}
 use Rattle.front_ports.specs.Told.{Grows}
 use Rattle.plant_lanes.specs.Served.{IsDrained, IsOwn}
 use Rattle.plant_lanes.specs.declared.options.RunOptions.{RunOptions}
 use Rattle.run_laws.specs.Told.{BatchedLines, BatchesTell, TriedLines, TriesTell}
+use Rattle.run_laws.proofs.SinkLemmas.{NewSends, all_stays, own_sent}
 use Rattle.run_laws.proofs.TellLemmas.{bay_told}
 use Rattle.serve_roles.specs.Doors.{BayHandles}
 use Rattle.serve_roles.specs.declared.bay_end.BayEnd.{BayEnd}
@@ -71,12 +73,12 @@ lines_from : (keeps : Outcome → Bool) (sink : Sink) (bay k before : ℕ) (dues
 lines_from keeps sink bay k before dues notes e f =
     ap (λ x. lines_for keeps sink x before dues notes) e ∙ ap (λ x. lines_for keeps sink k x dues notes) f
 
-module _ {R L N W H T K Y D C : Type 0} (h : BayHandles R L N W H K Y D C) (set : Settings) (boot : ℕ) (due : ℕ → Option (List C))
+module _ {R L N W H T K Y D C : Type 0} (h : BayHandles R L N W H K Y D C) (set : Settings) (log_new hook_new : SinkOpens) (boot : ℕ) (due : ℕ → Option (List C))
     (tables : List R) (logs : List (AnyLane W T)) (hooks : List (AnyLane H T)) where
   -- ---- batches
 
   log_batched : (accepts : Accepts) (fills : Fills) (capacity : ℕ) (allots : List ℕ) (put : List Line) (k : ℕ) (end : BayEnd R L K Y D)
-      (b : BayServed h set boot due tables logs hooks k end) → ToldQueued h.log capacity allots k put b.log
+      (b : BayServed h set log_new hook_new boot due tables logs hooks k end) → ToldQueued h.log capacity allots k put b.log
       → BatchedLines h set Log capacity allots put k end
   log_batched accepts fills capacity allots put k end b q =
       let t = b.told in
@@ -84,7 +86,7 @@ module _ {R L N W H T K Y D C : Type 0} (h : BayHandles R L N W H K Y D C) (set 
       let own = accepts Log t.due b.m.lanes b.n.lanes notes t.offered in
       let all = grows_all b.m.lanes.log.tells.accepted b.n.lanes.log.tells.accepted _ b.opens.lanes.0.none_accepted own.grows in
       record {
-        told = bay_told h set boot due tables logs hooks k end b;
+        told = bay_told h set log_new hook_new boot due tables logs hooks k end b;
         lines = told_is b.n.lanes.log.tells.accepted put _ all (ap (λ n. n.lanes.log.tells.accepted) b.ends ∙ q.accepted_is)
             ∙ lines_from is_taken Log b.m.lanes.bay k b.m.lanes.log.lines t.due notes b.opens.bay_is b.opens.lines.0;
         full = λ some. q.full (subst (λ x. 0 < x) (ap (λ n. n.lanes.log.tells.fulls) b.ends)
@@ -92,7 +94,7 @@ module _ {R L N W H T K Y D C : Type 0} (h : BayHandles R L N W H K Y D C) (set 
       }
 
   hook_batched : (accepts : Accepts) (fills : Fills) (capacity : ℕ) (allots : List ℕ) (put : List Line) (k : ℕ) (end : BayEnd R L K Y D)
-      (b : BayServed h set boot due tables logs hooks k end) → ToldQueued h.hook capacity allots k put b.hook
+      (b : BayServed h set log_new hook_new boot due tables logs hooks k end) → ToldQueued h.hook capacity allots k put b.hook
       → BatchedLines h set Webhook capacity allots put k end
   hook_batched accepts fills capacity allots put k end b q =
       let t = b.told in
@@ -100,7 +102,7 @@ module _ {R L N W H T K Y D C : Type 0} (h : BayHandles R L N W H K Y D C) (set 
       let own = accepts Webhook t.due b.m.lanes b.n.lanes notes t.offered in
       let all = grows_all b.m.lanes.hook.tells.accepted b.n.lanes.hook.tells.accepted _ b.opens.lanes.1.none_accepted own.grows in
       record {
-        told = bay_told h set boot due tables logs hooks k end b;
+        told = bay_told h set log_new hook_new boot due tables logs hooks k end b;
         lines = told_is b.n.lanes.hook.tells.accepted put _ all (ap (λ n. n.lanes.hook.tells.accepted) b.ends ∙ q.accepted_is)
             ∙ lines_from is_taken Webhook b.m.lanes.bay k b.m.lanes.hook.lines t.due notes b.opens.bay_is b.opens.lines.1;
         full = λ some. q.full (subst (λ x. 0 < x) (ap (λ n. n.lanes.hook.tells.fulls) b.ends)
@@ -112,8 +114,8 @@ module _ {R L N W H T K Y D C : Type 0} (h : BayHandles R L N W H K Y D C) (set 
   map_some P Q (Some x) f p = f x p
 
   pub log_batches : (accepts : Accepts) (fills : Fills) (options : RunOptions) (bays : List (BayEnd R L K Y D)) (end : SinkEnd W K)
-      → ((k : ℕ) → IfSome (slice_get bays k) (BayServed h set boot due tables logs hooks k))
-      → IsDrained h.log options.bays options.buffer options.limits logs end → BatchesTell h h.log set Log options bays end
+      → ((k : ℕ) → IfSome (slice_get bays k) (BayServed h set log_new hook_new boot due tables logs hooks k))
+      → IsDrained h.log log_new options.bays options.buffer options.limits logs end → BatchesTell h h.log log_new set Log options bays end
   log_batches accepts fills options bays end served d = record {
     allots = d.allots;
     drain = d.drain;
@@ -121,17 +123,19 @@ module _ {R L N W H T K Y D C : Type 0} (h : BayHandles R L N W H K Y D C) (set 
     tries = d.tries;
     told = d.told;
     within = d.within;
-    each = λ k. map_some (BayServed h set boot due tables logs hooks k)
+    each = λ k. map_some (BayServed h set log_new hook_new boot due tables logs hooks k)
         (BatchedLines h set Log options.buffer d.allots (of_bay k (lines_of d.tries)) k) (slice_get bays k)
         (λ x b. log_batched accepts fills options.buffer d.allots (of_bay k (lines_of d.tries)) k x b
         (some_at (ToldQueued h.log options.buffer d.allots k (of_bay k (lines_of d.tries))) (slice_get logs k) b.log (d.accepted k) b.log_is))
         (served k);
     others = d.others;
+    sent = d.sent;
+    full = d.full;
   }
 
   pub hook_batches : (accepts : Accepts) (fills : Fills) (options : RunOptions) (bays : List (BayEnd R L K Y D)) (end : SinkEnd H K)
-      → ((k : ℕ) → IfSome (slice_get bays k) (BayServed h set boot due tables logs hooks k))
-      → IsDrained h.hook options.bays options.buffer options.limits hooks end → BatchesTell h h.hook set Webhook options bays end
+      → ((k : ℕ) → IfSome (slice_get bays k) (BayServed h set log_new hook_new boot due tables logs hooks k))
+      → IsDrained h.hook hook_new options.bays options.buffer options.limits hooks end → BatchesTell h h.hook hook_new set Webhook options bays end
   hook_batches accepts fills options bays end served d = record {
     allots = d.allots;
     drain = d.drain;
@@ -139,12 +143,14 @@ module _ {R L N W H T K Y D C : Type 0} (h : BayHandles R L N W H K Y D C) (set 
     tries = d.tries;
     told = d.told;
     within = d.within;
-    each = λ k. map_some (BayServed h set boot due tables logs hooks k)
+    each = λ k. map_some (BayServed h set log_new hook_new boot due tables logs hooks k)
         (BatchedLines h set Webhook options.buffer d.allots (of_bay k (lines_of d.tries)) k) (slice_get bays k)
         (λ x b. hook_batched accepts fills options.buffer d.allots (of_bay k (lines_of d.tries)) k x b
         (some_at (ToldQueued h.hook options.buffer d.allots k (of_bay k (lines_of d.tries))) (slice_get hooks k) b.hook (d.accepted k) b.hook_is))
         (served k);
     others = d.others;
+    sent = d.sent;
+    full = d.full;
   }
 
   -- ---- tries of a bay's own sink
@@ -163,9 +169,9 @@ module _ {R L N W H T K Y D C : Type 0} (h : BayHandles R L N W H K Y D C) (set 
   tries_told None ls f = tt
   tries_told (Some ts) ls f = f
 
-  log_tried : (tries : Tries) (own : List W) (k : ℕ) (end : BayEnd R L K Y D) (b : BayServed h set boot due tables logs hooks k end)
-      → logs ≡ map own_lane own → TriedLines h h.log set Log own k end
-  log_tried tries own k end b e =
+  log_tried : (sends : NewSends) (tries : Tries) (own : List W) (k : ℕ) (end : BayEnd R L K Y D) (b : BayServed h set log_new hook_new boot due tables logs hooks k end)
+      → logs ≡ map own_lane own → TriedLines h h.log log_new set Log own k end
+  log_tried sends tries own k end b e =
       let t = b.told in
       let notes = offers_in b.exchanges in
       let mine = own_at own logs k b.log e b.log_is in
@@ -173,18 +179,21 @@ module _ {R L N W H T K Y D C : Type 0} (h : BayHandles R L N W H K Y D C) (set 
       let all = grows_all b.m.lanes.log.tells.tried b.n.lanes.log.tells.tried _ b.opens.lanes.0.none_tried joined.grows in
       let at_end = ap (λ n. n.lanes.log.tells.tried) b.ends ∙ ap (λ l. (any_tells h.log l).tried) mine.2 in
       record {
-        told = bay_told h set boot due tables logs hooks k end b;
+        told = bay_told h set log_new hook_new boot due tables logs hooks k end b;
         to = mine.0;
         to_is = mine.1;
         lines = tries_told (h.log.tells mine.0).tries _
             (subst (λ ls. IfSome (option_map lines_of (h.log.tells mine.0).tries) (λ xs. xs ≡ ls))
             (lines_from is_tried Log b.m.lanes.bay k b.m.lanes.log.lines t.due notes b.opens.bay_is b.opens.lines.0)
             (subst (λ z. IfSome z (λ xs. xs ≡ lines_for is_tried Log b.m.lanes.bay b.m.lanes.log.lines t.due notes)) at_end all));
+        sent = own_sent sends log_new b.m.lanes.log.tells.sink b.n.lanes.log.tells.sink (h.log.tells mine.0) b.opens.lanes.0.new
+            (all_stays Log t.due b.m.lanes b.n.lanes notes t.offered)
+            (ap (λ n. n.lanes.log.tells.sink) b.ends ∙ ap (λ l. (any_tells h.log l).sink) mine.2);
       }
 
-  hook_tried : (tries : Tries) (own : List H) (k : ℕ) (end : BayEnd R L K Y D) (b : BayServed h set boot due tables logs hooks k end)
-      → hooks ≡ map own_lane own → TriedLines h h.hook set Webhook own k end
-  hook_tried tries own k end b e =
+  hook_tried : (sends : NewSends) (tries : Tries) (own : List H) (k : ℕ) (end : BayEnd R L K Y D) (b : BayServed h set log_new hook_new boot due tables logs hooks k end)
+      → hooks ≡ map own_lane own → TriedLines h h.hook hook_new set Webhook own k end
+  hook_tried sends tries own k end b e =
       let t = b.told in
       let notes = offers_in b.exchanges in
       let mine = own_at own hooks k b.hook e b.hook_is in
@@ -192,25 +201,28 @@ module _ {R L N W H T K Y D C : Type 0} (h : BayHandles R L N W H K Y D C) (set 
       let all = grows_all b.m.lanes.hook.tells.tried b.n.lanes.hook.tells.tried _ b.opens.lanes.1.none_tried joined.grows in
       let at_end = ap (λ n. n.lanes.hook.tells.tried) b.ends ∙ ap (λ l. (any_tells h.hook l).tried) mine.2 in
       record {
-        told = bay_told h set boot due tables logs hooks k end b;
+        told = bay_told h set log_new hook_new boot due tables logs hooks k end b;
         to = mine.0;
         to_is = mine.1;
         lines = tries_told (h.hook.tells mine.0).tries _
             (subst (λ ls. IfSome (option_map lines_of (h.hook.tells mine.0).tries) (λ xs. xs ≡ ls))
             (lines_from is_tried Webhook b.m.lanes.bay k b.m.lanes.hook.lines t.due notes b.opens.bay_is b.opens.lines.1)
             (subst (λ z. IfSome z (λ xs. xs ≡ lines_for is_tried Webhook b.m.lanes.bay b.m.lanes.hook.lines t.due notes)) at_end all));
+        sent = own_sent sends hook_new b.m.lanes.hook.tells.sink b.n.lanes.hook.tells.sink (h.hook.tells mine.0) b.opens.lanes.1.new
+            (all_stays Webhook t.due b.m.lanes b.n.lanes notes t.offered)
+            (ap (λ n. n.lanes.hook.tells.sink) b.ends ∙ ap (λ l. (any_tells h.hook l).sink) mine.2);
       }
 
-  pub log_tries : (tries : Tries) (count : ℕ) (bays : List (BayEnd R L K Y D)) (end : SinkEnd W K)
-      → ((k : ℕ) → IfSome (slice_get bays k) (BayServed h set boot due tables logs hooks k))
-      → IsOwn count logs end → TriesTell h h.log set Log bays end
-  log_tries tries count bays end served o =
-      λ k. map_some (BayServed h set boot due tables logs hooks k) (TriedLines h h.log set Log end.own.items k) (slice_get bays k)
-      (λ x b. log_tried tries end.own.items k x b o.lanes_are) (served k)
+  pub log_tries : (sends : NewSends) (tries : Tries) (count : ℕ) (bays : List (BayEnd R L K Y D)) (end : SinkEnd W K)
+      → ((k : ℕ) → IfSome (slice_get bays k) (BayServed h set log_new hook_new boot due tables logs hooks k))
+      → IsOwn count logs end → TriesTell h h.log log_new set Log bays end
+  log_tries sends tries count bays end served o =
+      λ k. map_some (BayServed h set log_new hook_new boot due tables logs hooks k) (TriedLines h h.log log_new set Log end.own.items k) (slice_get bays k)
+      (λ x b. log_tried sends tries end.own.items k x b o.lanes_are) (served k)
 
-  pub hook_tries : (tries : Tries) (count : ℕ) (bays : List (BayEnd R L K Y D)) (end : SinkEnd H K)
-      → ((k : ℕ) → IfSome (slice_get bays k) (BayServed h set boot due tables logs hooks k))
-      → IsOwn count hooks end → TriesTell h h.hook set Webhook bays end
-  hook_tries tries count bays end served o =
-      λ k. map_some (BayServed h set boot due tables logs hooks k) (TriedLines h h.hook set Webhook end.own.items k) (slice_get bays k)
-      (λ x b. hook_tried tries end.own.items k x b o.lanes_are) (served k)
+  pub hook_tries : (sends : NewSends) (tries : Tries) (count : ℕ) (bays : List (BayEnd R L K Y D)) (end : SinkEnd H K)
+      → ((k : ℕ) → IfSome (slice_get bays k) (BayServed h set log_new hook_new boot due tables logs hooks k))
+      → IsOwn count hooks end → TriesTell h h.hook hook_new set Webhook bays end
+  hook_tries sends tries count bays end served o =
+      λ k. map_some (BayServed h set log_new hook_new boot due tables logs hooks k) (TriedLines h h.hook hook_new set Webhook end.own.items k) (slice_get bays k)
+      (λ x b. hook_tried sends tries end.own.items k x b o.lanes_are) (served k)

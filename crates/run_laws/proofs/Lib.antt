@@ -1,2 +1,3 @@
 mod LaneLemmas
 mod TellLemmas
+pub mod SinkLemmas

@@ -1,5 +1,5 @@
 -- What a whole run tells of its audit lines (Kubernetes, "Auditing": audit backends).
-use Rattle.std.specs.Prelude.{◌≡◌, ◌<◌, ◌≤◌, ◌+◌, ◌⊎◌, ℕ, List, [], length, sum, get_or, slice_get, Option, Some, IfSome, All}
+use Rattle.std.specs.Prelude.{◌≡◌, ◌<◌, ◌≤◌, ◌+◌, ◌-◌, ◌⊎◌, ℕ, List, [], length, sum, get_or, slice_get, Option, Some, IfSome, All}
 use Rattle.audit_core.specs.Offers.{Due}
 use Rattle.audit_core.specs.declared.settings.Settings.{Settings}
 use Rattle.audit_core.specs.declared.sinks.Sink.{Sink}
@@ -7,6 +7,8 @@ use Rattle.batch_backend.specs.Batches.{WithinLimits}
 use Rattle.connection_laws.specs.Whole.{due_in, offers_in, count_of, is_full}
 use Rattle.event_offers.specs.Taken.{is_taken, is_tried, lines_for}
 use Rattle.front_base.specs.Line.{Line}
+use Rattle.batch_backend.specs.Closes.{FullButLast}
+use Rattle.front_plants.specs.Fresh.{SinkOpens, SentAll}
 use Rattle.plant_lanes.specs.declared.options.RunOptions.{RunOptions}
 use Rattle.queue_drain.specs.declared.drain_end.DrainEnd.{DrainEnd}
 use Rattle.serve_roles.specs.Doors.{BayHandles}
@@ -38,8 +40,9 @@ pub record BatchedLines {R L N W H K Y D C : Type 0} (h : BayHandles R L N W H K
       → (length put ≡ get_or allots bay 0) ⊎ (capacity + get_or allots bay 0 ≤ length put + sum allots)
 
 -- Its one drainer made these tries, each within the limits. Their lines, joined, have of each bay what was accepted of it, once and in
--- order, and no line of anybody else
-pub record BatchesTell {R L N W H K Y D C S : Type 0} (h : BayHandles R L N W H K Y D C) (s : sinks.Ghosts S) (set : Settings) (sink : Sink)
+-- order, and no line of anybody else. What the sink's port was given are the bytes that the tries sent. Where less time than a line may
+-- wait lies between the first and the last moment of the drainer, each try but the last one ended for its number or its bytes
+pub record BatchesTell {R L N W H K Y D C S : Type 0} (h : BayHandles R L N W H K Y D C) (s : sinks.Ghosts S) (opens : SinkOpens) (set : Settings) (sink : Sink)
     (options : RunOptions) (bays : List (BayEnd R L K Y D)) (end : SinkEnd S K) : Type 0 where
   pub allots : List ℕ
   pub drain : DrainEnd S K
@@ -50,17 +53,21 @@ pub record BatchesTell {R L N W H K Y D C S : Type 0} (h : BayHandles R L N W H 
   pub each : (bay : ℕ) → IfSome (slice_get bays bay)
       (BatchedLines h set sink options.buffer allots (of_bay bay (lines_of tries)) bay)
   pub others : (bay : ℕ) → options.bays ≤ bay → of_bay bay (lines_of tries) ≡ []
+  pub sent : SentAll opens (s.tells drain.sink)
+  pub full : drain.ended - drain.began < options.limits.wait → FullButLast options.limits tries
 
 -- ---- a sink that is written to at once
 
--- The tries of the bay's own sink have one line each of its offers that were taken or failed, in order
-pub record TriedLines {R L N W H K Y D C S : Type 0} (h : BayHandles R L N W H K Y D C) (s : sinks.Ghosts S) (set : Settings) (sink : Sink)
+-- The tries of the bay's own sink have one line each of its offers that were taken or failed, in order; and what its port was given are
+-- the bytes that these tries sent
+pub record TriedLines {R L N W H K Y D C S : Type 0} (h : BayHandles R L N W H K Y D C) (s : sinks.Ghosts S) (opens : SinkOpens) (set : Settings) (sink : Sink)
     (own : List S) (bay : ℕ) (end : BayEnd R L K Y D) : Type 0 where
   pub told : BayTold h set end
   pub to : S
   pub to_is : slice_get own bay ≡ Some to
   pub lines : IfSome (s.tells to).tries (λ tries. lines_of tries ≡ lines_for is_tried sink bay 0 told.due (offers_in told.exchanges))
+  pub sent : SentAll opens (s.tells to)
 
-abbrev pub TriesTell : {R L N W H K Y D C S : Type 0} → BayHandles R L N W H K Y D C → sinks.Ghosts S → Settings → Sink
+abbrev pub TriesTell : {R L N W H K Y D C S : Type 0} → BayHandles R L N W H K Y D C → sinks.Ghosts S → SinkOpens → Settings → Sink
     → List (BayEnd R L K Y D) → SinkEnd S K → Type 0
-TriesTell h s set sink bays end = (bay : ℕ) → IfSome (slice_get bays bay) (TriedLines h s set sink end.own.items bay)
+TriesTell h s opens set sink bays end = (bay : ℕ) → IfSome (slice_get bays bay) (TriedLines h s opens set sink end.own.items bay)
