@@ -7,6 +7,7 @@ use Rattle.audit_core.specs.declared.settings.Settings.{Settings}
 use Rattle.audit_core.specs.declared.sinks.Sink.TheVariants.{Log, Webhook}
 use Rattle.connection_laws.specs.Whole.{offers_in}
 use Rattle.front_base.specs.Line.{Line}
+use Rattle.front_plants.specs.Fresh.{SinkOpens}
 use Rattle.plant_lanes.specs.Served.{IsDrained, IsOwn}
 use Rattle.plant_lanes.specs.declared.options.RunOptions.{RunOptions}
 use Rattle.queue_drain.specs.declared.drain_end.DrainEnd.{DrainEnd}
@@ -37,15 +38,15 @@ own_at : {S T : Type 0} (own : List S) (lanes : List (AnyLane S T)) (k : ℕ) (l
     → (to : S) × (slice_get own k ≡ Some to) × (l ≡ own_lane to)
 own_at own lanes k l e f = own_in own k l (sym (ap (λ z. slice_get z k) e) ∙ f)
 
-module _ {R L N W H T K Y D C : Type 0} (h : BayHandles R L N W H K Y D C) (set : Settings) (boot : ℕ) (due : ℕ → Option (List C))
+module _ {R L N W H T K Y D C : Type 0} (h : BayHandles R L N W H K Y D C) (set : Settings) (log_new hook_new : SinkOpens) (boot : ℕ) (due : ℕ → Option (List C))
     (tables : List R) (logs : List (AnyLane W T)) (hooks : List (AnyLane H T)) where
   abbrev Served : ℕ → BayEnd R L K Y D → Type 0
-  Served k end = BayServed h set boot due tables logs hooks k end
+  Served k end = BayServed h set log_new hook_new boot due tables logs hooks k end
 
   -- ---- batches
 
   log_keeps : (accepts : Accepts) (fills : Fills) (capacity : ℕ) (allots : List ℕ) (put : List Line) (k : ℕ) (end : BayEnd R L K Y D)
-      (b : BayServed h set boot due tables logs hooks k end) → ToldQueued h.log capacity allots k put b.log
+      (b : BayServed h set log_new hook_new boot due tables logs hooks k end) → ToldQueued h.log capacity allots k put b.log
       → any_queued b.log ≡ true → KeepsBatched h set Log capacity allots put k end
   log_keeps accepts fills capacity allots put k end b q queue =
       let t = b.told in
@@ -54,7 +55,7 @@ module _ {R L N W H T K Y D C : Type 0} (h : BayHandles R L N W H K Y D C) (set 
       let none = b.opens.lanes.0.none_accepted in
       let is = ap (λ n. n.lanes.log.tells.accepted) b.ends ∙ q.accepted_is in
       record {
-        told = bay_told h set boot due tables logs hooks k end b;
+        told = bay_told h set log_new hook_new boot due tables logs hooks k end b;
         offered = sym (ap (λ n. n.lanes.log.lines) b.ends)
             ∙ lane_offered Log t.due b.m.lanes b.n.lanes notes k t.offered b.opens.bay_is b.opens.lines.0;
         account = account Log t.due b.m.lanes b.n.lanes notes k t.offered b.opens.bay_is b.opens.lines.0 accepts fills put none is queued;
@@ -64,7 +65,7 @@ module _ {R L N W H T K Y D C : Type 0} (h : BayHandles R L N W H K Y D C) (set 
       }
 
   hook_keeps : (accepts : Accepts) (fills : Fills) (capacity : ℕ) (allots : List ℕ) (put : List Line) (k : ℕ) (end : BayEnd R L K Y D)
-      (b : BayServed h set boot due tables logs hooks k end) → ToldQueued h.hook capacity allots k put b.hook
+      (b : BayServed h set log_new hook_new boot due tables logs hooks k end) → ToldQueued h.hook capacity allots k put b.hook
       → any_queued b.hook ≡ true → KeepsBatched h set Webhook capacity allots put k end
   hook_keeps accepts fills capacity allots put k end b q queue =
       let t = b.told in
@@ -73,7 +74,7 @@ module _ {R L N W H T K Y D C : Type 0} (h : BayHandles R L N W H K Y D C) (set 
       let none = b.opens.lanes.1.none_accepted in
       let is = ap (λ n. n.lanes.hook.tells.accepted) b.ends ∙ q.accepted_is in
       record {
-        told = bay_told h set boot due tables logs hooks k end b;
+        told = bay_told h set log_new hook_new boot due tables logs hooks k end b;
         offered = sym (ap (λ n. n.lanes.hook.lines) b.ends)
             ∙ lane_offered Webhook t.due b.m.lanes b.n.lanes notes k t.offered b.opens.bay_is b.opens.lines.1;
         account = account Webhook t.due b.m.lanes b.n.lanes notes k t.offered b.opens.bay_is b.opens.lines.1 accepts fills put none is queued;
@@ -84,7 +85,7 @@ module _ {R L N W H T K Y D C : Type 0} (h : BayHandles R L N W H K Y D C) (set 
 
   pub log_batches : (accepts : Accepts) (fills : Fills) (options : RunOptions) (bays : List (BayEnd R L K Y D)) (end : SinkEnd W K)
       → length bays ≡ options.bays → ((k : ℕ) → IfSome (slice_get bays k) (Served k))
-      → IsDrained h.log options.bays options.buffer options.limits logs end → BatchesKeepAll h h.log set Log options bays end
+      → IsDrained h.log log_new options.bays options.buffer options.limits logs end → BatchesKeepAll h h.log set Log options bays end
   log_batches accepts fills options bays end count served d =
       batches_keep h h.log set Log options bays end logs count d (λ k. map_some (Served k)
       (KeepsBatched h set Log options.buffer d.allots (of_bay k (lines_of d.tries)) k) (slice_get bays k)
@@ -95,7 +96,7 @@ module _ {R L N W H T K Y D C : Type 0} (h : BayHandles R L N W H K Y D C) (set 
 
   pub hook_batches : (accepts : Accepts) (fills : Fills) (options : RunOptions) (bays : List (BayEnd R L K Y D)) (end : SinkEnd H K)
       → length bays ≡ options.bays → ((k : ℕ) → IfSome (slice_get bays k) (Served k))
-      → IsDrained h.hook options.bays options.buffer options.limits hooks end → BatchesKeepAll h h.hook set Webhook options bays end
+      → IsDrained h.hook hook_new options.bays options.buffer options.limits hooks end → BatchesKeepAll h h.hook set Webhook options bays end
   hook_batches accepts fills options bays end count served d =
       batches_keep h h.hook set Webhook options bays end hooks count d (λ k. map_some (Served k)
       (KeepsBatched h set Webhook options.buffer d.allots (of_bay k (lines_of d.tries)) k) (slice_get bays k)
@@ -107,14 +108,14 @@ module _ {R L N W H T K Y D C : Type 0} (h : BayHandles R L N W H K Y D C) (set 
   -- ---- a bay's own sink
 
   log_own : (accepts : Accepts) (tries : Tries) (fills : Fills) (fails : Fails) (own : List W) (k : ℕ) (end : BayEnd R L K Y D)
-      (b : BayServed h set boot due tables logs hooks k end) → logs ≡ map own_lane own → KeepsOwn h h.log set Log own k end
+      (b : BayServed h set log_new hook_new boot due tables logs hooks k end) → logs ≡ map own_lane own → KeepsOwn h h.log set Log own k end
   log_own accepts tries fills fails own k end b e =
       let t = b.told in
       let notes = offers_in b.exchanges in
       let mine = own_at own logs k b.log e b.log_is in
       let tells = ap (λ n. n.lanes.log.tells) b.ends ∙ ap (any_tells h.log) mine.2 in
       record {
-        told = bay_told h set boot due tables logs hooks k end b;
+        told = bay_told h set log_new hook_new boot due tables logs hooks k end b;
         to = mine.0;
         to_is = mine.1;
         offered = sym (ap (λ n. n.lanes.log.lines) b.ends)
@@ -126,14 +127,14 @@ module _ {R L N W H T K Y D C : Type 0} (h : BayHandles R L N W H K Y D C) (set 
       }
 
   hook_own : (accepts : Accepts) (tries : Tries) (fills : Fills) (fails : Fails) (own : List H) (k : ℕ) (end : BayEnd R L K Y D)
-      (b : BayServed h set boot due tables logs hooks k end) → hooks ≡ map own_lane own → KeepsOwn h h.hook set Webhook own k end
+      (b : BayServed h set log_new hook_new boot due tables logs hooks k end) → hooks ≡ map own_lane own → KeepsOwn h h.hook set Webhook own k end
   hook_own accepts tries fills fails own k end b e =
       let t = b.told in
       let notes = offers_in b.exchanges in
       let mine = own_at own hooks k b.hook e b.hook_is in
       let tells = ap (λ n. n.lanes.hook.tells) b.ends ∙ ap (any_tells h.hook) mine.2 in
       record {
-        told = bay_told h set boot due tables logs hooks k end b;
+        told = bay_told h set log_new hook_new boot due tables logs hooks k end b;
         to = mine.0;
         to_is = mine.1;
         offered = sym (ap (λ n. n.lanes.hook.lines) b.ends)

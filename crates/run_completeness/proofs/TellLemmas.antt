@@ -11,6 +11,7 @@ use Rattle.http_edge.specs.declared.request.End.TheVariants as end
 use Rattle.run_laws.specs.Told.{BayTold}
 use Rattle.serve_roles.specs.Doors.{BayHandles}
 use Rattle.serve_roles.specs.declared.bay_end.BayEnd.{BayEnd}
+use Rattle.front_plants.specs.Fresh.{SinkOpens}
 use Rattle.serve_runs.specs.Served.{BayServed}
 use Rattle.session_core.specs.declared.conn_end.ConnEnd.{ConnEnd}
 use Rattle.session_core.specs.declared.conn_end.ConnEnd.TheVariants as conn_end
@@ -46,9 +47,9 @@ pub counted_all : (n e m x : ℕ) → n ≡ e → n ≡ m + x → m ≡ 0 → e 
 counted_all n e m x p q r = omega (arith, p, q, r)
 
 module _ {R L N W H T K Y D C : Type 0} (h : BayHandles R L N W H K Y D C) where
-  abbrev pub bay_told : (set : Settings) (boot : ℕ) (due : ℕ → Option (List C)) (tables : List R) (logs : List (AnyLane W T)) (hooks : List (AnyLane H T))
-      (k : ℕ) (end : BayEnd R L K Y D) (b : BayServed h set boot due tables logs hooks k end) → BayTold h set end
-  bay_told set boot due tables logs hooks k end b = record {
+  abbrev pub bay_told : (set : Settings) (log_new hook_new : SinkOpens) (boot : ℕ) (due : ℕ → Option (List C)) (tables : List R) (logs : List (AnyLane W T)) (hooks : List (AnyLane H T))
+      (k : ℕ) (end : BayEnd R L K Y D) (b : BayServed h set log_new hook_new boot due tables logs hooks k end) → BayTold h set end
+  bay_told set log_new hook_new boot due tables logs hooks k end b = record {
     exchanges = b.exchanges;
     noted = subst (λ z. IfSome z (λ notes. notes ≡ b.exchanges)) (ap (λ n. n.notes) b.ends)
         (adds_all b.m.notes b.n.notes b.exchanges b.opens.diary b.told.noted);

@@ -35,14 +35,14 @@ pub fn nothing_is_lost_in_batches<P: Plant, R: Routes>()
     ensures log { (set : Settings) (options : RunOptions) (before after : PlantTells P.D.C) (tables : List R)
         (ended : Ended R P.L P.W P.H P.K P.Y P.D)
         → RunServed (bay_handles R.Routes P.L.Dial P.W.BatchSink P.H.BatchSink P.K.Clock P.Y.Diary P.D.Door
-        P.D.C.Source P.D.C.ByteSink P.D.C.Conn.own) P.Rt set options before after tables ended
+        P.D.C.Source P.D.C.ByteSink P.D.C.Conn.own) P.Rt set options P.opens before after tables ended
         → set.log ≡ Batch
         → BatchesKeepAll (bay_handles R.Routes P.L.Dial P.W.BatchSink P.H.BatchSink P.K.Clock P.Y.Diary P.D.Door
         P.D.C.Source P.D.C.ByteSink P.D.C.Conn.own) P.W.BatchSink set Log options ended.bays.items ended.log }
     ensures hook { (set : Settings) (options : RunOptions) (before after : PlantTells P.D.C) (tables : List R)
         (ended : Ended R P.L P.W P.H P.K P.Y P.D)
         → RunServed (bay_handles R.Routes P.L.Dial P.W.BatchSink P.H.BatchSink P.K.Clock P.Y.Diary P.D.Door
-        P.D.C.Source P.D.C.ByteSink P.D.C.Conn.own) P.Rt set options before after tables ended
+        P.D.C.Source P.D.C.ByteSink P.D.C.Conn.own) P.Rt set options P.opens before after tables ended
         → set.hook ≡ Batch
         → BatchesKeepAll (bay_handles R.Routes P.L.Dial P.W.BatchSink P.H.BatchSink P.K.Clock P.Y.Diary P.D.Door
         P.D.C.Source P.D.C.ByteSink P.D.C.Conn.own) P.H.BatchSink set Webhook options ended.bays.items ended.hook }
@@ -56,14 +56,14 @@ pub fn nothing_is_lost_at_once<P: Plant, R: Routes>()
     ensures log { (set : Settings) (options : RunOptions) (before after : PlantTells P.D.C) (tables : List R)
         (ended : Ended R P.L P.W P.H P.K P.Y P.D)
         → RunServed (bay_handles R.Routes P.L.Dial P.W.BatchSink P.H.BatchSink P.K.Clock P.Y.Diary P.D.Door
-        P.D.C.Source P.D.C.ByteSink P.D.C.Conn.own) P.Rt set options before after tables ended
+        P.D.C.Source P.D.C.ByteSink P.D.C.Conn.own) P.Rt set options P.opens before after tables ended
         → (set.log ≡ Blocking) ⊎ (set.log ≡ Strict)
         → TriesKeepAll (bay_handles R.Routes P.L.Dial P.W.BatchSink P.H.BatchSink P.K.Clock P.Y.Diary P.D.Door
         P.D.C.Source P.D.C.ByteSink P.D.C.Conn.own) P.W.BatchSink set Log ended.bays.items ended.log }
     ensures hook { (set : Settings) (options : RunOptions) (before after : PlantTells P.D.C) (tables : List R)
         (ended : Ended R P.L P.W P.H P.K P.Y P.D)
         → RunServed (bay_handles R.Routes P.L.Dial P.W.BatchSink P.H.BatchSink P.K.Clock P.Y.Diary P.D.Door
-        P.D.C.Source P.D.C.ByteSink P.D.C.Conn.own) P.Rt set options before after tables ended
+        P.D.C.Source P.D.C.ByteSink P.D.C.Conn.own) P.Rt set options P.opens before after tables ended
         → (set.hook ≡ Blocking) ⊎ (set.hook ≡ Strict)
         → TriesKeepAll (bay_handles R.Routes P.L.Dial P.W.BatchSink P.H.BatchSink P.K.Clock P.Y.Diary P.D.Door
         P.D.C.Source P.D.C.ByteSink P.D.C.Conn.own) P.H.BatchSink set Webhook ended.bays.items ended.hook }
@@ -78,7 +78,7 @@ pub fn a_run_without_faults_is_done<P: Plant, R: Routes>()
     ensures { (set : Settings) (options : RunOptions) (before after : PlantTells P.D.C) (tables : List R)
         (ended : Ended R P.L P.W P.H P.K P.Y P.D)
         → RunServed (bay_handles R.Routes P.L.Dial P.W.BatchSink P.H.BatchSink P.K.Clock P.Y.Diary P.D.Door
-        P.D.C.Source P.D.C.ByteSink P.D.C.Conn.own) P.Rt set options before after tables ended
+        P.D.C.Source P.D.C.ByteSink P.D.C.Conn.own) P.Rt set options P.opens before after tables ended
         → (ended.status ≡ Done) ↔ AllClosed ended.bays.items }
 {}
 

@@ -1,4 +1,5 @@
 use Rattle.std.proofs.Common.{subst}
+use Rattle.front_plants.specs.Fresh.{log_opens, hook_opens}
 use Rattle.plant_lanes.specs.Served.{SinkServed}
 use Rattle.run_completeness.proofs.BayLemmas.{log_batches, hook_batches}
 use Rattle.run_completeness.proofs.laws.nothing_is_lost_in_batches.Goals as goal
@@ -8,14 +9,14 @@ pub returns-clause-log : goal.returns-clause-log
 returns-clause-log g c set options before after tables ended served mode =
     let h = bay_handles g.R.Routes g.P.L.Dial g.P.W.BatchSink g.P.H.BatchSink g.P.K.Clock g.P.Y.Diary g.P.D.Door
     g.P.D.C.Source g.P.D.C.ByteSink g.P.D.C.Conn in
-    log_batches h set served.boot before.due tables served.logs served.hooks c.each_lane_gets_its_lines.ensures.accepted
+    log_batches h set (log_opens g.P.Plant.opens) (hook_opens g.P.Plant.opens options.hook_url) served.boot before.due tables served.logs served.hooks c.each_lane_gets_its_lines.ensures.accepted
     c.refusals_are_counted.ensures.full options ended.bays.items ended.log served.count served.each
-    (subst (λ m. SinkServed g.P.W.BatchSink m options.bays options.buffer options.limits served.logs ended.log) mode served.log)
+    (subst (λ m. SinkServed g.P.W.BatchSink (log_opens g.P.Plant.opens) m options.bays options.buffer options.limits served.logs ended.log) mode served.log)
 
 pub returns-clause-hook : goal.returns-clause-hook
 returns-clause-hook g c set options before after tables ended served mode =
     let h = bay_handles g.R.Routes g.P.L.Dial g.P.W.BatchSink g.P.H.BatchSink g.P.K.Clock g.P.Y.Diary g.P.D.Door
     g.P.D.C.Source g.P.D.C.ByteSink g.P.D.C.Conn in
-    hook_batches h set served.boot before.due tables served.logs served.hooks c.each_lane_gets_its_lines.ensures.accepted
+    hook_batches h set (log_opens g.P.Plant.opens) (hook_opens g.P.Plant.opens options.hook_url) served.boot before.due tables served.logs served.hooks c.each_lane_gets_its_lines.ensures.accepted
     c.refusals_are_counted.ensures.full options ended.bays.items ended.hook served.count served.each
-    (subst (λ m. SinkServed g.P.H.BatchSink m options.bays options.buffer options.limits served.hooks ended.hook) mode served.hook)
+    (subst (λ m. SinkServed g.P.H.BatchSink (hook_opens g.P.Plant.opens options.hook_url) m options.bays options.buffer options.limits served.hooks ended.hook) mode served.hook)
