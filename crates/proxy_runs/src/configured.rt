@@ -4,7 +4,7 @@ ghost use Rattle.front_base.specs.declared.line.TheConstants.{MOST_LINE_BYTES};
 ghost use Rattle.plant_lanes.specs.Options.{AreFit};
 ghost use Rattle.proxy_runs.specs.Setup as spec;
 ghost use Rattle.serve_roles.specs.Doors.{bay_handles};
-ghost use Rattle.serve_runs.specs.Causes.{NoRun};
+ghost use Rattle.serve_runs.specs.Causes.{NothingRan};
 ghost use Rattle.serve_runs.specs.Served.{RunServed};
 
 use crate::setup::options_of;
@@ -14,7 +14,7 @@ use front_base::{Address, MOST_LINE_BYTES};
 use front_plants::Plant;
 use front_ports::{Dial, Door};
 use local_replies::LocalPaths;
-use serve_runs::{Ended, RunStatus, nothing_ran, run_serve};
+use serve_runs::{Ended, RunStatus, no_calls_yet, nothing_ran, run_serve};
 use serve_words::ServeWords;
 use std::alloc::Global;
 
@@ -58,9 +58,10 @@ where
     requires max { settings.max_event ≤ MOST_LINE_BYTES }
     ensures { RunServed (bay_handles R.Routes P.L.Dial P.W.BatchSink P.H.BatchSink P.K.Clock P.Y.Diary P.D.Door
         P.D.C.Source P.D.C.ByteSink P.D.C.Conn.own) P.Rt settings
-        (spec.options_of words.now listen) (P.tells plant.old) (P.tells plant.new) routes.items result
-        ⊎ ((result.bays.items ≡ []) × NoRun (P.tells plant.old).faults (P.tells plant.new).faults result.status) }
+        (spec.options_of words.now listen) P.opens (P.tells plant.old) (P.tells plant.new) routes.items result
+        ⊎ NothingRan settings (spec.options_of words.now listen) (P.tells plant.old) (P.tells plant.new) result }
 {
+    no_calls_yet();
     let Ok(paths) = LocalPaths::new(alloc) else {
         return nothing_ran(alloc, RunStatus::NoMemory);
     };

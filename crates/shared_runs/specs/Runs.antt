@@ -6,6 +6,7 @@ use Rattle.apiservice_table.specs.declared.routes.Routes as routes
 use Rattle.audit_core.specs.declared.settings.Settings.{Settings}
 use Rattle.front_plants.specs.Plants.{PlantTells}
 use Rattle.logbook.specs.Pages.{Book}
+use Rattle.front_plants.specs.Fresh.{Openings}
 use Rattle.plant_lanes.specs.declared.options.RunOptions.{RunOptions}
 use Rattle.route_history.specs.History.{History}
 use Rattle.serve_roles.specs.Doors.{BayHandles}
@@ -27,11 +28,11 @@ shared_routes = record {
 -- they are routes of that history still, and what each bay saw is the beginning of one list of changes. What is left has no name of
 -- that history
 pub record RunShared {L N W H K Y D C : Type 0} (h : BayHandles Shared L N W H K Y D C) (T : Type 0) (set : Settings) (options : RunOptions)
-    (home : Book) (opening : List Row) (before after : PlantTells C) (left : Ended History L W H K Y D) : Type 0 where
+    (opens : Openings) (home : Book) (opening : List Row) (before after : PlantTells C) (left : Ended History L W H K Y D) : Type 0 where
   pub tables : List Shared
   pub fresh : All (IsNew home opening) tables
   pub ended : Ended Shared L W H K Y D
-  pub run : RunServed h T set options before after tables ended
+  pub run : RunServed h T set options opens before after tables ended
   pub history : List Change
   pub one : All (SawOne home opening history) ended.bays.items
   pub bays_are : left.bays.items ≡ map unnamed_end ended.bays.items

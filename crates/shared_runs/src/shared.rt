@@ -3,7 +3,7 @@ ghost use Rattle.front_base.specs.declared.line.TheConstants.{MOST_LINE_BYTES};
 ghost use Rattle.plant_lanes.specs.Options.{AreFit};
 ghost use Rattle.proxy_runs.specs.Setup.{options_of};
 ghost use Rattle.serve_roles.specs.Doors.{bay_handles};
-ghost use Rattle.serve_runs.specs.Causes.{NoRun};
+ghost use Rattle.serve_runs.specs.Causes.{NothingRan};
 ghost use Rattle.shared_runs.specs.Runs.{RunShared, shared_routes};
 
 use audit_core::Settings;
@@ -14,7 +14,7 @@ use history_ends::{all_saw_one, unnamed_ends};
 use proxy_runs::run_configured;
 use route_history::{NewRoutes, RouteName, SeenHistory};
 use route_share::share_routes;
-use serve_runs::{Ended, RunStatus, nothing_ran};
+use serve_runs::{Ended, RunStatus, no_calls_yet, nothing_ran};
 use serve_words::ServeWords;
 use std::alloc::Global;
 
@@ -48,9 +48,10 @@ where
     requires max { settings.max_event ≤ MOST_LINE_BYTES }
     ensures { RunShared (bay_handles shared_routes P.L.Dial P.W.BatchSink P.H.BatchSink P.K.Clock P.Y.Diary P.D.Door
         P.D.C.Source P.D.C.ByteSink P.D.C.Conn.own) P.Rt settings
-        (options_of words.now listen) N.home N.opening (P.tells plant.old) (P.tells plant.new) result
-        ⊎ ((result.bays.items ≡ []) × NoRun (P.tells plant.old).faults (P.tells plant.new).faults result.status) }
+        (options_of words.now listen) P.opens N.home N.opening (P.tells plant.old) (P.tells plant.new) result
+        ⊎ NothingRan settings (options_of words.now listen) (P.tells plant.old) (P.tells plant.new) result }
 {
+    no_calls_yet();
     let Ok(room) = Vec::with_capacity(alloc, usize::from(words.bays)) else {
         return nothing_ran(alloc, RunStatus::NoMemory);
     };

@@ -2,7 +2,7 @@ use Rattle.std.proofs.Common.{◌≡◌, ◌⊎◌, [], subst}
 use Rattle.plant_lanes.specs.declared.options.RunOptions.{RunOptions}
 use Rattle.proxy_runs.proofs.configured.run_configured.Goals as goal
 use Rattle.serve_roles.specs.Doors.{bay_handles}
-use Rattle.serve_runs.specs.Causes.{NoRun}
+use Rattle.serve_runs.specs.Causes.{NothingRan}
 use Rattle.serve_runs.specs.Served.{RunServed}
 
 pub returns : goal.returns
@@ -12,6 +12,6 @@ returns g c =
     let before = g.P.Plant.tells c.args.plant.now in
     let after = g.P.Plant.tells c.run_serve.new.plant in
     let ended = c.run_serve.result in
-    let Ends = λ (o : RunOptions). RunServed h g.row.P-Rt.Denot c.args.settings o before after c.args.routes.items ended
-    ⊎ ((ended.bays.items ≡ []) × NoRun before.faults after.faults ended.status) in
+    let Ends = λ (o : RunOptions). RunServed h g.row.P-Rt.Denot c.args.settings o g.P.Plant.opens before after c.args.routes.items ended
+    ⊎ NothingRan c.args.settings o before after ended in
     subst Ends c.in-Ok-options_of.ensures c.run_serve.ensures

@@ -11,7 +11,7 @@ returns g c =
     let h = bay_handles shared_routes g.P.L.Dial g.P.W.BatchSink g.P.H.BatchSink g.P.K.Clock g.P.Y.Diary g.P.D.Door
     g.P.D.C.Source g.P.D.C.ByteSink g.P.D.C.Conn in
     let saw = c.all_saw_one.ensures in
-    told_shared h g.row.P-Rt.Denot c.args.settings (options_of c.args.words.now c.args.listen) g.N.RouteName.home g.N.RouteName.opening
+    told_shared h g.row.P-Rt.Denot c.args.settings (options_of c.args.words.now c.args.listen) g.P.Plant.opens g.N.RouteName.home g.N.RouteName.opening
     (g.P.Plant.tells c.args.plant.now) (g.P.Plant.tells c.run_configured-status.new.plant) c.in-Ok-share_routes.all.items
     c.run_configured-status.result (record {
       status = c.run_configured-status.result.status;
