@@ -1,7 +1,9 @@
-use Rattle.std.proofs.Common.{All, refl, subst}
+use Rattle.std.proofs.Common.{All, inr, refl, sym, subst}
 use Rattle.history_ends.specs.Histories.{SawOne}
 use Rattle.proxy_runs.specs.Setup.{options_of}
 use Rattle.serve_roles.specs.Doors.{bay_handles}
+use Rattle.serve_runs.specs.Causes.{NoRun}
+use Rattle.serve_runs.specs.declared.ended.RunStatus.{RunStatus}
 use Rattle.shared_runs.proofs.RunLemmas.{told_shared}
 use Rattle.shared_runs.specs.Runs.{shared_routes}
 use Rattle.shared_runs.proofs.shared.run_shared.Goals as goal
@@ -22,3 +24,21 @@ returns g c =
     c.in-Ok-share_routes.ensures.fresh saw.0
     (subst (All (SawOne g.N.RouteName.home g.N.RouteName.opening saw.0)) c.as_slice.ensures.value saw.1)
     c.unnamed_ends.ensures refl refl refl c.run_configured-status.ensures
+
+pub returns-in_default : goal.returns-in_default
+returns-in_default g c =
+    let faults = (g.P.Plant.tells c.args.plant.now).faults in
+    inr (record {
+      none = c.nothing_ran.ensures.1;
+      cause = subst (λ (s : RunStatus). NoRun faults faults s) (sym c.nothing_ran.ensures.0) refl;
+      called = c.no_calls_yet.ensures _ _ _;
+    })
+
+pub returns-in_default-share_routes : goal.returns-in_default-share_routes
+returns-in_default-share_routes g c =
+    let faults = (g.P.Plant.tells c.args.plant.now).faults in
+    inr (record {
+      none = c.nothing_ran-in_default-share_routes.ensures.1;
+      cause = subst (λ (s : RunStatus). NoRun faults faults s) (sym c.nothing_ran-in_default-share_routes.ensures.0) refl;
+      called = c.no_calls_yet.ensures _ _ _;
+    })
