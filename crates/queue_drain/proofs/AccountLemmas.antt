@@ -1,5 +1,5 @@
 -- What a drainer has taken, through pumps and a flush.
-use Rattle.std.proofs.Common.{◌≡◌, ◌<◌, ◌≤◌, ◌+◌, ◌-◌, ◌^◌, min, true, ℕ, List, [], ◌∷◌, ◌++◌, length, length-append, append_assoc, append-nil, Option, Some, None, IfSome, All, refl, sym, ap, ◌∙◌, subst, arith, inl, inr, map, get_or, sum_by}
+use Rattle.std.proofs.Common.{◌≡◌, ◌<◌, ◌≤◌, ◌+◌, ◌-◌, ◌^◌, min, true, ℕ, List, [], ◌∷◌, ◌++◌, take, length, length-append, append_assoc, append-nil, Option, Some, None, IfSome, All, refl, sym, ap, ◌∙◌, subst, arith, inl, inr, map, get_or, sum_by}
 use Rattle.std.proofs.lemmas.List.Elements.{All-append, All-nil}
 use Rattle.batch_backend.specs.Batches.{Drained, Pending, WithinLimits, is_any}
 use Rattle.batch_backend.specs.Closes.{AllFull, FullButLast, IsSoon}
@@ -8,6 +8,7 @@ use Rattle.batch_backend.specs.Pumps.{Moved, PumpMoved}
 use Rattle.batch_backend.specs.declared.limits.Limits.{Limits}
 use Rattle.batch_backend.specs.declared.pumped.Pumped.{Pumped}
 use Rattle.front_base.specs.Line.{Line}
+use Rattle.front_ports.specs.Told.{Grows}
 use Rattle.queue_drain.specs.Drains.{DrainState, Accounts, EndsDrain}
 use Rattle.shared_queue.specs.Bays.{of_bay}
 use Rattle.shared_queue.specs.Ends.{TellsParts}
@@ -190,3 +191,23 @@ pumps_keep pop accepted capacity (answer ∷ before) d e now o n s t (f, (m, (u,
     subst (TellsParts accepted capacity) (sym r.outlet) (pumps_keep pop accepted capacity before d f now o m s u p h)
 pumps_keep pop accepted capacity (answer ∷ before) d e now o n s t (f, (m, (u, (p, inr r)))) h =
     pop accepted capacity m n r.line (pumps_keep pop accepted capacity before d f now o m s u p h) r.popped
+
+-- ---- moments
+
+-- one moment more, after the first
+pub still_first : (a b : Option (List ℕ)) (now began : ℕ) → Grows a b (now ∷ []) → IfSome a (λ moments. take 1 moments ≡ began ∷ [])
+    → IfSome b (λ moments. take 1 moments ≡ began ∷ [])
+still_first a None now began g h = tt
+still_first None (Some ys) now began g h = absurd (cc g)
+still_first (Some []) (Some ys) now began g h = absurd (cc h)
+still_first (Some (x ∷ xs)) (Some ys) now began g h = ap (take 1) g ∙ h
+
+-- the first moment
+pub first_one : (a b : Option (List ℕ)) (now : ℕ) → Grows a b (now ∷ []) → IfSome a (λ moments. moments ≡ [])
+    → IfSome b (λ moments. take 1 moments ≡ now ∷ [])
+first_one a None now g h = tt
+first_one None (Some ys) now g h = absurd (cc g)
+first_one (Some xs) (Some ys) now g h = ap (take 1) (g ∙ ap (λ l. l ++ now ∷ []) h)
+
+pub one_later : (told last now : ℕ) → told ≡ last → told ≤ now → last ≤ now
+one_later told last now e h = omega arith

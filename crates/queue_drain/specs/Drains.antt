@@ -1,10 +1,12 @@
 -- A drainer of a queue: what it took, and what became of it.
-use Rattle.std.specs.Prelude.{◌≡◌, ◌<◌, ◌≤◌, ◌+◌, ◌-◌, ◌^◌, min, true, ℕ, List, [], ◌++◌, length, map, sum_by, get_or, IfSome, All}
+use Rattle.std.specs.Prelude.{◌≡◌, ◌<◌, ◌≤◌, ◌+◌, ◌-◌, ◌^◌, min, true, ℕ, List, [], ◌++◌, length, map, take, sum_by, get_or, IfSome, All, ◌∷◌}
 use Rattle.batch_backend.specs.Batches.{WithinLimits, is_any}
 use Rattle.batch_backend.specs.Closes.{AllFull, FullButLast}
 use Rattle.batch_backend.specs.declared.limits.Limits.{Limits}
 use Rattle.front_base.specs.Line.{Line}
+use Rattle.front_ports.specs.declared.clock.Clock as clocks
 use Rattle.queue_drain.specs.declared.drain.QueueDrain.{QueueDrain}
+use Rattle.queue_drain.specs.declared.drain_end.DrainEnd.{DrainEnd}
 use Rattle.shared_queue.specs.Bays.{of_bay}
 use Rattle.shared_queue.specs.Lanes.{lane_accepted, lane_fulls}
 use Rattle.shared_queue.specs.Queues.{outlet_taken, outlet_home}
@@ -60,16 +62,28 @@ pub record Accounts (d : DrainState) : Type 0 where
   pub later : d.began ≤ d.last
   pub full : d.last - d.began < d.limits.wait → AllFull d.limits tries d.waits × (is_any d.waits ≡ true → d.began ≤ d.since)
 
+-- the first moment that it went by is the first one that its clock answered, and the last one the last
+pub record IsTimed {S R K : Type 0} (k : clocks.Ghosts K) (d : QueueDrain S R K) : Type 0 where
+  pub first : IfSome (k.given d.clock) (λ moments. take 1 moments ≡ d.began ∷ [])
+  pub last : k.last d.clock ≡ d.last
+
+-- the same of what it leaves
+pub record EndsTimed {S K : Type 0} (k : clocks.Ghosts K) (e : DrainEnd S K) : Type 0 where
+  pub first : IfSome (k.given e.clock) (λ moments. take 1 moments ≡ e.began ∷ [])
+  pub last : k.last e.clock ≡ e.ended
+
 -- what no pump changes
 pub record SameDrain (d e : DrainState) : Type 0 where
   pub limits : e.limits ≡ d.limits
   pub home : e.home ≡ d.home
 
--- a drainer that ran is that of the same queue, still accounts for all that it took, and its sink sent what its tries say
-pub record RanDrain {S R K : Type 0} (s : sinks.Ghosts S) (d e : QueueDrain S R K) : Type 0 where
+-- a drainer that ran is that of the same queue, still accounts for all that it took, its sink sent what its tries say, and it goes by its
+-- clock
+pub record RanDrain {S R K : Type 0} (s : sinks.Ghosts S) (k : clocks.Ghosts K) (d e : QueueDrain S R K) : Type 0 where
   pub same : SameDrain (drain_state s d) (drain_state s e)
   pub accounts : Accounts (drain_state s d) → Accounts (drain_state s e)
   pub sent : KeepsSent (drain_state s d).sink (drain_state s e).sink
+  pub timed : IsTimed k d → IsTimed k e
 
 -- Each bay's accepted lines are its lines among those that the tries have, in order and each once, and a number that is no
 -- bay has none. Where less time than a line may wait lies between the first and the last moment, each try but the last one ended for

@@ -1,7 +1,7 @@
 ghost use Rattle.std.specs.Prelude.{◌≡◌, ◌<◌, ◌≤◌, [], IfOk, IfSome};
 ghost use Rattle.batch_backend.specs.Pumps.{is_rest};
 ghost use Rattle.shared_queue.specs.Queues.{AreOneQueue, outlet_tells, outlet_home};
-ghost use Rattle.queue_drain.specs.Drains.{Accounts, RanDrain, EndsDrain, drain_state, drain_outlet};
+ghost use Rattle.queue_drain.specs.Drains.{Accounts, RanDrain, EndsDrain, EndsTimed, IsTimed, drain_state, drain_outlet};
 ghost use Rattle.truncate_backend.specs.Tries.{KeepsSent};
 
 use crate::drain_end::DrainEnd;
@@ -32,7 +32,8 @@ pub struct QueueDrain<S, R: Wait + Copy + Drop, K> {
 
 // The later one.
 fn later(a: Moment, b: Moment) -> Moment
-    ensures { (a ≤ result) × (b ≤ result) }
+    ensures least { (a ≤ result) × (b ≤ result) }
+    ensures last { a ≤ b → result ≡ b }
 {
     if a.micros() < b.micros() { b } else { a }
 }
@@ -52,10 +53,12 @@ impl<S: BatchSink, R: Wait + Copy + Drop, K: Clock> QueueDrain<S, R, K> {
         requires limits { 0 < limits.lines }
         requires outlet { (outlet_tells outlet).taken ≡ Some [] }
         requires sink { IfSome (S.tells sink).tries (λ tries. tries ≡ []) }
+        requires clock { IfSome (K.given clock) (λ moments. moments ≡ []) }
         ensures home { IfOk result (λ drain. (drain_state S.BatchSink drain).home ≡ outlet_home outlet) }
         ensures limits { IfOk result (λ drain. (drain_state S.BatchSink drain).limits ≡ limits) }
         ensures sink { IfOk result (λ drain. (drain_state S.BatchSink drain).sink ≡ S.tells sink) }
         ensures accounts { IfOk result (λ drain. Accounts (drain_state S.BatchSink drain)) }
+        ensures timed { IfOk result (IsTimed K.Clock) }
     {
         let drainer = Drainer::start(alloc, limits)?;
         let began = clock.now();
@@ -73,7 +76,7 @@ impl<S: BatchSink, R: Wait + Copy + Drop, K: Clock> QueueDrain<S, R, K> {
 
     // One pump, and whether there was no line to take.
     fn step(&mut self) -> bool
-        ensures { RanDrain S.BatchSink self.old self.new }
+        ensures { RanDrain S.BatchSink K.Clock self.old self.new }
     {
         tries_join();
         let now = later(self.last, self.clock.now());
@@ -91,6 +94,7 @@ impl<S: BatchSink, R: Wait + Copy + Drop, K: Clock> QueueDrain<S, R, K> {
         ensures ends { EndsDrain (drain_state S.BatchSink self).limits lanes.items (S.tells result.sink) result.written result.lost
             result.fulls result.began result.ended }
         ensures sent { KeepsSent (drain_state S.BatchSink self).sink (S.tells result.sink) }
+        ensures timed { IsTimed K.Clock self → EndsTimed K.Clock result }
     {
         tries_join();
         pops_keep_the_parts();
@@ -123,7 +127,7 @@ impl<S: BatchSink, R: Wait + Copy + Drop, K: Clock> QueueDrain<S, R, K> {
 impl<S: BatchSink, R: Wait + Copy + Drop, K: Clock> Role<R> for QueueDrain<S, R, K> {
     ghost use Rattle.queue_drain.specs.Drains.{RanDrain};
 
-    ghost ran = { RanDrain S.BatchSink };
+    ghost ran = { RanDrain S.BatchSink K.Clock };
 
     /// Pumps until so many bays have ended and then no line is there, and rests a little wherever none is. Lines that wait for
     /// a whole batch may still wait.
