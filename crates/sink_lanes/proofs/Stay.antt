@@ -3,6 +3,7 @@ use Rattle.std.proofs.Common.{◌≡◌, ◌<◌, ◌≤◌, ◌+◌, ◌⊎◌,
 use Rattle.any_lane.specs.declared.lane.AnyLane.{AnyLane}
 use Rattle.any_lane.specs.declared.lane.AnyLane.TheVariants.{Off, Queue, Own}
 use Rattle.batch_backend.specs.declared.limits.Limits.{Limits}
+use Rattle.front_ports.specs.declared.clock.Clock as clocks
 use Rattle.queue_drain.specs.Drains.{RanDrain, drain_outlet, drain_state}
 use Rattle.queue_drain.specs.declared.drain.QueueDrain.{QueueDrain}
 use Rattle.role_threads.specs.Lists.{AllPairs, IfBoth}
@@ -93,10 +94,10 @@ module _ {S R : Type 0} (s : sinks.Ghosts S) (one : OneHome R) (parts : (l : Que
   told_each (l ∷ ls) zero bay h = one_told l bay h
   told_each (l ∷ ls) (suc i) bay h = told_each ls i bay h
 
-module _ {S R K : Type 0} (s : sinks.Ghosts S) (one : OneHome R) (parts : (l : QueueLane R) → LaneParts l) where
+module _ {S R K : Type 0} (s : sinks.Ghosts S) (clock : clocks.Ghosts K) (one : OneHome R) (parts : (l : QueueLane R) → LaneParts l) where
   stay_one : (capacity : ℕ) (allots : List ℕ) (limits : Limits) (sink : SinkTells) (before after : List (AnyLane S R)) (drain : Option (QueueDrain S R K)) (d : QueueDrain S R K)
-      (made : AreQueued s capacity allots limits sink before drain) → AllPairs SameAny before after → RanDrain s made.drained d
-      → StayTogether s capacity allots limits sink after (Some d)
+      (made : AreQueued s clock capacity allots limits sink before drain) → AllPairs SameAny before after → RanDrain s clock made.drained d
+      → StayTogether s clock capacity allots limits sink after (Some d)
   stay_one capacity allots limits sink before after drain d made p r =
       let outlet = made.outlet in
       let new = made.new in
@@ -118,6 +119,7 @@ module _ {S R K : Type 0} (s : sinks.Ghosts S) (one : OneHome R) (parts : (l : Q
         can_end = (subst (λ z. AreOneQueue z (drain_outlet d)) (sym same) queue, r.accounts made.accounts);
         limits_are = r.same.limits ∙ made.limits_are;
         sent = subst (λ (z : SinkTells). KeepsSent z (drain_state s d).sink) made.sink_is r.sent;
+        timed = r.timed made.timed;
         told = λ bay.
             subst (λ z. IfSome (slice_get after bay) (ToldQueued s capacity allots bay (get_or (map lane_accepted z) bay []))) (sym same)
             (subst (λ z. IfSome (slice_get z bay) (ToldQueued s capacity allots bay (get_or (map lane_accepted ls) bay []))) (sym q.1)
@@ -125,13 +127,13 @@ module _ {S R K : Type 0} (s : sinks.Ghosts S) (one : OneHome R) (parts : (l : Q
       }
 
   stay_some : (capacity : ℕ) (allots : List ℕ) (limits : Limits) (sink : SinkTells) (before after : List (AnyLane S R)) (drain ran : Option (QueueDrain S R K))
-      (made : AreQueued s capacity allots limits sink before drain) → AllPairs SameAny before after → IfBoth (RanDrain s) (Some made.drained) ran
-      → StayTogether s capacity allots limits sink after ran
+      (made : AreQueued s clock capacity allots limits sink before drain) → AllPairs SameAny before after → IfBoth (RanDrain s clock) (Some made.drained) ran
+      → StayTogether s clock capacity allots limits sink after ran
   stay_some capacity allots limits sink before after drain None made p r = absurd r
   stay_some capacity allots limits sink before after drain (Some d) made p r = stay_one capacity allots limits sink before after drain d made p r
 
   pub stay_together : (capacity : ℕ) (allots : List ℕ) (limits : Limits) (sink : SinkTells) (before after : List (AnyLane S R)) (drain ran : Option (QueueDrain S R K))
-      → AreQueued s capacity allots limits sink before drain → AllPairs SameAny before after → IfBoth (RanDrain s) drain ran
-      → StayTogether s capacity allots limits sink after ran
+      → AreQueued s clock capacity allots limits sink before drain → AllPairs SameAny before after → IfBoth (RanDrain s clock) drain ran
+      → StayTogether s clock capacity allots limits sink after ran
   stay_together capacity allots limits sink before after drain ran made p r =
-      stay_some capacity allots limits sink before after drain ran made p (subst (λ z. IfBoth (RanDrain s) z ran) made.drain_is r)
+      stay_some capacity allots limits sink before after drain ran made p (subst (λ z. IfBoth (RanDrain s clock) z ran) made.drain_is r)

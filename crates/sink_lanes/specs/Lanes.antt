@@ -3,7 +3,8 @@ use Rattle.std.specs.Prelude.{◌≡◌, ℕ, List, [], ◌∷◌, map, Option, 
 use Rattle.any_lane.specs.declared.lane.AnyLane.{AnyLane}
 use Rattle.any_lane.specs.declared.lane.AnyLane.TheVariants.{Off, Queue, Own}
 use Rattle.batch_backend.specs.declared.limits.Limits.{Limits}
-use Rattle.queue_drain.specs.Drains.{Accounts, drain_state}
+use Rattle.front_ports.specs.declared.clock.Clock as clocks
+use Rattle.queue_drain.specs.Drains.{Accounts, IsTimed, drain_state}
 use Rattle.queue_drain.specs.declared.drain.QueueDrain.{QueueDrain}
 use Rattle.shared_queue.specs.Queues.{IsNewQueue, outlet_home}
 use Rattle.shared_queue.specs.declared.lane.QueueLane.{QueueLane}
@@ -31,7 +32,7 @@ module _ {S R : Type 0} where
   queue_lane lane = Queue lane
 
 -- the lanes of a new queue with this capacity and these allotments, and its drainer, which took nothing yet and has this sink
-pub record AreQueued {S R K : Type 0} (s : sinks.Ghosts S) (capacity : ℕ) (allots : List ℕ) (limits : Limits) (sink : SinkTells)
+pub record AreQueued {S R K : Type 0} (s : sinks.Ghosts S) (k : clocks.Ghosts K) (capacity : ℕ) (allots : List ℕ) (limits : Limits) (sink : SinkTells)
     (lanes : List (AnyLane S R)) (drain : Option (QueueDrain S R K)) : Type 0 where
   pub queue : List (QueueLane R)
   pub outlet : QueueOutlet R
@@ -43,3 +44,4 @@ pub record AreQueued {S R K : Type 0} (s : sinks.Ghosts S) (capacity : ℕ) (all
   pub limits_are : (drain_state s drained).limits ≡ limits
   pub sink_is : (drain_state s drained).sink ≡ sink
   pub accounts : Accounts (drain_state s drained)
+  pub timed : IsTimed k drained

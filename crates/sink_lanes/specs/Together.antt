@@ -3,7 +3,8 @@ use Rattle.std.specs.Prelude.{◌≡◌, ◌<◌, ◌≤◌, ◌+◌, ◌⊎◌,
 use Rattle.any_lane.specs.Lanes.{any_tells, any_bay, any_home, any_queued}
 use Rattle.any_lane.specs.declared.lane.AnyLane.{AnyLane}
 use Rattle.batch_backend.specs.declared.limits.Limits.{Limits}
-use Rattle.queue_drain.specs.Drains.{RanDrain, drain_state}
+use Rattle.front_ports.specs.declared.clock.Clock as clocks
+use Rattle.queue_drain.specs.Drains.{IsTimed, RanDrain, drain_state}
 use Rattle.queue_drain.specs.declared.drain.QueueDrain.{QueueDrain}
 use Rattle.role_threads.specs.Lists.{AllPairs, IfBoth}
 use Rattle.shared_queue.specs.Bays.{of_bay}
@@ -29,16 +30,17 @@ pub record ToldQueued {S R : Type 0} (s : sinks.Ghosts S) (capacity : ℕ) (allo
       → (length accepted ≡ get_or allots bay 0) ⊎ (capacity + get_or allots bay 0 ≤ length accepted + sum allots)
 
 -- lanes and a drainer that were made together make one queue still, each bay's lane at the bay's place
-pub record StayTogether {S R K : Type 0} (s : sinks.Ghosts S) (capacity : ℕ) (allots : List ℕ) (limits : Limits) (sink : SinkTells)
+pub record StayTogether {S R K : Type 0} (s : sinks.Ghosts S) (k : clocks.Ghosts K) (capacity : ℕ) (allots : List ℕ) (limits : Limits) (sink : SinkTells)
     (lanes : List (AnyLane S R)) (drain : Option (QueueDrain S R K)) : Type 0 where
   pub can_end : CanEnd s (queued_parts lanes) drain
   pub limits_are : IfSome drain (λ d. (drain_state s d).limits ≡ limits)
   pub sent : IfSome drain (λ d. KeepsSent sink (drain_state s d).sink)
+  pub timed : IfSome drain (IsTimed k)
   pub told : (bay : ℕ) → IfSome (slice_get lanes bay)
       (ToldQueued s capacity allots bay (get_or (map lane_accepted (queued_parts lanes)) bay []))
 
-abbrev pub StaysTogether : (S R K : Type 0) → sinks.Ghosts S → Type 0
-StaysTogether S R K s =
+abbrev pub StaysTogether : (S R K : Type 0) → sinks.Ghosts S → clocks.Ghosts K → Type 0
+StaysTogether S R K s k =
     (capacity : ℕ) (allots : List ℕ) (limits : Limits) (sink : SinkTells) (before after : List (AnyLane S R)) (drain ran : Option (QueueDrain S R K))
-    → AreQueued s capacity allots limits sink before drain → AllPairs SameAny before after → IfBoth (RanDrain s) drain ran
-    → StayTogether s capacity allots limits sink after ran
+    → AreQueued s k capacity allots limits sink before drain → AllPairs SameAny before after → IfBoth (RanDrain s k) drain ran
+    → StayTogether s k capacity allots limits sink after ran

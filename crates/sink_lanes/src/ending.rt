@@ -74,7 +74,7 @@ pub fn end_lanes<S: BatchSink + Drop, R: Wait + Copy + Drop, K: Clock + Drop>(
     requires room { length lanes.items ≤ room_for room }
     requires queue { spec.CanEnd S.BatchSink (spec.queued_parts lanes.items) drain }
     ensures own { result.own.items ≡ spec.own_parts lanes.items }
-    ensures queue { spec.Ends S.BatchSink (spec.queued_parts lanes.items) drain result.drain }
+    ensures queue { spec.Ends S.BatchSink K.Clock (spec.queued_parts lanes.items) drain result.drain }
 {
     let (queued, own) = part_lanes(room, lanes);
     match drain {

@@ -78,7 +78,8 @@ pub fn queued_lanes<S: BatchSink + Drop, R: Wait + Copy + Drop, K: Clock + Drop>
     requires allotted { All (λ n. n ≤ MOST_ALLOTTED) allots.items }
     requires limits { 0 < limits.lines }
     requires sink { IfSome (S.tells sink).tries (λ tries. tries ≡ []) }
-    ensures { IfOk result (λ made. spec.AreQueued S.BatchSink capacity allots.items limits (S.tells sink) made.lanes.items made.drain) }
+    requires clock { IfSome (K.given clock) (λ moments. moments ≡ []) }
+    ensures { IfOk result (λ made. spec.AreQueued S.BatchSink K.Clock capacity allots.items limits (S.tells sink) made.lanes.items made.drain) }
 {
     let (lanes, outlet) = make_queue(rt, alloc, capacity, allots)?;
     let lanes = wrap_lanes(alloc, lanes)?;
