@@ -12,6 +12,7 @@ use Rattle.front_base.specs.Line.{Line}
 use Rattle.front_plants.specs.Fresh.{SinkOpens, IsNewSink, SentAll}
 use Rattle.plant_lanes.specs.Lanes.{AreShared, AreOwn}
 use Rattle.plant_lanes.specs.Served.{IsDrained, IsOwn, CanAllEnd, AreAllServed}
+use Rattle.front_ports.specs.declared.clock.Clock as clocks
 use Rattle.queue_drain.specs.Drains.{RanDrain, drain_state}
 use Rattle.queue_drain.specs.declared.drain.QueueDrain.{QueueDrain}
 use Rattle.queue_drain.specs.declared.drain_end.DrainEnd.{DrainEnd}
@@ -86,14 +87,14 @@ sent_all opens m n new keeps =
           (keeps.follows [] (none_sent m.text m.sent m.tries (new.sent_is ∙ e) new.no_try));
     }
 
-module _ {S R K : Type 0} (s : sinks.Ghosts S) (opens : SinkOpens) (stay : StaysTogether S R K s) where
+module _ {S R K : Type 0} (s : sinks.Ghosts S) (clock : clocks.Ghosts K) (opens : SinkOpens) (stay : StaysTogether S R K s clock) where
   -- where there is no drainer, nothing is left of one
-  none_ran : (drain ran : Option (QueueDrain S R K)) → drain ≡ None → IfBoth (RanDrain s) drain ran → ran ≡ None
+  none_ran : (drain ran : Option (QueueDrain S R K)) → drain ≡ None → IfBoth (RanDrain s clock) drain ran → ran ≡ None
   none_ran None None e b = refl
   none_ran None (Some d) e b = absurd b
   none_ran (Some d) ran e b = absurd cc
 
-  none_left : (queue : List (QueueLane R)) (ran : Option (QueueDrain S R K)) (o : Option (DrainEnd S K)) → ran ≡ None → Ends s queue ran o → o ≡ None
+  none_left : (queue : List (QueueLane R)) (ran : Option (QueueDrain S R K)) (o : Option (DrainEnd S K)) → ran ≡ None → Ends s clock queue ran o → o ≡ None
   none_left queue None None e x = refl
   none_left queue None (Some d) e x = absurd x
   none_left queue (Some d) o e x = absurd cc
@@ -102,8 +103,8 @@ module _ {S R K : Type 0} (s : sinks.Ghosts S) (opens : SinkOpens) (stay : Stays
   none_ends queue ran e = subst (CanEnd s queue) (sym e) tt
 
   own_served : (bays : ℕ) (before after : List (AnyLane S R)) (drain ran : Option (QueueDrain S R K)) (end : SinkEnd S K)
-      → AreOwn s opens bays before drain → AllPairs SameAny before after → IfBoth (RanDrain s) drain ran
-      → end.own.items ≡ own_parts after → Ends s (queued_parts after) ran end.drain → IsOwn bays after end
+      → AreOwn s opens bays before drain → AllPairs SameAny before after → IfBoth (RanDrain s clock) drain ran
+      → end.own.items ≡ own_parts after → Ends s clock (queued_parts after) ran end.drain → IsOwn bays after end
   own_served bays before after drain ran end a p b o x =
       let q = subst (λ z. AllPairs SameAny z after) a.lanes_are p in
       let are = own_after a.own after q in
@@ -119,11 +120,11 @@ module _ {S R K : Type 0} (s : sinks.Ghosts S) (opens : SinkOpens) (stay : Stays
   some_drained : (bays capacity : ℕ) (limits : Limits) (allots : List ℕ) (sink : SinkTells) (after : List (AnyLane S R)) (ran : Option (QueueDrain S R K))
       (end : SinkEnd S K) (o : Option (DrainEnd S K)) (d : QueueDrain S R K) → end.drain ≡ o → length allots ≡ bays → length after ≡ bays
       → ((bay : ℕ) → IfSome (slice_get after bay) (λ l. any_queued l ≡ true))
-      → IfBoth (RanDrain s) (Some d) ran → IsNewSink opens sink → StayTogether s capacity allots limits sink after ran
-      → Ends s (queued_parts after) ran o → IsDrained s opens bays capacity limits after end
+      → IfBoth (RanDrain s clock) (Some d) ran → IsNewSink opens sink → StayTogether s clock capacity allots limits sink after ran
+      → Ends s clock (queued_parts after) ran o → IsDrained s clock opens bays capacity limits after end
   some_drained bays capacity limits allots sink after None end o d e n m q b new t x = absurd b
   some_drained bays capacity limits allots sink after (Some r) end None d e n m q b new t x = absurd x
-  some_drained bays capacity limits allots sink after (Some r) end (Some left) d e n m q b new t (x, sent) = record {
+  some_drained bays capacity limits allots sink after (Some r) end (Some left) d e n m q b new t (x, sent, timed) = record {
     allots = allots;
     allotted = n;
     drain = left;
@@ -146,11 +147,12 @@ module _ {S R K : Type 0} (s : sinks.Ghosts S) (opens : SinkOpens) (stay : Stays
     full = λ soon.
         subst (λ (z : Limits). FullButLast z x.tries) t.limits_are
         (x.full (subst (λ (z : Limits). left.ended - left.began < z.wait) (sym t.limits_are) soon));
+    timed = timed t.timed;
   }
 
   batch_served : (bays capacity : ℕ) (limits : Limits) (before after : List (AnyLane S R)) (drain ran : Option (QueueDrain S R K)) (end : SinkEnd S K)
-      → AreShared s opens bays capacity limits before drain → AllPairs SameAny before after → IfBoth (RanDrain s) drain ran
-      → Ends s (queued_parts after) ran end.drain → IsDrained s opens bays capacity limits after end
+      → AreShared s clock opens bays capacity limits before drain → AllPairs SameAny before after → IfBoth (RanDrain s clock) drain ran
+      → Ends s clock (queued_parts after) ran end.drain → IsDrained s clock opens bays capacity limits after end
   batch_served bays capacity limits before after drain ran end a p b x =
       let t = stay capacity a.allots limits a.sink before after drain ran a.queued p b in
       let n = pairs_count SameAny before after p in
@@ -158,20 +160,20 @@ module _ {S R K : Type 0} (s : sinks.Ghosts S) (opens : SinkOpens) (stay : Stays
       ap length a.queued.lanes_are ∙ (image_count queue_lane a.queued.queue ∙ (a.queued.new.count ∙ a.count)) in
       some_drained bays capacity limits a.allots a.sink after ran end end.drain a.queued.drained refl a.count (n ∙ m)
       (queued_after a.queued.queue after (subst (λ z. AllPairs SameAny z after) a.queued.lanes_are p))
-      (subst (λ z. IfBoth (RanDrain s) z ran) a.queued.drain_is b) a.new t x
+      (subst (λ z. IfBoth (RanDrain s clock) z ran) a.queued.drain_is b) a.new t x
 
-module _ {S R K : Type 0} (s : sinks.Ghosts S) (stay : StaysTogether S R K s) where
-  pub can_all_end : CanAllEnd S R K s
-  can_all_end opens Off bays capacity limits before after drain ran a p b = none_ends s opens stay (queued_parts after) ran (none_ran s opens stay drain ran a.no_drain b)
+module _ {S R K : Type 0} (s : sinks.Ghosts S) (clock : clocks.Ghosts K) (stay : StaysTogether S R K s clock) where
+  pub can_all_end : CanAllEnd S R K s clock
+  can_all_end opens Off bays capacity limits before after drain ran a p b = none_ends s clock opens stay (queued_parts after) ran (none_ran s clock opens stay drain ran a.no_drain b)
   can_all_end opens Batch bays capacity limits before after drain ran a p b =
       (stay capacity a.allots limits a.sink before after drain ran a.queued p b).can_end
-  can_all_end opens Blocking bays capacity limits before after drain ran a p b = none_ends s opens stay (queued_parts after) ran (none_ran s opens stay drain ran a.no_drain b)
-  can_all_end opens Strict bays capacity limits before after drain ran a p b = none_ends s opens stay (queued_parts after) ran (none_ran s opens stay drain ran a.no_drain b)
+  can_all_end opens Blocking bays capacity limits before after drain ran a p b = none_ends s clock opens stay (queued_parts after) ran (none_ran s clock opens stay drain ran a.no_drain b)
+  can_all_end opens Strict bays capacity limits before after drain ran a p b = none_ends s clock opens stay (queued_parts after) ran (none_ran s clock opens stay drain ran a.no_drain b)
 
-  pub are_all_served : AreAllServed S R K s
+  pub are_all_served : AreAllServed S R K s clock
   are_all_served opens Off bays capacity limits before after drain ran end a p b o x =
-      none_left s opens stay (queued_parts after) ran end.drain (none_ran s opens stay drain ran a.no_drain b) x
+      none_left s clock opens stay (queued_parts after) ran end.drain (none_ran s clock opens stay drain ran a.no_drain b) x
   are_all_served opens Batch bays capacity limits before after drain ran end a p b o x =
-      batch_served s opens stay bays capacity limits before after drain ran end a p b x
-  are_all_served opens Blocking bays capacity limits before after drain ran end a p b o x = own_served s opens stay bays before after drain ran end a p b o x
-  are_all_served opens Strict bays capacity limits before after drain ran end a p b o x = own_served s opens stay bays before after drain ran end a p b o x
+      batch_served s clock opens stay bays capacity limits before after drain ran end a p b x
+  are_all_served opens Blocking bays capacity limits before after drain ran end a p b o x = own_served s clock opens stay bays before after drain ran end a p b o x
+  are_all_served opens Strict bays capacity limits before after drain ran end a p b o x = own_served s clock opens stay bays before after drain ran end a p b o x

@@ -8,8 +8,9 @@ use Rattle.batch_backend.specs.Batches.{WithinLimits}
 use Rattle.batch_backend.specs.Closes.{FullButLast}
 use Rattle.batch_backend.specs.declared.limits.Limits.{Limits}
 use Rattle.front_plants.specs.Fresh.{SinkOpens, SentAll}
+use Rattle.front_ports.specs.declared.clock.Clock as clocks
 use Rattle.plant_lanes.specs.Lanes.{LanesFor}
-use Rattle.queue_drain.specs.Drains.{RanDrain}
+use Rattle.queue_drain.specs.Drains.{EndsTimed, RanDrain}
 use Rattle.queue_drain.specs.declared.drain.QueueDrain.{QueueDrain}
 use Rattle.queue_drain.specs.declared.drain_end.DrainEnd.{DrainEnd}
 use Rattle.role_threads.specs.Lists.{AllPairs, IfBoth}
@@ -24,7 +25,7 @@ use Rattle.truncate_backend.specs.declared.sink.BatchSink as sinks
 -- Of a sink in batch mode: these tries were made by its one drainer, and are those of the sink where it tells them. Their lines,
 -- joined, have each bay's accepted lines in order, each once, and no line of anybody else. Each lane is one of a queue, and was Full only
 -- where its allotment is spent, or where the queue can be full
-pub record IsDrained {S R K : Type 0} (s : sinks.Ghosts S) (opens : SinkOpens) (bays capacity : ℕ) (limits : Limits) (lanes : List (AnyLane S R)) (end : SinkEnd S K)
+pub record IsDrained {S R K : Type 0} (s : sinks.Ghosts S) (k : clocks.Ghosts K) (opens : SinkOpens) (bays capacity : ℕ) (limits : Limits) (lanes : List (AnyLane S R)) (end : SinkEnd S K)
     : Type 0 where
   pub allots : List ℕ
   pub allotted : length allots ≡ bays
@@ -42,6 +43,7 @@ pub record IsDrained {S R K : Type 0} (s : sinks.Ghosts S) (opens : SinkOpens) (
   pub lost_is : drain.lost ≡ min unwritten (2 ^ 64 - 1)
   pub sent : SentAll opens (s.tells drain.sink)
   pub full : drain.ended - drain.began < limits.wait → FullButLast limits tries
+  pub timed : EndsTimed k drain
 
 -- of a sink in the modes blocking and strict: each bay's lane is over the bay's own sink
 pub record IsOwn {S R K : Type 0} (bays : ℕ) (lanes : List (AnyLane S R)) (end : SinkEnd S K) : Type 0 where
@@ -50,24 +52,24 @@ pub record IsOwn {S R K : Type 0} (bays : ℕ) (lanes : List (AnyLane S R)) (end
   pub no_drain : end.drain ≡ None
 
 module _ {S R K : Type 0} where
-  abbrev pub SinkServed : sinks.Ghosts S → SinkOpens → SinkMode → ℕ → ℕ → Limits → List (AnyLane S R) → SinkEnd S K → Type 0
-  SinkServed s opens Off bays capacity limits lanes end = end.drain ≡ None
-  SinkServed s opens Batch bays capacity limits lanes end = IsDrained s opens bays capacity limits lanes end
-  SinkServed s opens Blocking bays capacity limits lanes end = IsOwn bays lanes end
-  SinkServed s opens Strict bays capacity limits lanes end = IsOwn bays lanes end
+  abbrev pub SinkServed : sinks.Ghosts S → clocks.Ghosts K → SinkOpens → SinkMode → ℕ → ℕ → Limits → List (AnyLane S R) → SinkEnd S K → Type 0
+  SinkServed s k opens Off bays capacity limits lanes end = end.drain ≡ None
+  SinkServed s k opens Batch bays capacity limits lanes end = IsDrained s k opens bays capacity limits lanes end
+  SinkServed s k opens Blocking bays capacity limits lanes end = IsOwn bays lanes end
+  SinkServed s k opens Strict bays capacity limits lanes end = IsOwn bays lanes end
 
 -- lanes that were made for a sink can be taken back, whatever bays offered and the drainer took
-abbrev pub CanAllEnd : (S R K : Type 0) → sinks.Ghosts S → Type 0
-CanAllEnd S R K s =
+abbrev pub CanAllEnd : (S R K : Type 0) → sinks.Ghosts S → clocks.Ghosts K → Type 0
+CanAllEnd S R K s k =
     (opens : SinkOpens) (mode : SinkMode) (bays capacity : ℕ) (limits : Limits) (before after : List (AnyLane S R)) (drain ran : Option (QueueDrain S R K))
-    → LanesFor s opens mode bays capacity limits before drain → AllPairs SameAny before after → IfBoth (RanDrain s) drain ran
+    → LanesFor s k opens mode bays capacity limits before drain → AllPairs SameAny before after → IfBoth (RanDrain s k) drain ran
     → CanEnd s (queued_parts after) ran
 
 -- and what is left of them accounts for all that was accepted
-abbrev pub AreAllServed : (S R K : Type 0) → sinks.Ghosts S → Type 0
-AreAllServed S R K s =
+abbrev pub AreAllServed : (S R K : Type 0) → sinks.Ghosts S → clocks.Ghosts K → Type 0
+AreAllServed S R K s k =
     (opens : SinkOpens) (mode : SinkMode) (bays capacity : ℕ) (limits : Limits) (before after : List (AnyLane S R)) (drain ran : Option (QueueDrain S R K))
     (end : SinkEnd S K)
-    → LanesFor s opens mode bays capacity limits before drain → AllPairs SameAny before after → IfBoth (RanDrain s) drain ran
-    → end.own.items ≡ own_parts after → Ends s (queued_parts after) ran end.drain
-    → SinkServed s opens mode bays capacity limits after end
+    → LanesFor s k opens mode bays capacity limits before drain → AllPairs SameAny before after → IfBoth (RanDrain s k) drain ran
+    → end.own.items ≡ own_parts after → Ends s k (queued_parts after) ran end.drain
+    → SinkServed s k opens mode bays capacity limits after end

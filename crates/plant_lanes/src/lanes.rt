@@ -92,7 +92,7 @@ pub fn log_lanes<P: Plant>(
     mode: SinkMode,
 ) -> Result<SinkLanes<P::W, P::Rt, P::K>, PlantFail>
     requires { AreFit options.now }
-    ensures lanes { IfOk result (λ made. LanesFor P.W.BatchSink (log_opens P.opens) mode options.now.bays options.now.buffer
+    ensures lanes { IfOk result (λ made. LanesFor P.W.BatchSink P.K.Clock (log_opens P.opens) mode options.now.bays options.now.buffer
         options.now.limits made.lanes.items made.drain) }
     ensures called { IfOk result (λ made. CalledFor (calls.Log options.now.log_path) options.now.bays mode
         (P.tells plant.old).made (P.tells plant.new).made) }
@@ -126,7 +126,7 @@ pub fn hook_lanes<P: Plant>(
     mode: SinkMode,
 ) -> Result<SinkLanes<P::H, P::Rt, P::K>, PlantFail>
     requires { AreFit options.now }
-    ensures lanes { IfOk result (λ made. LanesFor P.H.BatchSink (hook_opens P.opens options.now.hook_url) mode options.now.bays options.now.buffer
+    ensures lanes { IfOk result (λ made. LanesFor P.H.BatchSink P.K.Clock (hook_opens P.opens options.now.hook_url) mode options.now.bays options.now.buffer
         options.now.limits made.lanes.items made.drain) }
     ensures called { IfOk result (λ made. CalledFor (calls.Hook options.now.hook_url) options.now.bays mode
         (P.tells plant.old).made (P.tells plant.new).made) }
