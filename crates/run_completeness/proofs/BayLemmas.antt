@@ -85,7 +85,7 @@ module _ {R L N W H T K Y D C : Type 0} (h : BayHandles R L N W H K Y D C) (set 
 
   pub log_batches : (accepts : Accepts) (fills : Fills) (options : RunOptions) (bays : List (BayEnd R L K Y D)) (end : SinkEnd W K)
       → length bays ≡ options.bays → ((k : ℕ) → IfSome (slice_get bays k) (Served k))
-      → IsDrained h.log log_new options.bays options.buffer options.limits logs end → BatchesKeepAll h h.log set Log options bays end
+      → IsDrained h.log h.clock log_new options.bays options.buffer options.limits logs end → BatchesKeepAll h h.log set Log options bays end
   log_batches accepts fills options bays end count served d =
       batches_keep h h.log set Log options bays end logs count d (λ k. map_some (Served k)
       (KeepsBatched h set Log options.buffer d.allots (of_bay k (lines_of d.tries)) k) (slice_get bays k)
@@ -96,7 +96,7 @@ module _ {R L N W H T K Y D C : Type 0} (h : BayHandles R L N W H K Y D C) (set 
 
   pub hook_batches : (accepts : Accepts) (fills : Fills) (options : RunOptions) (bays : List (BayEnd R L K Y D)) (end : SinkEnd H K)
       → length bays ≡ options.bays → ((k : ℕ) → IfSome (slice_get bays k) (Served k))
-      → IsDrained h.hook hook_new options.bays options.buffer options.limits hooks end → BatchesKeepAll h h.hook set Webhook options bays end
+      → IsDrained h.hook h.clock hook_new options.bays options.buffer options.limits hooks end → BatchesKeepAll h h.hook set Webhook options bays end
   hook_batches accepts fills options bays end count served d =
       batches_keep h h.hook set Webhook options bays end hooks count d (λ k. map_some (Served k)
       (KeepsBatched h set Webhook options.buffer d.allots (of_bay k (lines_of d.tries)) k) (slice_get bays k)

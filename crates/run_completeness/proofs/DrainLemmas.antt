@@ -5,6 +5,7 @@ use Rattle.audit_core.specs.declared.settings.Settings.{Settings}
 use Rattle.audit_core.specs.declared.sinks.Sink.{Sink}
 use Rattle.connection_laws.specs.Whole.{offers_in, count_of, is_full}
 use Rattle.front_plants.specs.Fresh.{SinkOpens}
+use Rattle.front_ports.specs.declared.clock.Clock as clocks
 use Rattle.plant_lanes.specs.Served.{IsDrained}
 use Rattle.plant_lanes.specs.declared.options.RunOptions.{RunOptions}
 use Rattle.queue_drain.specs.declared.drain_end.DrainEnd.{DrainEnd}
@@ -60,7 +61,7 @@ held_all written done all held offered w o l a b = omega (arith, w, o, l, a, b)
 
 module _ {R L N W H K Y D C S T : Type 0} (h : BayHandles R L N W H K Y D C) (s : sinks.Ghosts S) (set : Settings) (sink : Sink)
     (options : RunOptions) (bays : List (BayEnd R L K Y D)) (end : SinkEnd S K) (lanes : List (AnyLane S T)) (count : length bays ≡ options.bays)
-    {opens : SinkOpens} (d : IsDrained s opens options.bays options.buffer options.limits lanes end)
+    {k : clocks.Ghosts K} {opens : SinkOpens} (d : IsDrained s k opens options.bays options.buffer options.limits lanes end)
     (each : (k : ℕ) → IfSome (slice_get bays k) (KeepsBatched h set sink options.buffer d.allots (of_bay k (lines_of d.tries)) k)) where
   abbrev held : ℕ → ℕ
   held k = length (of_bay k (lines_of d.tries))

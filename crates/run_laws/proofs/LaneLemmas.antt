@@ -115,7 +115,7 @@ module _ {R L N W H T K Y D C : Type 0} (h : BayHandles R L N W H K Y D C) (set 
 
   pub log_batches : (accepts : Accepts) (fills : Fills) (options : RunOptions) (bays : List (BayEnd R L K Y D)) (end : SinkEnd W K)
       → ((k : ℕ) → IfSome (slice_get bays k) (BayServed h set log_new hook_new boot due tables logs hooks k))
-      → IsDrained h.log log_new options.bays options.buffer options.limits logs end → BatchesTell h h.log log_new set Log options bays end
+      → IsDrained h.log h.clock log_new options.bays options.buffer options.limits logs end → BatchesTell h h.log log_new set Log options bays end
   log_batches accepts fills options bays end served d = record {
     allots = d.allots;
     drain = d.drain;
@@ -131,11 +131,12 @@ module _ {R L N W H T K Y D C : Type 0} (h : BayHandles R L N W H K Y D C) (set 
     others = d.others;
     sent = d.sent;
     full = d.full;
+    timed = d.timed;
   }
 
   pub hook_batches : (accepts : Accepts) (fills : Fills) (options : RunOptions) (bays : List (BayEnd R L K Y D)) (end : SinkEnd H K)
       → ((k : ℕ) → IfSome (slice_get bays k) (BayServed h set log_new hook_new boot due tables logs hooks k))
-      → IsDrained h.hook hook_new options.bays options.buffer options.limits hooks end → BatchesTell h h.hook hook_new set Webhook options bays end
+      → IsDrained h.hook h.clock hook_new options.bays options.buffer options.limits hooks end → BatchesTell h h.hook hook_new set Webhook options bays end
   hook_batches accepts fills options bays end served d = record {
     allots = d.allots;
     drain = d.drain;
@@ -151,6 +152,7 @@ module _ {R L N W H T K Y D C : Type 0} (h : BayHandles R L N W H K Y D C) (set 
     others = d.others;
     sent = d.sent;
     full = d.full;
+    timed = d.timed;
   }
 
   -- ---- tries of a bay's own sink

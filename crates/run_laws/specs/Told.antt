@@ -10,6 +10,7 @@ use Rattle.front_base.specs.Line.{Line}
 use Rattle.batch_backend.specs.Closes.{FullButLast}
 use Rattle.front_plants.specs.Fresh.{SinkOpens, SentAll}
 use Rattle.plant_lanes.specs.declared.options.RunOptions.{RunOptions}
+use Rattle.queue_drain.specs.Drains.{EndsTimed}
 use Rattle.queue_drain.specs.declared.drain_end.DrainEnd.{DrainEnd}
 use Rattle.serve_roles.specs.Doors.{BayHandles}
 use Rattle.serve_roles.specs.declared.bay_end.BayEnd.{BayEnd}
@@ -55,6 +56,7 @@ pub record BatchesTell {R L N W H K Y D C S : Type 0} (h : BayHandles R L N W H 
   pub others : (bay : ℕ) → options.bays ≤ bay → of_bay bay (lines_of tries) ≡ []
   pub sent : SentAll opens (s.tells drain.sink)
   pub full : drain.ended - drain.began < options.limits.wait → FullButLast options.limits tries
+  pub timed : EndsTimed h.clock drain
 
 -- ---- a sink that is written to at once
 

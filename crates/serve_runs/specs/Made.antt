@@ -47,5 +47,5 @@ pub record AreMade {R L N W H T K Y D C : Type 0} (h : BayHandles R L N W H K Y 
   pub count : length roles.bays.items ≡ options.bays
   pub routes : map routes_of roles.bays.items ≡ tables
   pub each : (bay : ℕ) → IfSome (slice_get roles.bays.items bay) (λ role. IsNewBay h set boot (before.due bay) bay role)
-  pub log : LanesFor h.log (log_opens opens) set.log options.bays options.buffer options.limits (map log_lane roles.bays.items) roles.log
-  pub hook : LanesFor h.hook (hook_opens opens options.hook_url) set.hook options.bays options.buffer options.limits (map hook_lane roles.bays.items) roles.hook
+  pub log : LanesFor h.log h.clock (log_opens opens) set.log options.bays options.buffer options.limits (map log_lane roles.bays.items) roles.log
+  pub hook : LanesFor h.hook h.clock (hook_opens opens options.hook_url) set.hook options.bays options.buffer options.limits (map hook_lane roles.bays.items) roles.hook

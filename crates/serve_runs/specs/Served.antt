@@ -92,6 +92,6 @@ pub record RunServed {R L N W H K Y D C : Type 0} (h : BayHandles R L N W H K Y 
   pub hooks : List (AnyLane H T)
   pub count : length ended.bays.items ≡ options.bays
   pub each : (bay : ℕ) → IfSome (slice_get ended.bays.items bay) (BayServed h set (log_opens opens) (hook_opens opens options.hook_url) boot before.due tables logs hooks bay)
-  pub log : SinkServed h.log (log_opens opens) set.log options.bays options.buffer options.limits logs ended.log
-  pub hook : SinkServed h.hook (hook_opens opens options.hook_url) set.hook options.bays options.buffer options.limits hooks ended.hook
+  pub log : SinkServed h.log h.clock (log_opens opens) set.log options.bays options.buffer options.limits logs ended.log
+  pub hook : SinkServed h.hook h.clock (hook_opens opens options.hook_url) set.hook options.bays options.buffer options.limits hooks ended.hook
   pub status_is : ended.status ≡ status_of (stops_of ended.bays.items)

@@ -40,7 +40,7 @@ where
     <L as Dial>::K: Send,
     ensures { IfOk result (RanAll
         (RanBay (bay_handles R.Routes L.Dial W.BatchSink H.BatchSink K.Clock Y.Diary D.Door D.C.Source D.C.ByteSink D.C.Conn.own))
-        (RanDrain W.BatchSink) (RanDrain H.BatchSink) roles) }
+        (RanDrain W.BatchSink K.Clock) (RanDrain H.BatchSink K.Clock) roles) }
 {
     run_roles(rt, alloc, roles)
 }

@@ -27,8 +27,8 @@ make_bays-requires-clause-counts g c =
     let o = c.args.options.now in
     let l = c.in_ok-log_side.log_side in
     let h = c.in_ok-hook_side.hook_side in (
-      lanes_count g.P.W.BatchSink (log_opens g.P.Plant.opens) c.args.settings.log o.bays o.buffer o.limits l.lanes.items l.drain c.in_ok-log_side.ensures.lanes ∙ sym c.requires.routes,
-      lanes_count g.P.H.BatchSink (hook_opens g.P.Plant.opens o.hook_url) c.args.settings.hook o.bays o.buffer o.limits h.lanes.items h.drain c.in_ok-hook_side.ensures.lanes ∙ sym c.requires.routes,
+      lanes_count g.P.W.BatchSink g.P.K.Clock (log_opens g.P.Plant.opens) c.args.settings.log o.bays o.buffer o.limits l.lanes.items l.drain c.in_ok-log_side.ensures.lanes ∙ sym c.requires.routes,
+      lanes_count g.P.H.BatchSink g.P.K.Clock (hook_opens g.P.Plant.opens o.hook_url) c.args.settings.hook o.bays o.buffer o.limits h.lanes.items h.drain c.in_ok-hook_side.ensures.lanes ∙ sym c.requires.routes,
     )
 
 pub make_bays-requires-clause-logs : goal.make_bays-requires-clause-logs
@@ -36,14 +36,14 @@ make_bays-requires-clause-logs g c = λ k.
     let o = c.args.options.now in
     let l = c.in_ok-log_side.log_side in
     subst (λ (z : Settings). IfSome (slice_get l.lanes.items k) (TakesLines k z.log)) (sym c.in_ok-shared.ensures.settings)
-    (lanes_take g.P.W.BatchSink (log_opens g.P.Plant.opens) c.args.settings.log o.bays o.buffer o.limits l.lanes.items l.drain c.in_ok-log_side.ensures.lanes k)
+    (lanes_take g.P.W.BatchSink g.P.K.Clock (log_opens g.P.Plant.opens) c.args.settings.log o.bays o.buffer o.limits l.lanes.items l.drain c.in_ok-log_side.ensures.lanes k)
 
 pub make_bays-requires-clause-hooks : goal.make_bays-requires-clause-hooks
 make_bays-requires-clause-hooks g c = λ k.
     let o = c.args.options.now in
     let h = c.in_ok-hook_side.hook_side in
     subst (λ (z : Settings). IfSome (slice_get h.lanes.items k) (TakesLines k z.hook)) (sym c.in_ok-shared.ensures.settings)
-    (lanes_take g.P.H.BatchSink (hook_opens g.P.Plant.opens o.hook_url) c.args.settings.hook o.bays o.buffer o.limits h.lanes.items h.drain c.in_ok-hook_side.ensures.lanes k)
+    (lanes_take g.P.H.BatchSink g.P.K.Clock (hook_opens g.P.Plant.opens o.hook_url) c.args.settings.hook o.bays o.buffer o.limits h.lanes.items h.drain c.in_ok-hook_side.ensures.lanes k)
 
 pub returns-clause-made : goal.returns-clause-made
 returns-clause-made g c =
@@ -70,14 +70,14 @@ returns-clause-made g c =
         made = join _ _ _ _ _ c.in_ok-shared.ensures.called (join _ _ _ _ _ lc.made (join _ _ _ _ _ hc.made bc));
       };
       count = sym (image_count log_lane bays) ∙ (ap length says.lanes.0
-          ∙ lanes_count g.P.W.BatchSink (log_opens g.P.Plant.opens) c.args.settings.log o.bays o.buffer o.limits l.lanes.items l.drain c.in_ok-log_side.ensures.lanes);
+          ∙ lanes_count g.P.W.BatchSink g.P.K.Clock (log_opens g.P.Plant.opens) c.args.settings.log o.bays o.buffer o.limits l.lanes.items l.drain c.in_ok-log_side.ensures.lanes);
       each = λ k.
           subst (λ q. IfSome (slice_get bays k) (λ role. IsNewBay h c.args.settings shared.boot (q k) k role)) due
           (subst (λ z. IfSome (slice_get bays k) (λ role. IsNewBay h z shared.boot ((g.P.Plant.tells c.hook_lanes.new.plant).due k) k role)) c.in_ok-shared.ensures.settings
           (says.new k));
       routes = says.routes;
-      log = subst (λ z. LanesFor g.P.W.BatchSink (log_opens g.P.Plant.opens) c.args.settings.log o.bays o.buffer o.limits z l.drain) (sym says.lanes.0) c.in_ok-log_side.ensures.lanes;
-      hook = subst (λ z. LanesFor g.P.H.BatchSink (hook_opens g.P.Plant.opens o.hook_url) c.args.settings.hook o.bays o.buffer o.limits z d.drain) (sym says.lanes.1) c.in_ok-hook_side.ensures.lanes;
+      log = subst (λ z. LanesFor g.P.W.BatchSink g.P.K.Clock (log_opens g.P.Plant.opens) c.args.settings.log o.bays o.buffer o.limits z l.drain) (sym says.lanes.0) c.in_ok-log_side.ensures.lanes;
+      hook = subst (λ z. LanesFor g.P.H.BatchSink g.P.K.Clock (hook_opens g.P.Plant.opens o.hook_url) c.args.settings.hook o.bays o.buffer o.limits z d.drain) (sym says.lanes.1) c.in_ok-hook_side.ensures.lanes;
     }
 
 pub returns-clause-cause : goal.returns-clause-cause

@@ -94,8 +94,8 @@ returns-clause-served g c =
     let hook = c.lanes_are_served-2.ensures.served (hook_opens g.P.Plant.opens o.hook_url) set.hook o.bays o.buffer o.limits (map hook_lane m.bays.items) hooks m.hook n.hook c.end_lanes-hook.result
     made.hook hook_pairs ran.hook c.end_lanes-hook.ensures.own c.end_lanes-hook.ensures.queue in
     run_served h set o g.P.Plant.opens (g.P.Plant.tells c.args.plant.now) (g.P.Plant.tells c.make_roles.new.plant) c.args.routes.items m n _ made c.in_ok-roles.ensures.cause ran parts.ends
-    (subst (λ z. SinkServed g.P.W.BatchSink (log_opens g.P.Plant.opens) set.log o.bays o.buffer o.limits z c.end_lanes-log.result) parts.logs log)
-    (subst (λ z. SinkServed g.P.H.BatchSink (hook_opens g.P.Plant.opens o.hook_url) set.hook o.bays o.buffer o.limits z c.end_lanes-hook.result) parts.hooks hook)
+    (subst (λ z. SinkServed g.P.W.BatchSink g.P.K.Clock (log_opens g.P.Plant.opens) set.log o.bays o.buffer o.limits z c.end_lanes-log.result) parts.logs log)
+    (subst (λ z. SinkServed g.P.H.BatchSink g.P.K.Clock (hook_opens g.P.Plant.opens o.hook_url) set.hook o.bays o.buffer o.limits z c.end_lanes-hook.result) parts.hooks hook)
     (c.status_of.ensures ∙ ap (λ q. status_of (stops_of q)) c.as_slice.ensures.value)
 
 pub returns-in_err-room-clause-stopped : goal.returns-in_err-room-clause-stopped
