@@ -16,6 +16,3 @@ mod pumped;
 pub use drainer::Drainer;
 pub use limits::Limits;
 pub use pumped::Pumped;
-
-#[cfg(test)]
-mod tests;

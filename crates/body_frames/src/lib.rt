@@ -20,6 +20,3 @@ pub use chunk::{chunk_frame, last_frame};
 pub use decoder::{Decoder, Fed};
 pub use frame::{BodyFault, Frame};
 pub use laws::{bodies_fit, decoded_bodies, first_bodies, refused_bodies, written_chunks};
-
-#[cfg(test)]
-mod tests;

@@ -15,6 +15,3 @@ mod ring_lane;
 pub use laws::rings_keep_their_parts;
 pub use making::ring;
 pub use ring_lane::RingLane;
-
-#[cfg(test)]
-mod tests;

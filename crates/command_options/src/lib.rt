@@ -27,6 +27,3 @@ pub use given::{Options, given_of, is_given, text_of, value_of};
 pub use laws::{both_spellings, clap_agrees, the_flag_is_one_word};
 pub use ranged::{Ranged, have_numbers, in_range, number_given};
 pub use table::{ValueKind, kind_of, options_for, sink_of};
-
-#[cfg(test)]
-mod tests;

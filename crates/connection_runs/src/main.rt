@@ -1,11 +1,13 @@
 //! Connections over ports in memory, over the files of this folder's `data`: what the clients get, what the backends are
-//! sent, what the log says and what the diary notes, on standard output, where it is compared byte by byte.
+//! sent, what the log says and what the diary notes, on standard output, where it is compared byte by byte; and then in which
+//! order exchanges call their ports.
 #![tactic(auto)]
 
 ghost use Rattle.std.specs.Prelude.{◌≡◌, false, IfSome};
 ghost use Rattle.audit_core.specs.declared.sinks.SinkMode.TheVariants.{Off};
 ghost use Rattle.event_offers.specs.Lanes.{is_batch};
 
+mod order;
 mod settings;
 mod told;
 
@@ -16,6 +18,7 @@ use front_base::{Bytes, Moment, NoMemory};
 use front_ports::{MemBytes, MemClock, MemConn, MemDial, MemLink, Script};
 use local_replies::LocalPaths;
 use log_sink::LogSink;
+use order::show_order;
 use session_core::{Bay, MemDiary, serve_connection};
 use settings::{routes_of, settings_of};
 use std::alloc::Global;
@@ -182,5 +185,8 @@ fn main(rt: HostRuntime) -> ExitCode {
             return ExitCode::from(1);
         };
     }
-    ExitCode::from(0)
+    match show_order(&rt) {
+        Some(()) => ExitCode::from(0),
+        None => ExitCode::from(1),
+    }
 }

@@ -28,6 +28,3 @@ pub use kind::{MOST_INTERIM, MOST_WHOLE_BYTES, whole_frame};
 pub use laws::{forwarded_heads_are_framed, the_door_says_who_asks};
 pub use link_exchange::{LinkAnswer, exchange};
 pub use target::Target;
-
-#[cfg(test)]
-mod tests;

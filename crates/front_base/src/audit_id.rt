@@ -74,27 +74,3 @@ pub fn audit_id_text(alloc: Global, id: AuditId) -> Result<Text, NoMemory>
     let mut buffer = Uuid::encode_buffer();
     Text::copy_of(alloc, spelled(id, &mut buffer))
 }
-
-#[cfg(test)]
-mod tests {
-    use super::*;
-    use std::test::Fail;
-
-    #[test]
-    fn spells_boot_bay_and_number(rt: HostRuntime) -> Result<(), Fail> {
-        let id = AuditId {
-            boot: 0x0123_4567_89ab_cdef,
-            bay: 1,
-            number: 2,
-        };
-        let text = audit_id_text(rt.alloc(), id)?;
-        assert_eq!(rt; text.as_str(), "01234567-89ab-cdef-0001-000000000002");
-        let mut out = b"id=".to_vec(rt.alloc())?;
-        push_audit_id(&mut out, id)?;
-        assert_eq!(rt;
-            out.as_slice(),
-            b"id=01234567-89ab-cdef-0001-000000000002".as_slice()
-        );
-        Ok(())
-    }
-}

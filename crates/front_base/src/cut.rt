@@ -9,20 +9,3 @@ pub fn cut_at(text: &str, at: char) -> Option<(&str, &str)>
 {
     text.split_once(at)
 }
-
-#[cfg(test)]
-mod tests {
-    use super::*;
-
-    #[test]
-    fn cuts_at_the_first(rt: HostRuntime) {
-        let cases = [
-            ("a=b=c", Some(("a", "b=c"))),
-            ("=", Some(("", ""))),
-            ("a-b", None),
-        ];
-        for (text, parts) in cases {
-            assert_eq!(rt; cut_at(text, '='), parts);
-        }
-    }
-}

@@ -49,21 +49,3 @@ pub fn slashes_are_trimmed()
     ensures start { (path : List ℕ) → spec.trimmed (47 ∷ path) ≡ spec.trimmed path }
     ensures end { (path : List ℕ) → spec.trimmed (path ++ 47 ∷ []) ≡ spec.trimmed path }
 {}
-
-#[cfg(test)]
-mod tests {
-    use super::*;
-
-    #[test]
-    fn trims_both_ends(rt: HostRuntime) {
-        let cases = [
-            ("/apis/", "apis"),
-            ("//apis//v1//", "apis//v1"),
-            ("/", ""),
-            ("", ""),
-        ];
-        for (path, text) in cases {
-            assert_eq!(rt; trim_slashes(path), text);
-        }
-    }
-}

@@ -41,23 +41,3 @@ impl Level {
         }
     }
 }
-
-#[cfg(test)]
-mod tests {
-    use super::*;
-
-    #[test]
-    fn names_are_those_of_the_api(rt: HostRuntime) {
-        let names = [
-            (Level::None, "None"),
-            (Level::Metadata, "Metadata"),
-            (Level::Request, "Request"),
-            (Level::RequestResponse, "RequestResponse"),
-        ];
-        for (level, name) in names {
-            assert_eq!(rt; level.name(), name);
-            assert_eq!(rt; Level::of_name(name), Some(level));
-        }
-        assert_eq!(rt; Level::of_name("metadata"), None);
-    }
-}

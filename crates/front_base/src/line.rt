@@ -43,22 +43,3 @@ impl Line {
         })
     }
 }
-
-#[cfg(test)]
-mod tests {
-    use super::*;
-    use std::test::Fail;
-
-    #[test]
-    fn a_copy_says_the_same(rt: HostRuntime) -> Result<(), Fail> {
-        let line = Line {
-            bay: 3,
-            number: 7,
-            bytes: Bytes::new(b"{}".to_vec(rt.alloc())?),
-        };
-        let copy = line.copy(rt.alloc())?;
-        assert_eq!(rt; (copy.bay, copy.number), (3, 7));
-        assert_eq!(rt; copy.bytes.as_slice(), b"{}".as_slice());
-        Ok(())
-    }
-}

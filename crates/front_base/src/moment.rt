@@ -211,30 +211,3 @@ pub fn moment_text(alloc: Global, moment: Moment) -> Result<Text, NoMemory>
         Err(_) => unreachable!(),
     }
 }
-
-#[cfg(test)]
-mod tests {
-    use super::*;
-    use std::test::Fail;
-
-    #[test]
-    fn spells_the_first_the_last_and_a_leap_day(rt: HostRuntime) -> Result<(), Fail> {
-        let cases = [
-            (0, "1970-01-01T00:00:00.000000Z"),
-            (951_782_399_999_999, "2000-02-28T23:59:59.999999Z"),
-            (951_782_400_000_000, "2000-02-29T00:00:00.000000Z"),
-            (1_735_689_600_123_456, "2025-01-01T00:00:00.123456Z"),
-            (253_370_764_799_999_999, "9998-12-31T23:59:59.999999Z"),
-        ];
-        for (micros, text) in cases {
-            let moment = Moment::new(micros).ok_or("a moment")?;
-            assert_eq!(rt; moment_text(rt.alloc(), moment)?.as_str(), text);
-            let mut out = Vec::new(rt.alloc());
-            push_moment(&mut out, moment)?;
-            assert_eq!(rt; out.as_slice(), text.as_bytes());
-        }
-        assert_eq!(rt; Moment::new(MOMENT_END), None);
-        assert_eq!(rt; Moment::epoch().micros(), 0);
-        Ok(())
-    }
-}

@@ -51,24 +51,3 @@ pub fn plain_number_of(most: u64, text: &[u8]) -> Option<u64>
         _ => None,
     }
 }
-
-#[cfg(test)]
-mod tests {
-    use super::*;
-
-    #[test]
-    fn reads_numbers_of_64_bits(rt: HostRuntime) {
-        let cases = [
-            ("0", Some(0)),
-            ("007", Some(7)),
-            ("18446744073709551615", Some(u64::MAX)),
-            ("18446744073709551616", None),
-            ("", None),
-            ("+7", None),
-            ("7 ", None),
-        ];
-        for (text, number) in cases {
-            assert_eq!(rt; number_of(text.as_bytes()), number);
-        }
-    }
-}

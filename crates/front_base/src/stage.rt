@@ -41,23 +41,3 @@ impl Stage {
         }
     }
 }
-
-#[cfg(test)]
-mod tests {
-    use super::*;
-
-    #[test]
-    fn names_are_those_of_the_api(rt: HostRuntime) {
-        let names = [
-            (Stage::RequestReceived, "RequestReceived"),
-            (Stage::ResponseStarted, "ResponseStarted"),
-            (Stage::ResponseComplete, "ResponseComplete"),
-            (Stage::Panic, "Panic"),
-        ];
-        for (stage, name) in names {
-            assert_eq!(rt; stage.name(), name);
-            assert_eq!(rt; Stage::of_name(name), Some(stage));
-        }
-        assert_eq!(rt; Stage::of_name("responsestarted"), None);
-    }
-}

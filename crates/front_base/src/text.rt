@@ -134,25 +134,3 @@ impl Texts {
         Ok(Texts(texts))
     }
 }
-
-#[cfg(test)]
-mod tests {
-    use super::*;
-    use std::test::Fail;
-
-    #[test]
-    fn gives_back_what_it_was_made_of(rt: HostRuntime) -> Result<(), Fail> {
-        let alloc = rt.alloc();
-        let text = Text::new(String::from_str(alloc, "pods")?);
-        assert_eq!(rt; text.as_str(), "pods");
-        let texts = Texts::new(vec![in alloc; text.copy(alloc)?]?).copy(alloc)?;
-        assert_eq!(rt; texts.as_slice().len(), 1);
-        for text in texts.into_vec() {
-            assert_eq!(rt; text.into_string().as_str(), "pods");
-        }
-        let bytes = Bytes::new(vec![in alloc; 0, 255]?);
-        assert_eq!(rt; bytes.copy(alloc)?.as_slice(), [0, 255].as_slice());
-        assert_eq!(rt; bytes.into_vec().as_slice(), [0, 255].as_slice());
-        Ok(())
-    }
-}

@@ -24,26 +24,3 @@ impl User {
         })
     }
 }
-
-#[cfg(test)]
-mod tests {
-    use super::*;
-    use std::test::Fail;
-
-    #[test]
-    fn a_copy_says_the_same(rt: HostRuntime) -> Result<(), Fail> {
-        let alloc = rt.alloc();
-        let user = User {
-            name: Text::copy_of(alloc, "ann")?,
-            uid: Text::copy_of(alloc, "7")?,
-            groups: Texts::new(vec![in alloc; Text::copy_of(alloc, "dev")?]?),
-        };
-        let copy = user.copy(alloc)?;
-        assert_eq!(rt; copy.name.as_str(), "ann");
-        assert_eq!(rt; copy.uid.as_str(), "7");
-        for group in copy.groups.as_slice() {
-            assert_eq!(rt; group.as_str(), "dev");
-        }
-        Ok(())
-    }
-}

@@ -147,29 +147,3 @@ pub fn versions_by_number()
     ensures alpha_minor { (a b : List ℕ) (m n l : ℕ) → IsAlpha a m n → IsAlpha b m l → l < n → spec.version_order a b ≡ Ordering.Less }
     ensures other { (a b : List ℕ) → IsOther a → IsOther b → spec.version_order a b ≡ slice_cmp nat_cmp a b }
 {}
-
-#[cfg(test)]
-mod tests {
-    use super::*;
-
-    #[test]
-    fn puts_the_version_to_prefer_first(rt: HostRuntime) {
-        let versions = [
-            "v10",
-            "v2",
-            "v1",
-            "v11beta2",
-            "v10beta3",
-            "v3beta1",
-            "v12alpha1",
-            "v11alpha2",
-            "foo1",
-            "foo10",
-        ];
-        for (i, a) in versions.iter().enumerate() {
-            for (j, b) in versions.iter().enumerate() {
-                assert_eq!(rt; compare_versions(a, b), i.cmp(&j));
-            }
-        }
-    }
-}

@@ -17,6 +17,3 @@ pub use command::{Command, ExplainWords};
 pub use fault::{FileFault, LoadFault, Which};
 pub use files::{Loaded, load};
 pub use words::read_words;
-
-#[cfg(test)]
-mod tests;

@@ -40,6 +40,3 @@ pub use mem_files::MemFiles;
 pub use mem_link::MemLink;
 pub use script::Script;
 pub use stream::{ByteSink, Conn, Link, PortFault, Source, write_all, write_counted};
-
-#[cfg(test)]
-mod tests;

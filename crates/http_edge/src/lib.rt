@@ -22,6 +22,3 @@ pub use wire_intake::MOST_HELD_BYTES;
 
 /// The most bytes that the body of a request may have.
 pub const MOST_BODY_BYTES: u64 = 3145728;
-
-#[cfg(test)]
-mod tests;

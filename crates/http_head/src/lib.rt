@@ -39,6 +39,3 @@ pub use written::{
     push_end, push_header, push_headers, push_reply, push_request, push_request_line,
     push_status_line, write_reply, write_request, written_heads_are_read_back,
 };
-
-#[cfg(test)]
-mod tests;

@@ -27,6 +27,3 @@ pub use laws::{compact_keeps_the_value, one_fault, one_value};
 pub use members::member;
 pub use quoted::{escape_from, push_quoted, quote};
 pub use text::check;
-
-#[cfg(test)]
-mod tests;

@@ -20,6 +20,3 @@ pub use floats::has_float;
 pub use head::head_fault;
 pub use members::{inner, is_text, present, text_in};
 pub use read::read_value;
-
-#[cfg(test)]
-mod tests;

@@ -13,6 +13,3 @@ mod log;
 
 pub use buffer::MOST_BUFFERED_BYTES;
 pub use log::LogSink;
-
-#[cfg(test)]
-mod tests;

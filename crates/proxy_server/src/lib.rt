@@ -29,6 +29,3 @@ pub use desk::run_desk;
 pub use ended::{Ended, Outcome, load_outcome, words_outcome};
 pub use status::Status;
 pub use system_files::SystemFiles;
-
-#[cfg(test)]
-mod tests;

@@ -18,6 +18,3 @@ mod usage;
 pub use json_place::{Position, json_stop, position_of};
 pub use refusal::Refusal;
 pub use text::refusal_text;
-
-#[cfg(test)]
-mod tests;

@@ -11,6 +11,3 @@ mod threads;
 
 pub use role::{Role, Roles};
 pub use threads::run_roles;
-
-#[cfg(test)]
-mod tests;

@@ -12,6 +12,3 @@ mod config;
 mod refused;
 
 pub use config::{ServeConfig, configure_serve};
-
-#[cfg(test)]
-mod tests;

@@ -21,6 +21,3 @@ pub use fault::ServeFault;
 pub use laws::{a_sink_is_off_where_it_has_no_name, the_limits_are_the_ports_own};
 pub use serve::{ServeWords, read_serve};
 pub use sinks::SinkWords;
-
-#[cfg(test)]
-mod tests;

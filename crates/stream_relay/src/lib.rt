@@ -20,6 +20,3 @@ pub use laws::{
     bodies_are_relayed_whole, bodies_end_one_way, clients_can_tell, no_byte_is_left_out,
 };
 pub use stream::{MOST_STREAMED_BYTES, Relayed, relay};
-
-#[cfg(test)]
-mod tests;

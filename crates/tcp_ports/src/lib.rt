@@ -35,6 +35,3 @@ pub use limits::{DEFAULT_LIMITS, TcpLimits};
 pub use link::TcpLink;
 pub use listener::SharedListener;
 pub use served_client::ServedClient;
-
-#[cfg(test)]
-mod tests;

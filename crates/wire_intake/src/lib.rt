@@ -15,6 +15,3 @@ mod intake;
 pub use block::{BlockStop, next_block};
 pub use body::{BodyStop, next_body};
 pub use intake::{Intake, MOST_HELD_BYTES, MOST_READ_BYTES, ReadStop};
-
-#[cfg(test)]
-mod tests;

@@ -1,0 +1,6 @@
+//! Tests of what `explain` writes at its desk, by public calls alone. They stand apart from those
+//! crates, which are not proved once more for them.
+#![tactic(auto)]
+
+#[cfg(test)]
+mod desk;

@@ -1,0 +1,10 @@
+//! Tests of the buffer of one bay, of the log and of batches, by public calls alone. They stand apart from those
+//! crates, which are not proved once more for them.
+#![tactic(auto)]
+
+#[cfg(test)]
+mod batches;
+#[cfg(test)]
+mod logs;
+#[cfg(test)]
+mod rings;

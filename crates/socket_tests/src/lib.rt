@@ -1,0 +1,6 @@
+//! Tests of ports over sockets of the loopback interface, by public calls alone. They stand apart from the
+//! crate that they are of, which is not proved once more for them.
+#![tactic(auto)]
+
+#[cfg(test)]
+mod sockets;
