@@ -1,0 +1,5 @@
+use Rattle.std.proofs.Common.{◌≡◌, ◌++◌, take, flat_map}
+use Rattle.rehearse_plan.proofs.files.push_parts.Given as goal
+
+abbrev pub invariant-loop-part : goal.invariant-loop-part
+invariant-loop-part l = l.text.items ≡ l.fn.text.items ++ flat_map (λ part. part.now) (take l.part-index l.parts)

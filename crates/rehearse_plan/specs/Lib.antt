@@ -1,0 +1,5 @@
+pub mod Files
+pub mod Kinds
+pub mod Requests
+pub mod Summary
+pub mod Words

@@ -1,0 +1,16 @@
+//! The command `rehearse`: a run of `serve` over a plant in memory, whose clients send the requests of a plan, and which is
+//! compared with that plan, request by request.
+//!
+//! The main contract is that of `run_rehearse`. Where it ends with status 0, the text that it wrote is the summary of the
+//! plan, as one thread works it out, whatever the threads did; the exchanges of each bay are those of its requests, in order
+//! (`Agrees`); and as many lines were written as there are events. `rehearse_agrees::rehearse` says besides that the run is one
+//! of `serve_runs::run_serve`, so that all laws of runs hold of it. `rehearse_setting` says what clients send, and which words and
+//! files the run begins with.
+//!
+//! Nothing is promised of when the status is 0: a run that doesn't agree with the plan ends with status 6, as one does that
+//! ran out of memory. That there is no such run is tested.
+#![tactic(auto)]
+
+mod command;
+
+pub use command::{Answer, MemEnded, Rehearsed, run_plan, run_rehearse};
