@@ -10,6 +10,7 @@ A front door for a Kubernetes cluster API.
 Commands:
   explain   prints the audit events that requests cause
   serve     serves a cluster API, and writes its audit events
+  rehearse  serves requests in memory by threads, and sums them up
 
 Exit status, with one line on standard error that names it and one that says
 what was refused:
@@ -113,4 +114,19 @@ Options, as --NAME=VALUE or --NAME VALUE; timeouts are in milliseconds:
   --exit-on-stdin-eof        an end of standard input ends it
 
 A file has at most 16777216 bytes.
+";
+
+pub const REHEARSE_HELP: &str = "\
+Usage: apiaggd rehearse START COUNT
+
+Serves COUNT requests by four bays in threads, whose clients, delegate and
+webhook are in memory, compares all that they did with what was planned, and
+prints how many requests were recorded at each level, how many events there
+were of each stage, and how many requests were answered each status.
+
+  START  the kind of the first request; the eight kinds follow one another
+  COUNT  how many requests: 1 to 20000
+
+Example:
+  apiaggd rehearse 1 20000
 ";

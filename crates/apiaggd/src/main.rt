@@ -3,16 +3,20 @@
 #![tactic(auto)]
 
 mod help;
+mod rehearse;
 mod serve;
 mod told;
 
-use help::{EXPLAIN_HELP, HELP, SERVE_HELP, VERSION};
+use help::{EXPLAIN_HELP, HELP, REHEARSE_HELP, SERVE_HELP, VERSION};
 use proxy_server::{Ended, ReaderSource, Status, SystemFiles, WriterSink, run_desk};
 use refusal_text::Refusal;
+use rehearse::rehearsed;
 use serve::{Opened, can_serve, open, status_of};
 use shared_runs::run_shared;
 use std::marker::Brand;
 use std::process::ExitCode;
+use std::sync::Wait;
+use std::thread::Threads;
 use std::{env, io};
 use tcp_plant::TcpPlant;
 use told::say_ended;
@@ -53,14 +57,17 @@ fn answer_to(words: &[String]) -> Option<&'static str> {
         [command, word] if command.as_str() == "serve" && word.as_str() == "--help" => {
             Some(SERVE_HELP)
         }
+        [command, word] if command.as_str() == "rehearse" && word.as_str() == "--help" => {
+            Some(REHEARSE_HELP)
+        }
         _ => None,
     }
 }
 
-// Whether a run over sockets is asked for.
-fn asks_to_serve(words: &[String]) -> bool {
+// Whether the words ask for that command, and for more than its help.
+fn asks_to(command: &str, words: &[String]) -> bool {
     match words {
-        [word, ..] => word.as_str() == "serve" && answer_to(words).is_none(),
+        [word, ..] => word.as_str() == command && answer_to(words).is_none(),
         [] => false,
     }
 }
@@ -91,14 +98,26 @@ fn finish(rt: &HostRuntime, words: &[String], ended: &Ended) -> ExitCode {
     ExitCode::from(ended.status)
 }
 
+// The commands that open no socket.
+fn run_in_memory<R: Threads + Wait + Copy + Send + Sync + Drop>(
+    host: &HostRuntime,
+    rt: &R,
+    words: &Vec<String>,
+) -> ExitCode {
+    if asks_to("rehearse", words.as_slice()) {
+        rehearsed(host, rt, words)
+    } else {
+        finish(host, words.as_slice(), &run(host, words))
+    }
+}
+
 fn main(rt: HostRuntime) -> ExitCode {
     let words = match words(&rt) {
         Ok(words) => words,
         Err(ended) => return finish(&rt, &[], &ended),
     };
-    if !asks_to_serve(words.as_slice()) {
-        let ended = run(&rt, &words);
-        return finish(&rt, words.as_slice(), &ended);
+    if !asks_to("serve", words.as_slice()) {
+        return run_in_memory(&rt, &rt, &words);
     }
     let ended = match open(&rt, &rt, &words) {
         Ok(opened) => {

@@ -1,0 +1,34 @@
+// The command `rehearse`, over this process's output.
+use proxy_server::{Status, WriterSink};
+use rehearse_plan::MOST_REHEARSED;
+use rehearse_runs::run_rehearse;
+use std::process::ExitCode;
+use std::sync::Wait;
+use std::thread::Threads;
+
+// The status's word, and what was refused.
+fn say_failed(host: &HostRuntime, status: Status, refused: Option<u64>) {
+    if let Some(word) = status.word() {
+        let _ = eprintln!(host; "apiaggd: {word}");
+    }
+    if status == Status::Usage {
+        let _ = eprintln!(host;
+            "rehearse: START and COUNT are two numbers. Try 'apiaggd rehearse --help'."
+        );
+    }
+    if let Some(count) = refused {
+        let _ = eprintln!(host; "COUNT {count}: not in 1..{MOST_REHEARSED}");
+    }
+}
+
+/// Serves requests in memory by threads, prints what they came to, and gives the status of the program.
+pub fn rehearsed<R: Threads + Wait + Copy + Send + Sync + Drop>(
+    host: &HostRuntime,
+    rt: &R,
+    words: &Vec<String>,
+) -> ExitCode {
+    let mut out = WriterSink::new(host.stdout());
+    let done = run_rehearse(rt, host.alloc(), words, &mut out).answer();
+    say_failed(host, done.status, done.refused);
+    ExitCode::from(done.status.code())
+}
