@@ -58,6 +58,17 @@ def long_head():
     return b"GET /api/v1/pods HTTP/1.1\r\n" + HEADERS + line * (63400 // len(line)) + b"\r\n"
 
 
+def audit_line(size):
+    """The line of an audit event with a request object, of that size."""
+    event = {"kind": "Event", "apiVersion": "audit.k8s.io/v1", "level": "Request",
+             "auditID": "00000000-0000-0000-0000-000000000001", "stage": "ResponseComplete",
+             "requestURI": "/api/v1/namespaces/a/configmaps", "verb": "create", "user": {"username": "ann"},
+             "responseStatus": {"metadata": {}, "code": 201}, "requestObject": {"data": ""}}
+    empty = len(json.dumps(event, separators=(",", ":")))
+    event["requestObject"]["data"] = "x" * (size - empty)
+    return json.dumps(event, separators=(",", ":")).encode()
+
+
 def tokens():
     """The option of a token file of 1,000 users."""
     return {"token-auth-file": "".join(f'token-{i},user-{i},{i},"dev,ops"\n' for i in range(1000))}

@@ -7,13 +7,13 @@ import subprocess
 import sys
 
 TOP = os.path.dirname(os.path.dirname(os.path.abspath(__file__)))
-CRATE = os.path.join(TOP, "crates", "front_bench")
-PROGRAM = os.path.join(CRATE, "out", "front_bench")
+CRATES = os.path.join(TOP, "crates")
+PROGRAM = os.path.join(CRATES, "front_bench", "out", "front_bench")
 
 
-def build():
-    """Proves and builds the program, where that wasn't done yet."""
-    built = subprocess.run(["rt", "run", "--", "check", "0"], cwd=CRATE, stdin=subprocess.DEVNULL,
+def build(crate="front_bench", words_of_none=("check", "0")):
+    """Proves and builds the program, where that wasn't done yet. It is run by words that ask for nothing."""
+    built = subprocess.run(["rt", "run", "--", *words_of_none], cwd=os.path.join(CRATES, crate), stdin=subprocess.DEVNULL,
                            stdout=subprocess.PIPE, stderr=subprocess.STDOUT)
     if built.returncode != 0:
         sys.exit(built.stdout.decode())
