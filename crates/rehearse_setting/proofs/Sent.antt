@@ -1,5 +1,5 @@
 -- What is due to bays, by the doors that were made for them.
-use Rattle.std.proofs.Common.{◌≡◌, ◌<◌, ℕ, List, [], ◌∷◌, ◌++◌, length, slice_get, IfSome, IfOk, Option, Result, Ok, Err, All, subst, sym, ap, ◌∙◌, arith}
+use Rattle.std.proofs.Common.{◌≡◌, ◌<◌, ℕ, List, [], ◌∷◌, ◌++◌, length, slice_get, IfSome, Option, All, subst, sym, ap, ◌∙◌, arith}
 use Rattle.std.specs.Prelude.{option_map}
 use Rattle.std.proofs.lemmas.List.Elements.{All-append, All-cons, All-nil}
 use Rattle.front_ports.specs.MemoryDoor.{door_left}
@@ -25,7 +25,3 @@ is_due start count bays doors due e h d bay lt =
       (d bay ∙ ap (option_map door_left) s.1),
       subst (λ o. IfSome o (λ door. IsSent start count bays bay (door_left door))) s.1 (h bay),
     )
-
-pub on_ok : {A E : Type 0} (P Q : A → Type 0) (r : Result A E) → ((a : A) → P a → Q a) → IfOk r P → IfOk r Q
-on_ok P Q (Ok a) f h = f a h
-on_ok P Q (Err e) f h = tt
