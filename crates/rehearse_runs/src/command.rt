@@ -5,6 +5,7 @@ ghost use Rattle.proxy_server.specs.Ports.{port};
 ghost use Rattle.session_core.specs.Diaries.{noted};
 ghost use Rattle.rehearse_agrees.specs.Agrees.{Agrees};
 ghost use Rattle.rehearse_runs.specs.Outcome.{Ends, PlanEnds};
+ghost use Rattle.rehearse_runs.specs.Served.{WasServed};
 
 use apiservice_table::TableRoutes;
 use front_base::{MOST_LINE_BYTES, NoMemory};
@@ -82,7 +83,8 @@ fn ran<R: Threads + Wait + Copy + Send + Sync + Drop>(
     alloc: Global,
     plan: Rehearsal,
 ) -> Result<MemEnded, NoMemory>
-    ensures { IfOk result (Agrees noted plan.start plan.count plan.bays) }
+    ensures served { IfOk result (WasServed R plan.bays (asked_by plan)) }
+    ensures agrees { IfOk result (Agrees noted plan.start plan.count plan.bays) }
 {
     let Setting { config, routes } = setting_of(alloc, plan)?;
     let ServeConfig { words, loaded } = config;
@@ -102,7 +104,7 @@ pub fn run_plan<R: Threads + Wait + Copy + Send + Sync + Drop, O: ByteSink>(
     plan: Rehearsal,
     out: &mut O,
 ) -> Rehearsed
-    ensures { PlanEnds plan.bays (asked_by plan)
+    ensures { PlanEnds R plan.bays (asked_by plan)
         (port (O.written out.old) (O.write_faults out.old) (O.written out.new) (O.write_faults out.new))
         result.ended result.status }
 {
@@ -132,7 +134,7 @@ pub fn run_rehearse<R: Threads + Wait + Copy + Send + Sync + Drop, O: ByteSink>(
     words: &Vec<String>,
     out: &mut O,
 ) -> Rehearsed
-    ensures { Ends (rehearsal_of (map string_bytes words.now.items))
+    ensures { Ends R (rehearsal_of (map string_bytes words.now.items))
         (port (O.written out.old) (O.write_faults out.old) (O.written out.new) (O.write_faults out.new))
         result.ended result.refused result.status }
 {

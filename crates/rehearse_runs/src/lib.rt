@@ -3,9 +3,9 @@
 //!
 //! The main contract is that of `run_rehearse`. Where it ends with status 0, the text that it wrote is the summary of the
 //! plan, as one thread works it out, whatever the threads did; the exchanges of each bay are those of its requests, in order
-//! (`Agrees`); and as many lines were written as there are events. `rehearse_agrees::rehearse` says besides that the run is one
-//! of `serve_runs::run_serve`, so that all laws of runs hold of it. `rehearse_setting` says what clients send, and which words and
-//! files the run begins with.
+//! (`Agrees`); and as many lines were written as there are events. The run that is left is one of `serve_runs::run_serve`, so that
+//! all laws of runs hold of it (`WasServed`): by the settings and options that the words and files of a rehearsal state, with routes
+//! that begin with their APIServices, and over a plant by which each bay is due the connection that sends its requests.
 //!
 //! Nothing is promised of when the status is 0: a run that doesn't agree with the plan ends with status 6, as one does that
 //! ran out of memory. That there is no such run is tested.
