@@ -1,5 +1,4 @@
-//! Tests of what is sent on and of replies that stream, by public calls alone. They stand apart from those
-//! crates, which are not proved once more for them.
+//! Tests of links that fail, by public calls alone. Those that don't are cases of `cases_link`.
 #![tactic(auto)]
 
 #[cfg(test)]

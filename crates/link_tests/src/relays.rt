@@ -1,198 +1,76 @@
-use body_frames::{Decoder, Frame};
-use front_base::Bytes;
+use body_frames::Frame;
+use case_rows::{fields, spelled};
+use front_base::{Bytes, NoMemory};
 use front_ports::{MemBytes, MemLink, Script};
-use std::alloc::{AllocError, Global};
+use std::alloc::Global;
 use std::test::Fail;
-use stream_relay::{Keep, MOST_KEPT_BYTES, Relayed, relay};
+use stream_relay::{Keep, relay};
 
-// A frame, an input in which `/` stands for CR LF, how its relay ends, and the body that the client gets.
-const CASES: &str = "chunked|5/hello/0//|Done|hello
-chunked|2/he/3;x=y/llo/0//GET|Done|hello
-chunked|0//|Done|
-chunked|5/hello/0/|BackendCut|hello
-chunked|5/hello/|BackendCut|hello
-chunked|5/hel|BackendCut|hel
-chunked|5|BackendCut|
-chunked||BackendCut|
-chunked|2/abX|BackendCut|ab
-chunked|2/ab/0/X: y//|BackendCut|ab
-chunked|8000000000000001/|StreamSpent|
-chunked|1/a/8000000000000000/|StreamSpent|a
-five|hello|Done|hello
-five|helloGET|Done|hello
-five|hell|BackendCut|hell
-over|hello|StreamSpent|
-close|hello|Done|hello
-close||Done|
-none|GET|Done|";
-
-fn input_of(alloc: Global, text: &str) -> Result<Vec<u8>, AllocError> {
-    let mut input = Vec::new(alloc);
-    for byte in text.as_bytes() {
-        if *byte == b'/' {
-            input.extend_from_slice(b"\r\n")?;
-        } else {
-            input.push(*byte)?;
-        }
+// The number of a call that fails, or none.
+fn fails_of(alloc: Global, word: &str) -> Vec<u64> {
+    let mut fails = Vec::new(alloc);
+    if let Ok(number) = word.parse() {
+        let _ = fails.push(number);
     }
-    Ok(input)
+    fails
 }
 
-fn frame_of(word: &str) -> Frame {
-    match word {
-        "none" => Frame::NoBody,
-        "five" => Frame::Length(5),
-        "over" => Frame::Length(u64::MAX),
-        "chunked" => Frame::Chunked,
-        _ => Frame::Close,
+// A link that gives two bytes at a time.
+fn link_of(alloc: Global, fails: Vec<u64>) -> Result<MemLink, NoMemory> {
+    let input = Bytes::new(b"hello".to_vec(alloc)?);
+    let sizes = vec![in alloc; 2; 40]?;
+    MemLink::new(
+        alloc,
+        Script {
+            input,
+            room: 0,
+            sizes,
+            read_fails: fails,
+            write_fails: Vec::new(alloc),
+        },
+    )
+}
+
+fn relayed(alloc: Global, link: MemLink, conn: MemBytes) -> String {
+    let mut link = link;
+    let mut conn = conn;
+    let mut keep = Keep::new(alloc, false);
+    let answer = relay(
+        alloc,
+        &mut link,
+        Frame::Close,
+        b"",
+        &mut conn,
+        false,
+        &mut keep,
+    );
+    let sent = spelled(alloc, conn.bytes());
+    let kept = keep.body();
+    match format!(in alloc; "{answer:?} {sent} {kept:?}") {
+        Ok(text) => text,
+        Err(_) => String::new(alloc),
     }
 }
 
-// A link whose reads give so many bytes at most, of which those of these numbers fail.
-fn link_of(alloc: Global, input: &[u8], size: u32, fails: &[u64]) -> Result<MemLink, Fail> {
-    let script = Script {
-        input: Bytes::new(input.to_vec(alloc)?),
-        room: 0,
-        sizes: vec![in alloc; size; 40]?,
-        read_fails: fails.to_vec(alloc)?,
-        write_fails: Vec::new(alloc),
-    };
-    Ok(MemLink::new(alloc, script)?)
+fn relayed_by(alloc: Global, reads: &str, writes: &str) -> String {
+    let conn = MemBytes::new(alloc, 1000, fails_of(alloc, writes));
+    match (link_of(alloc, fails_of(alloc, reads)), conn) {
+        (Ok(link), Ok(conn)) => relayed(alloc, link, conn),
+        _ => String::new(alloc),
+    }
 }
 
-// What a client reads: the body, and whether it is whole where it comes in chunks.
-fn read_by_client(alloc: Global, chunked: bool, bytes: &[u8]) -> Result<(Vec<u8>, bool), Fail> {
-    let mut body = Vec::new(alloc);
-    if !chunked {
-        body.extend_from_slice(bytes)?;
-        return Ok((body, true));
-    }
-    let mut decoder = Decoder::new(Frame::Chunked, 1000);
-    let mut at = 0usize;
-    for _ in 0..40 {
-        let rest = bytes.get(at..).unwrap_or_default();
-        let fed = decoder.feed(rest).ok().ok_or("no chunk")?;
-        body.extend_from_slice(rest.get(fed.from..fed.to).unwrap_or_default())?;
-        at = at.saturating_add(fed.taken);
-    }
-    Ok((body, decoder.is_done()))
-}
+// The read that fails, or the write, and what comes of the relay: where one fails, the pieces before it went out whole.
+const FAULTS: &str = r"3 | - | Ok(BackendCut) 2\r\nhe\r\n2\r\nll\r\n None
+- | 2 | Ok(WriteFault) 2\r\nhe\r\n None
+- | 4 | Ok(WriteFault) 2\r\nhe\r\n2\r\nll\r\n1\r\no\r\n None";
 
 #[test]
-fn bodies_are_relayed_however_they_are_cut(rt: HostRuntime) -> Result<(), Fail> {
-    let alloc = rt.alloc();
-    for line in CASES.lines() {
-        let (word, rest) = line.split_once('|').ok_or("a frame")?;
-        let (text, rest) = rest.split_once('|').ok_or("an input")?;
-        let (end, body) = rest.split_once('|').ok_or("an end")?;
-        let input = input_of(alloc, text)?;
-        let frame = frame_of(word);
-        for cut in 0..input.len().saturating_add(1) {
-            for (size, old_client) in [
-                (1, false),
-                (3, false),
-                (500, false),
-                (1, true),
-                (500, true),
-            ] {
-                let (first, after) = input.split_at(cut.min(input.len()));
-                let mut link = link_of(alloc, after, size, &[])?;
-                let mut conn = MemBytes::new(alloc, 1000, Vec::new(alloc))?;
-                let mut keep = Keep::new(alloc, true);
-                let answer = relay(
-                    alloc, &mut link, frame, first, &mut conn, old_client, &mut keep,
-                )?;
-                assert_eq!(rt;
-                    format!(in alloc; "{answer:?}")?.as_str(),
-                    end,
-                    "{line} cut at {cut}"
-                );
-                let chunked = !old_client && (word == "chunked" || word == "close");
-                let (got, whole) = read_by_client(alloc, chunked, conn.bytes())?;
-                assert_eq!(rt; got.as_slice(), body.as_bytes(), "{line} cut at {cut}");
-                assert_eq!(rt;
-                    whole,
-                    !chunked || answer == Relayed::Done,
-                    "{line} cut at {cut}"
-                );
-                assert_eq!(rt; keep.body(), Some(body.as_bytes()), "{line} cut at {cut}");
-            }
-        }
+fn pieces_before_a_fault_go_out_whole(rt: HostRuntime) {
+    for line in FAULTS.lines() {
+        let (reads, rest) = fields(line);
+        let (writes, wanted) = fields(rest);
+        let text = relayed_by(rt.alloc(), reads, writes);
+        assert_eq!(rt; text.as_str(), wanted, "{line}");
     }
-    Ok(())
-}
-
-// Each piece is one write, made when it came: where a write fails, or a read, those before it went out whole.
-#[test]
-fn a_piece_is_one_write(rt: HostRuntime) -> Result<(), Fail> {
-    let alloc = rt.alloc();
-    let cases = "|| Done 2/he/2/ll/1/o/0//
-3|| BackendCut 2/he/2/ll/
-|2| WriteFault 2/he/
-|4| WriteFault 2/he/2/ll/1/o/";
-    for line in cases.lines() {
-        let (faults, rest) = line.split_once(' ').ok_or("an end")?;
-        let (end, text) = rest.split_once(' ').ok_or("a text")?;
-        let (reads, writes) = faults.split_once('|').ok_or("faults")?;
-        let mut read_fails = Vec::new(alloc);
-        if let Ok(number) = reads.parse::<u64>() {
-            read_fails.push(number)?;
-        }
-        let mut write_fails = Vec::new(alloc);
-        if let Ok(number) = writes.trim_end_matches('|').parse::<u64>() {
-            write_fails.push(number)?;
-        }
-        let mut link = link_of(alloc, b"hello", 2, read_fails.as_slice())?;
-        let mut conn = MemBytes::new(alloc, 1000, write_fails)?;
-        let mut keep = Keep::new(alloc, false);
-        let answer = relay(
-            alloc,
-            &mut link,
-            Frame::Close,
-            b"",
-            &mut conn,
-            false,
-            &mut keep,
-        )?;
-        assert_eq!(rt; format!(in alloc; "{answer:?}")?.as_str(), end, "{line}");
-        assert_eq!(rt; conn.bytes(), input_of(alloc, text)?.as_slice(), "{line}");
-        assert_eq!(rt; keep.body(), None, "{line}");
-    }
-    Ok(())
-}
-
-#[test]
-fn a_body_that_is_long_is_not_kept(rt: HostRuntime) -> Result<(), Fail> {
-    let alloc = rt.alloc();
-    for (size, is_kept) in [
-        (MOST_KEPT_BYTES, true),
-        (MOST_KEPT_BYTES.saturating_add(1), false),
-    ] {
-        let input = vec![in alloc; b'a'; size as usize]?;
-        let mut link = MemLink::new(
-            alloc,
-            Script {
-                input: Bytes::new(input),
-                room: 0,
-                sizes: Vec::new(alloc),
-                read_fails: Vec::new(alloc),
-                write_fails: Vec::new(alloc),
-            },
-        )?;
-        let mut conn = MemBytes::new(alloc, size, Vec::new(alloc))?;
-        let mut keep = Keep::new(alloc, true);
-        let answer = relay(
-            alloc,
-            &mut link,
-            Frame::Length(size),
-            b"",
-            &mut conn,
-            false,
-            &mut keep,
-        )?;
-        assert_eq!(rt; answer, Relayed::Done);
-        assert_eq!(rt; keep.total(), size);
-        assert_eq!(rt; keep.body().is_some(), is_kept);
-    }
-    Ok(())
 }

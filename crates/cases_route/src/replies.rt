@@ -1,0 +1,124 @@
+// Local paths, and the replies to requests on them.
+use crate::fixtures::object;
+use apiservice_table::{Change, TableRoutes};
+use case_rows::{bytes_of, fields};
+use front_base::{Info, NoMemory, Text, Texts, User};
+use local_replies::{Local, LocalPaths, LocalReply, refusal, serve_local, status_reply};
+use std::alloc::Global;
+
+/// Shows which local path a path is. The case is the path between quotes.
+pub fn show_path(rt: &HostRuntime, paths: &LocalPaths, row: &str) {
+    let local = paths.local(rt.alloc(), row.trim_matches('"'));
+    let _shown = println!(rt; "{local:?}");
+}
+
+// Shows the status, the media type and the body of a reply.
+fn show_reply(rt: &HostRuntime, reply: &LocalReply) {
+    let body = str::from_utf8(reply.body.as_slice()).unwrap_or("no text");
+    let _shown = println!(rt; "{} {} {body}", reply.status, reply.content.media_type());
+}
+
+fn show_answer(rt: &HostRuntime, answer: Result<LocalReply, NoMemory>) {
+    if let Ok(reply) = &answer {
+        show_reply(rt, reply);
+    }
+}
+
+/// Shows the refusal of a code.
+pub fn show_refusal(rt: &HostRuntime, row: &str) {
+    show_answer(rt, refusal(rt.alloc(), row.parse().unwrap_or(0)));
+}
+
+/// Shows the refusal of a code with a reason and a message of its own.
+pub fn show_status(rt: &HostRuntime, row: &str) {
+    let (code, rest) = fields(row);
+    let (reason, message) = fields(rest);
+    show_answer(
+        rt,
+        status_reply(rt.alloc(), code.parse().unwrap_or(0), reason, message),
+    );
+}
+
+fn text(alloc: Global, text: &str) -> Text {
+    match Text::copy_of(alloc, text) {
+        Ok(text) => text,
+        Err(_) => Text::new(String::new(alloc)),
+    }
+}
+
+fn empty(alloc: Global) -> Text {
+    Text::new(String::new(alloc))
+}
+
+// A user of one group.
+fn of_group(alloc: Global, group: &str) -> User {
+    let groups = match vec![in alloc; text(alloc, group)] {
+        Ok(groups) => groups,
+        Err(_) => Vec::new(alloc),
+    };
+    User {
+        name: empty(alloc),
+        uid: empty(alloc),
+        groups: Texts::new(groups),
+    }
+}
+
+// What a request asks for, by its verb.
+fn asked(alloc: Global, verb: &str) -> Info {
+    Info {
+        resource_request: true,
+        path: empty(alloc),
+        verb: text(alloc, verb),
+        group: empty(alloc),
+        version: empty(alloc),
+        namespace: empty(alloc),
+        resource: empty(alloc),
+        subresource: empty(alloc),
+        name: empty(alloc),
+    }
+}
+
+// Shows the change that was made, if one was.
+fn show_made(rt: &HostRuntime, change: &Option<Change>) {
+    let _shown = match change {
+        None => println!(rt; "    no change"),
+        Some(Change::Create(row)) => println!(rt; "    create {}", row.name.as_str()),
+        Some(Change::Replace(row)) => println!(rt; "    replace {}", row.name.as_str()),
+        Some(Change::Delete(name)) => println!(rt; "    delete {}", name.as_str()),
+    };
+}
+
+// Serves a request with the verb, the method and the body of a case, and shows the reply and the change that was made.
+fn show_served(rt: &HostRuntime, routes: &mut TableRoutes, local: &Local, user: &User, asks: &str) {
+    let alloc = rt.alloc();
+    let (verb, rest) = fields(asks);
+    let (method, group) = fields(rest);
+    let info = asked(alloc, verb);
+    let body = object(alloc, "v1", group);
+    if let Ok((reply, change)) = serve_local(
+        alloc,
+        local,
+        &info,
+        method,
+        body.as_bytes(),
+        user,
+        routes,
+    ) {
+        show_reply(rt, &reply);
+        show_made(rt, &change);
+    }
+}
+
+/// Shows the reply to a request, and the change that was made. The case is a path, the group of the user, the verb, the
+/// method, and the group of the object in the body.
+pub fn show_request(rt: &HostRuntime, paths: &LocalPaths, routes: &mut TableRoutes, row: &str) {
+    let alloc = rt.alloc();
+    let (path, rest) = fields(row);
+    let (group, asks) = fields(rest);
+    match paths.local(alloc, path) {
+        Ok(Some(local)) => show_served(rt, routes, &local, &of_group(alloc, group), asks),
+        _ => {
+            let _shown = println!(rt; "not local");
+        }
+    }
+}
