@@ -27,6 +27,3 @@ pub use laws::{
 pub use making::{MOST_ALLOTTED, MOST_LANES, make_queue};
 pub use outlet::QueueOutlet;
 pub use queue_end::QueueEnd;
-
-#[cfg(test)]
-mod tests;

@@ -1,41 +1,25 @@
+use crate::words::{add, letters};
 use batch_backend::{Drainer, Limits};
 use bounded_buffer::{RingLane, ring};
-use front_base::{Bytes, Line, Moment, NoMemory};
+use front_base::{Line, Moment, NoMemory};
 use front_ports::MemBytes;
 use log_sink::LogSink;
 use std::alloc::Global;
 use std::test::Fail;
 use truncate_backend::{Lane, MemNotes, NoNotes, Offer, TryAnswer, TryNote};
 
-// A line of this letter, so many times.
-fn line(alloc: Global, letter: u8, length: usize) -> Result<Line, NoMemory> {
-    let mut bytes = Vec::with_capacity(alloc, length)?;
-    for _ in 0..length {
-        bytes.push(letter)?;
-    }
-    if bytes.len() > 4_194_304 {
-        return Err(NoMemory);
-    }
-    Ok(Line {
-        bay: 0,
-        number: 0,
-        bytes: Bytes::new(bytes),
-    })
+// Offers a line to a ring that has room for it.
+fn fill(held: &mut RingLane, line: Line) {
+    let _taken = held.offer(line);
 }
 
-fn moment(micros: u64) -> Result<Moment, Fail> {
-    Ok(Moment::new(micros).ok_or("a moment")?)
-}
-
-// A ring with these lines.
-fn ring_of(alloc: Global, lines: Vec<Line>) -> Result<RingLane, Fail> {
-    let mut held = ring(alloc, 16, 16, 10_000)?;
-    for line in lines {
-        if !matches!(held.offer(line), Offer::Taken) {
-            return Err("full".into());
-        }
-    }
-    Ok(held)
+// A log with room for 10,000 bytes.
+fn plain_log(alloc: Global) -> Result<LogSink<MemBytes, NoNotes>, NoMemory> {
+    LogSink::start(
+        alloc,
+        MemBytes::new(alloc, 10_000, Vec::new(alloc))?,
+        NoNotes,
+    )
 }
 
 const LIMITS: Limits = Limits {
@@ -53,26 +37,48 @@ const PUMPS: &str = "400 100 100 @ 0 0 0 0 = Wrote(1) Took Wrote(2) Idle
 299 1 @ 5 1005 1005 = Took Wrote(1) Took
 ";
 
+// What a pump at this moment does.
+fn pump(
+    alloc: Global,
+    own: &mut String,
+    (held, log, drainer): (&mut RingLane, &mut LogSink<MemBytes, NoNotes>, &mut Drainer),
+    at: &str,
+) {
+    let Some(now) = at.parse().ok().and_then(Moment::new) else {
+        return;
+    };
+    let answer = drainer.pump(held, log, now);
+    if let Ok(text) = format!(in alloc; " {answer:?}") {
+        add(own, &text);
+    }
+}
+
 // What pumps at these moments do with lines of these lengths.
-fn pumps(alloc: Global, lengths: &str, moments: &str) -> Result<String, Fail> {
-    let mut lines = Vec::new(alloc);
+fn pumps(alloc: Global, own: &mut String, lengths: &str, moments: &str) {
+    let (Ok(mut held), Ok(mut log), Ok(mut drainer)) = (
+        ring(alloc, 16, 16, 10_000),
+        plain_log(alloc),
+        Drainer::start(alloc, LIMITS),
+    ) else {
+        return;
+    };
     for length in lengths.split(' ') {
-        lines.push(line(alloc, b'x', length.parse().map_err(|_| "a length")?)?)?;
+        fill(&mut held, letters(alloc, b'x', length.parse().unwrap_or(0)));
     }
-    let mut held = ring_of(alloc, lines)?;
-    let mut log = LogSink::start(
-        alloc,
-        MemBytes::new(alloc, 10_000, Vec::new(alloc))?,
-        NoNotes,
-    )?;
-    let mut drainer = Drainer::start(alloc, LIMITS)?;
-    let mut did = String::new(alloc);
     for at in moments.split(' ') {
-        let now = moment(at.parse().map_err(|_| "a moment")?)?;
-        let answer = drainer.pump(&mut held, &mut log, now);
-        did.push_str(format!(in alloc; " {answer:?}")?.as_str())?;
+        pump(alloc, own, (&mut held, &mut log, &mut drainer), at);
     }
-    Ok(did)
+}
+
+// A row, and what its pumps do.
+fn add_row(alloc: Global, own: &mut String, row: &str) {
+    let given = row.split_once(" =").map_or(row, |parts| parts.0);
+    add(own, given);
+    add(own, " =");
+    if let Some((lengths, moments)) = given.split_once(" @ ") {
+        pumps(alloc, own, lengths, moments);
+    }
+    add(own, "\n");
 }
 
 #[test]
@@ -80,10 +86,7 @@ fn each_pump_does_the_first_rule_that_applies(rt: HostRuntime) -> Result<(), Fai
     let alloc = rt.alloc();
     let mut own = String::new(alloc);
     for row in PUMPS.lines() {
-        let (given, _) = row.split_once(" =").ok_or("a row")?;
-        let (lengths, moments) = given.split_once(" @ ").ok_or("moments")?;
-        let did = pumps(alloc, lengths, moments)?;
-        own.push_str(format!(in alloc; "{given} ={}\n", did.as_str())?.as_str())?;
+        add_row(alloc, &mut own, row);
     }
     assert_eq!(rt; own.as_str(), PUMPS);
     Ok(())
@@ -97,19 +100,33 @@ fn note(lines: u32, sent: u64, answer: TryAnswer) -> TryNote {
     }
 }
 
+// A log with room for 100 bytes, whose second write fails.
+fn failing_log(alloc: Global) -> Result<LogSink<MemBytes, MemNotes>, NoMemory> {
+    let out = MemBytes::new(alloc, 100, vec![in alloc; 2]?)?;
+    LogSink::start(alloc, out, MemNotes::new(alloc, 9, 9, 100)?)
+}
+
+// Flushes lines of the letters `a` to `e`: how many were written, and how many were not.
+fn flush(
+    alloc: Global,
+    log: &mut LogSink<MemBytes, MemNotes>,
+    now: Moment,
+) -> Result<(u64, u64), NoMemory> {
+    let mut drainer = Drainer::start(alloc, LIMITS)?;
+    let mut held = ring(alloc, 16, 16, 10_000)?;
+    for letter in b'a'..=b'e' {
+        fill(&mut held, letters(alloc, letter, 3));
+    }
+    Ok(drainer.flush_all(&mut held, log, now))
+}
+
 // The second of three writes fails, so the lines of the second try are lost, and are not written behind newer ones.
 #[test]
 fn a_flush_puts_each_line_once(rt: HostRuntime) -> Result<(), Fail> {
     let alloc = rt.alloc();
-    let mut lines = Vec::new(alloc);
-    for letter in b'a'..=b'e' {
-        lines.push(line(alloc, letter, 3)?)?;
-    }
-    let mut held = ring_of(alloc, lines)?;
-    let out = MemBytes::new(alloc, 100, vec![in alloc; 2]?)?;
-    let mut log = LogSink::start(alloc, out, MemNotes::new(alloc, 9, 9, 100)?)?;
-    let mut drainer = Drainer::start(alloc, LIMITS)?;
-    let answer = drainer.flush_all(&mut held, &mut log, moment(7)?);
+    let now = Moment::new(7).ok_or("a moment")?;
+    let mut log = failing_log(alloc)?;
+    let answer = flush(alloc, &mut log, now)?;
     assert_eq!(rt; answer, (3, 2));
     assert_eq!(rt; log.out().bytes(), b"aaa\nbbb\neee\n".as_slice());
     let notes = [

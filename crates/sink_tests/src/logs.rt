@@ -1,4 +1,5 @@
-use front_base::{Bytes, Line, NoMemory};
+use crate::words::letters;
+use front_base::{Line, NoMemory};
 use front_ports::MemBytes;
 use log_sink::LogSink;
 use std::alloc::Global;
@@ -7,24 +8,8 @@ use truncate_backend::{
     BatchSink, Lane, MemNotes, NoNotes, Offer, OwnLane, SinkFault, TryAnswer, TryNote,
 };
 
-// A line of one letter, so many times.
-fn line(alloc: Global, letter: u8, length: usize) -> Result<Line, NoMemory> {
-    let mut bytes = Vec::with_capacity(alloc, length)?;
-    for _ in 0..length {
-        bytes.push(letter)?;
-    }
-    if bytes.len() > 4_194_304 {
-        return Err(NoMemory);
-    }
-    Ok(Line {
-        bay: 0,
-        number: 0,
-        bytes: Bytes::new(bytes),
-    })
-}
-
-fn two(alloc: Global, first: usize, second: usize) -> Result<[Line; 2], NoMemory> {
-    Ok([line(alloc, b'a', first)?, line(alloc, b'b', second)?])
+fn two(alloc: Global, first: usize, second: usize) -> [Line; 2] {
+    [letters(alloc, b'a', first), letters(alloc, b'b', second)]
 }
 
 // A log with room for 1,000,000 bytes, whose writes of these numbers fail.
@@ -50,7 +35,7 @@ fn each_line_has_a_line_feed(rt: HostRuntime) -> Result<(), Fail> {
     let alloc = rt.alloc();
     let out = MemBytes::new(alloc, 100, Vec::new(alloc))?;
     let mut log = LogSink::start(alloc, out, NoNotes)?;
-    let lines = two(alloc, 2, 1)?;
+    let lines = two(alloc, 2, 1);
     assert_eq!(rt; log.put(&lines), Ok(()));
     assert_eq!(rt; log.out().bytes(), b"aa\nb\n".as_slice());
     Ok(())
@@ -61,7 +46,7 @@ fn each_line_has_a_line_feed(rt: HostRuntime) -> Result<(), Fail> {
 fn lines_that_fit_the_buffer_are_one_write(rt: HostRuntime) -> Result<(), Fail> {
     let alloc = rt.alloc();
     let mut log = log(alloc, vec![in alloc; 2]?, 2)?;
-    let lines = two(alloc, 32_767, 32_767)?;
+    let lines = two(alloc, 32_767, 32_767);
     assert_eq!(rt; log.put(&lines), Ok(()));
     assert_eq!(rt; log.put(&lines), Err(SinkFault::Port));
     let notes = [
@@ -77,11 +62,11 @@ fn lines_that_fit_the_buffer_are_one_write(rt: HostRuntime) -> Result<(), Fail> 
 fn a_fault_within_a_line_leaves_its_prefix(rt: HostRuntime) -> Result<(), Fail> {
     let alloc = rt.alloc();
     let mut log = log(alloc, vec![in alloc; 2]?, 2)?;
-    let lines = two(alloc, 40_000, 40_000)?;
+    let lines = two(alloc, 40_000, 40_000);
     assert_eq!(rt; log.put(&lines), Err(SinkFault::Port));
     assert_eq!(rt; log.out().bytes().len(), 65_536);
     assert!(rt; log.out().bytes().ends_with(b"bbb"));
-    let short = two(alloc, 1, 1)?;
+    let short = two(alloc, 1, 1);
     assert_eq!(rt; log.put(&short), Ok(()));
     assert!(rt; log.out().bytes().ends_with(b"bbba\nb\n"));
     let notes = [
@@ -96,7 +81,7 @@ fn a_fault_within_a_line_leaves_its_prefix(rt: HostRuntime) -> Result<(), Fail> 
 fn a_long_line_is_written_whole(rt: HostRuntime) -> Result<(), Fail> {
     let alloc = rt.alloc();
     let mut log = log(alloc, Vec::new(alloc), 1)?;
-    let lines = two(alloc, 200_000, 100_000)?;
+    let lines = two(alloc, 200_000, 100_000);
     assert_eq!(rt; log.put(&lines), Ok(()));
     assert_eq!(rt; log.out().bytes().len(), 300_002);
     assert_eq!(rt; log.out().bytes().get(200_000).copied(), Some(b'\n'));
@@ -113,8 +98,8 @@ fn a_try_without_room_for_its_note_writes_nothing(rt: HostRuntime) -> Result<(),
     let mut lane = OwnLane {
         sink: log(alloc, Vec::new(alloc), 1)?,
     };
-    assert!(rt; matches!(lane.offer(line(alloc, b'a', 3)?), Offer::Taken));
-    assert!(rt; matches!(lane.offer(line(alloc, b'b', 3)?), Offer::Failed(_)));
+    assert!(rt; matches!(lane.offer(letters(alloc, b'a', 3)), Offer::Taken));
+    assert!(rt; matches!(lane.offer(letters(alloc, b'b', 3)), Offer::Failed(_)));
     assert_eq!(rt; lane.sink.out().bytes(), b"aaa\n".as_slice());
     Ok(())
 }

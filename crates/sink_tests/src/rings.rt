@@ -1,40 +1,8 @@
+use crate::words::{add_offer, add_pop, add_step, line};
 use bounded_buffer::{RingLane, ring};
-use front_base::{Bytes, Line, NoMemory};
 use std::alloc::Global;
 use std::test::Fail;
-use truncate_backend::{Lane, Offer, Outlet};
-
-fn line(alloc: Global, text: &str) -> Result<Line, NoMemory> {
-    let bytes = text.as_bytes().to_vec(alloc)?;
-    if bytes.len() > 4_194_304 {
-        return Err(NoMemory);
-    }
-    Ok(Line {
-        bay: 0,
-        number: 0,
-        bytes: Bytes::new(bytes),
-    })
-}
-
-// What a line says.
-fn text_of(alloc: Global, line: &Line) -> Result<String, Fail> {
-    Ok(String::from_utf8(line.bytes.as_slice().to_vec(alloc)?).map_err(|_| "text")?)
-}
-
-// Offers a line or pops one, and says what came of it.
-fn step(alloc: Global, ring: &mut RingLane, step: &str) -> Result<String, Fail> {
-    if step == "pop" {
-        return match ring.pop() {
-            Some(line) => text_of(alloc, &line),
-            None => Ok(String::from_str(alloc, "none")?),
-        };
-    }
-    match ring.offer(line(alloc, step)?) {
-        Offer::Taken => Ok(String::from_str(alloc, "taken")?),
-        Offer::Full(line) => Ok(format!(in alloc; "full {}", text_of(alloc, &line)?.as_str())?),
-        Offer::Failed(_) => Err("failed".into()),
-    }
-}
+use truncate_backend::Lane;
 
 // A step, and what came of it.
 const ONE_PLACE: &str = "first: taken
@@ -55,21 +23,22 @@ pop: c
 pop: none
 ";
 
-fn run(alloc: Global, ring: &mut RingLane, steps: &str) -> Result<String, Fail> {
+fn run(alloc: Global, ring: &mut RingLane, steps: &str) -> String {
     let mut own = String::new(alloc);
     for row in steps.lines() {
-        let (name, _) = row.split_once(": ").ok_or("a step")?;
-        let came = step(alloc, ring, name)?;
-        own.push_str(format!(in alloc; "{name}: {}\n", came.as_str())?.as_str())?;
+        match add_step(&mut own, row) {
+            "pop" => add_pop(&mut own, ring),
+            step => add_offer(&mut own, ring.offer(line(alloc, 0, step))),
+        }
     }
-    Ok(own)
+    own
 }
 
 #[test]
 fn a_ring_is_full_where_it_holds_its_capacity(rt: HostRuntime) -> Result<(), Fail> {
     let alloc = rt.alloc();
     let mut one = ring(alloc, 1, 10, 10_000)?;
-    assert_eq!(rt; run(alloc, &mut one, ONE_PLACE)?.as_str(), ONE_PLACE);
+    assert_eq!(rt; run(alloc, &mut one, ONE_PLACE).as_str(), ONE_PLACE);
     Ok(())
 }
 
@@ -77,6 +46,6 @@ fn a_ring_is_full_where_it_holds_its_capacity(rt: HostRuntime) -> Result<(), Fai
 fn a_ring_without_room_for_copies_works_the_same(rt: HostRuntime) -> Result<(), Fail> {
     let alloc = rt.alloc();
     let mut two = ring(alloc, 2, 0, 0)?;
-    assert_eq!(rt; run(alloc, &mut two, TWO_PLACES)?.as_str(), TWO_PLACES);
+    assert_eq!(rt; run(alloc, &mut two, TWO_PLACES).as_str(), TWO_PLACES);
     Ok(())
 }
