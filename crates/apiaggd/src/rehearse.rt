@@ -13,11 +13,11 @@ fn say_failed(host: &HostRuntime, status: Status, refused: Option<u64>) {
     }
     if status == Status::Usage {
         let _ = eprintln!(host;
-            "rehearse: START and COUNT are two numbers. Try 'apiaggd rehearse --help'."
+            "apiaggd: rehearse: needs START and COUNT, two whole numbers. Try 'apiaggd rehearse --help'."
         );
     }
     if let Some(count) = refused {
-        let _ = eprintln!(host; "COUNT {count}: not in 1..{MOST_REHEARSED}");
+        let _ = eprintln!(host; "apiaggd: COUNT {count}: must be 1 to {MOST_REHEARSED}");
     }
 }
 

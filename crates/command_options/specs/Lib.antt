@@ -1,3 +1,4 @@
+pub mod Asked
 pub mod Flag
 pub mod Options
 pub mod Parser

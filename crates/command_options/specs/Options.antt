@@ -119,7 +119,7 @@ most option.ShutdownTimeout = 3600000
 
 -- its number where it isn't given
 abbrev pub default_of : Ranged → ℕ
-default_of option.MaxEventSize = 102400
+default_of option.MaxEventSize = 1048576
 default_of option.Moment = 0
 default_of option.Bays = 8
 default_of option.Connections = 0
@@ -129,7 +129,7 @@ default_of option.BatchMaxWait = 30000
 default_of option.MaxBatchSize = 10485760
 default_of option.IdleTimeout = 60000
 default_of option.ReadHeaderTimeout = 10000
-default_of option.MinRate = 500
+default_of option.MinRate = 8192
 default_of option.StallTimeout = 30000
 default_of option.DialTimeout = 5000
 default_of option.ResponseHeaderTimeout = 60000

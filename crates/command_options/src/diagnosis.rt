@@ -1,6 +1,7 @@
 // What is wrong with words that are no command line.
 ghost use Rattle.std.specs.Prelude.{◌<◌, IfOk, IfSome};
 
+use crate::asked::is_command;
 use crate::given::short_number;
 use crate::spelling::behind_dashes;
 use crate::table::{ValueKind, kind_of, options_for, sink_of};
@@ -172,11 +173,27 @@ fn option_fault(known: &[&'static str], words: &[String]) -> Option<BadWord> {
     }
 }
 
+// The word that `help` can't have: one that names no command, or one after the command's.
+fn help_fault(words: &[String]) -> BadWord {
+    match words {
+        [_, command, _, ..] if is_command(command.as_str()) => BadWord {
+            place: 2,
+            fault: WordFault::NotOption,
+        },
+        _ => BadWord {
+            place: 1,
+            fault: WordFault::UnknownCommand,
+        },
+    }
+}
+
 /// The first word that makes words no command line of that command, and what is wrong with it. A mode whose sink isn't
 /// named is told after all others. Of words that are a command line it says `UnknownCommand`, as of another command's word.
+/// After `help`, the first word that names no command is told, or else the one after the command's.
 pub fn bad_word(command: &str, words: &[String]) -> BadWord {
     let fault = match words {
         [] => WordFault::NoCommand,
+        [word, _, ..] if word.as_str() == "help" => return help_fault(words),
         [word, ..] if word.as_str() != command => WordFault::UnknownCommand,
         _ => match option_fault(options_for(command), words) {
             Some(bad) => return bad,

@@ -3,11 +3,13 @@
 //! The main contract is that of `given_of`, which reads the options of any command: its answer is the one that the
 //! definition `given_of` states for the words and the names of the options. That the crate `clap`, which walks over the
 //! words, takes and finds exactly these is proved for all names, and said by the law `clap_agrees`. A flag is read as an
-//! option in one word (`with_flag`). `in_range` refuses exactly the numbers that are out of an option's range.
+//! option in one word (`with_flag`). `in_range` refuses exactly the numbers that are out of an option's range. `Asked::of` says
+//! which command, or which page of help, words ask for.
 //!
 //! Nothing is promised of what `bad_word` answers but that it returns: tests show which word it tells.
 #![tactic(auto)]
 
+mod asked;
 mod diagnosis;
 mod fault;
 mod files;
@@ -19,6 +21,7 @@ mod ranged;
 mod spelling;
 mod table;
 
+pub use asked::{Asked, Topic};
 pub use diagnosis::{BadWord, WordFault, bad_word};
 pub use fault::WordsFault;
 pub use files::{FileNames, file_names};
@@ -26,4 +29,4 @@ pub use flag::with_flag;
 pub use given::{Options, given_of, is_given, text_of, value_of};
 pub use laws::{both_spellings, clap_agrees, the_flag_is_one_word};
 pub use ranged::{Ranged, have_numbers, in_range, number_given};
-pub use table::{ValueKind, kind_of, options_for, sink_of};
+pub use table::{ValueKind, command_with, kind_of, options_for, ranged_named, sink_of};

@@ -53,5 +53,5 @@ pub const RESPONSE_HEADER_TIMEOUT: &str = "response-header-timeout";
 
 pub const SHUTDOWN_TIMEOUT: &str = "shutdown-timeout";
 
-/// Of `serve`, a flag: an end of standard input ends it.
+/// Of `serve`, a flag: an end of standard input ends the run.
 pub const EXIT_ON_STDIN_EOF: &str = "exit-on-stdin-eof";

@@ -13,7 +13,7 @@ use crate::names::{
 /// The options whose numbers have a range. Timeouts are in milliseconds, sizes in bytes.
 #[derive(Clone, Copy, Debug, PartialEq, Eq)]
 pub enum Ranged {
-    /// `--audit-log-truncate-max-event-size` of kube-apiserver, for both sinks, with its default.
+    /// `--audit-log-truncate-max-event-size` of kube-apiserver, for both sinks, with a greater default.
     MaxEventSize,
     /// In microseconds since 1970.
     Moment,
@@ -108,7 +108,7 @@ impl Ranged {
         ensures { result ≡ spec.default_of self }
     {
         match self {
-            Ranged::MaxEventSize => 102_400,
+            Ranged::MaxEventSize => 1_048_576,
             Ranged::Moment | Ranged::Connections => 0,
             Ranged::Bays => 8,
             Ranged::BatchBuffer => 10_000,
@@ -117,7 +117,7 @@ impl Ranged {
             Ranged::MaxBatchSize => 10_485_760,
             Ranged::IdleTimeout | Ranged::ResponseHeaderTimeout => 60_000,
             Ranged::ReadHeaderTimeout => 10_000,
-            Ranged::MinRate => 500,
+            Ranged::MinRate => 8_192,
             Ranged::DialTimeout => 5_000,
             Ranged::ShutdownTimeout => 20_000,
         }

@@ -5,6 +5,7 @@ use crate::names::{
     MIN_RATE, MOMENT, POLICY, READ_HEADER_TIMEOUT, RESPONSE_HEADER_TIMEOUT, ROUTES, SERVICES,
     SHUTDOWN_TIMEOUT, STALL_TIMEOUT, TOKENS, WEBHOOK_MODE, WEBHOOK_URL,
 };
+use crate::ranged::Ranged;
 
 const EXPLAIN: [&str; 7] = [
     TOKENS,
@@ -52,6 +53,16 @@ pub fn options_for(command: &str) -> &'static [&'static str] {
     }
 }
 
+/// The command that has an option of that name, `explain` where both do.
+pub fn command_with(name: &str) -> Option<&'static str> {
+    for command in ["explain", "serve"] {
+        if options_for(command).iter().any(|own| *own == name) {
+            return Some(command);
+        }
+    }
+    None
+}
+
 /// What the value of an option is.
 #[derive(Clone, Copy, Debug, PartialEq, Eq)]
 pub enum ValueKind {
@@ -71,6 +82,28 @@ pub fn kind_of(name: &str) -> ValueKind {
         TOKENS | POLICY | SERVICES | ENDPOINTS => ValueKind::Text,
         LISTEN | LOG_PATH | WEBHOOK_URL => ValueKind::Text,
         _ => ValueKind::Number,
+    }
+}
+
+/// The option of that name, where it has a number.
+pub fn ranged_named(name: &str) -> Option<Ranged> {
+    match name {
+        MAX_EVENT_SIZE => Some(Ranged::MaxEventSize),
+        MOMENT => Some(Ranged::Moment),
+        BAYS => Some(Ranged::Bays),
+        CONNECTIONS => Some(Ranged::Connections),
+        BATCH_BUFFER => Some(Ranged::BatchBuffer),
+        BATCH_MAX_SIZE => Some(Ranged::BatchMaxSize),
+        BATCH_MAX_WAIT => Some(Ranged::BatchMaxWait),
+        MAX_BATCH_SIZE => Some(Ranged::MaxBatchSize),
+        IDLE_TIMEOUT => Some(Ranged::IdleTimeout),
+        READ_HEADER_TIMEOUT => Some(Ranged::ReadHeaderTimeout),
+        MIN_RATE => Some(Ranged::MinRate),
+        STALL_TIMEOUT => Some(Ranged::StallTimeout),
+        DIAL_TIMEOUT => Some(Ranged::DialTimeout),
+        RESPONSE_HEADER_TIMEOUT => Some(Ranged::ResponseHeaderTimeout),
+        SHUTDOWN_TIMEOUT => Some(Ranged::ShutdownTimeout),
+        _ => None,
     }
 }
 

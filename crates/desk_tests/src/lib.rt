@@ -1,8 +1,6 @@
-//! Tests of what `explain` writes at its desk, and of a rehearsal's plan, by public calls alone. They stand apart from those
-//! crates, which are not proved once more for them.
+//! Tests of the ports between `explain` and the system, by public calls alone: readers, writers, files and devices, also where
+//! they fail. What `explain` writes is shown by `cases_desk`.
 #![tactic(auto)]
 
 #[cfg(test)]
-mod desk;
-#[cfg(test)]
-mod rehearsals;
+mod ports;

@@ -1,5 +1,5 @@
 -- How a run ends by its words and files.
-use Rattle.std.proofs.Common.{◌≡◌, ℕ, ◌⊎◌, List, Option, Result, Ok, Err, refl, inl, inr, ⊎_elim}
+use Rattle.std.proofs.Common.{◌≡◌, ℕ, ◌⊎◌, List, Option, Result, Ok, Err, refl, subst, inl, inr, ⊎_elim}
 use Rattle.apiservice_rows.specs.Row.{Row}
 use Rattle.front_config.specs.Load as load
 use Rattle.front_config.specs.Load.{Reads, AreRead, load_of}
@@ -19,7 +19,6 @@ use Rattle.front_config.specs.declared.files.Loaded.{Loaded}
 use Rattle.proxy_server.specs.Ports.{Told, Port, FilesPort, AreSound, IsUntouched}
 use Rattle.proxy_server.specs.Desk.{Loads, IsRefused, Configures, Run}
 use Rattle.proxy_server.specs.Serving.{Serves}
-use Rattle.proxy_server.specs.Status.{code_of}
 use Rattle.proxy_server.specs.Why.{TellsServing, TellsWords, status_of_load, status_of_words, why_of_load}
 use Rattle.refusal_text.specs.declared.refusal.Refusal.{Refusal}
 use Rattle.proxy_server.specs.declared.setup.Setup.{Setup}
@@ -81,40 +80,21 @@ load_refused line files explain reads load_fault.NoMemory c r h cause = tt
 
 -- ---- what the words alone decide
 
-module _ (line : List (List ℕ)) (files : FilesPort) (input output : Port) (why : Option Refusal) where
-  usage_by : (status : Status) → code_of status ≡ 2 → IsRefused line files status why → command_of line ≡ Err words_fault.Usage
-  usage_by Usage e h = h.0
-  usage_by Done e h = absurd h
-  usage_by Configuration e h = absurd (cc e)
-  usage_by ReadFault e h = absurd (cc e)
-  usage_by PortFault e h = absurd h
-  usage_by NoMemory e h = absurd (cc e)
-  usage_by WriteFault e h = absurd h
-  usage_by NumbersSpent e h = absurd h
-  usage_by Input e h = absurd h
+module _ (line : List (List ℕ)) (files : FilesPort) (input output : Port) (why : Option Refusal) (large : ℕ) where
+  not_served : (set : Setup) (rows : List Row) → Serves set rows input output large Usage → ⊥
+  not_served set rows h = h
 
-  served_not : (set : Setup) (rows : List Row) (status : Status) → code_of status ≡ 2 → Serves set rows input output status → command_of line ≡ Err words_fault.Usage
-  served_not set rows Usage e h = absurd h
-  served_not set rows Done e h = absurd (cc e)
-  served_not set rows Configuration e h = absurd h
-  served_not set rows ReadFault e h = absurd (cc e)
-  served_not set rows PortFault e h = absurd h
-  served_not set rows NoMemory e h = absurd (cc e)
-  served_not set rows WriteFault e h = absurd (cc e)
-  served_not set rows NumbersSpent e h = absurd (cc e)
-  served_not set rows Input e h = absurd (cc e)
-
-  pub usage_is : (status : Status) → code_of status ≡ 2 → Run line files input output status why
+  pub usage_is : (status : Status) → status ≡ Usage → Run line files input output status why large
       → command_of line ≡ Err words_fault.Usage
   usage_is status e run =
       ⊎_elim
-      (λ (q : IsRefused line files status why × IsUntouched input × IsUntouched output). usage_by status e q.0)
-      (λ (q : (set : Setup) × (rows : List Row) × Configures line files.before.told set rows × AreSound files × Serves set rows input output status × TellsServing status why).
-      served_not q.0 q.1 status e q.4)
-      run
+      (λ (q : IsRefused line files Usage why × IsUntouched input × IsUntouched output × (large ≡ 0)). q.0.0)
+      (λ (q : (set : Setup) × (rows : List Row) × Configures line files.before.told set rows × AreSound files × Serves set rows input output large Usage × TellsServing Usage why).
+      absurd (not_served q.0 q.1 q.4))
+      (subst (λ own. Run line files input output own why large) e run)
 
   misused_by : (status : Status) → command_of line ≡ Err words_fault.Usage → IsRefused line files status why
-      → (code_of status ≡ 2) ⊎ (code_of status ≡ 6)
+      → (status ≡ Usage) ⊎ (status ≡ NoMemory)
   misused_by Usage e h = inl refl
   misused_by Done e h = absurd h
   misused_by Configuration e h =
@@ -130,11 +110,11 @@ module _ (line : List (List ℕ)) (files : FilesPort) (input output : Port) (why
   misused_by NumbersSpent e h = absurd h
   misused_by Input e h = absurd h
 
-  pub misused_is : (status : Status) → command_of line ≡ Err words_fault.Usage → Run line files input output status why
-      → (code_of status ≡ 2) ⊎ (code_of status ≡ 6)
+  pub misused_is : (status : Status) → command_of line ≡ Err words_fault.Usage → Run line files input output status why large
+      → (status ≡ Usage) ⊎ (status ≡ NoMemory)
   misused_is status e run =
       ⊎_elim
-      (λ (q : IsRefused line files status why × IsUntouched input × IsUntouched output). misused_by status e q.0)
-      (λ (q : (set : Setup) × (rows : List Row) × Configures line files.before.told set rows × AreSound files × Serves set rows input output status × TellsServing status why).
+      (λ (q : IsRefused line files status why × IsUntouched input × IsUntouched output × (large ≡ 0)). misused_by status e q.0)
+      (λ (q : (set : Setup) × (rows : List Row) × Configures line files.before.told set rows × AreSound files × Serves set rows input output large status × TellsServing status why).
       absurd (cc (e, q.2.loads.command)))
       run

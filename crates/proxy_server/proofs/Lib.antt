@@ -1,4 +1,5 @@
 mod DeskLemmas
 mod LinesLemmas
 mod ListLemmas
+mod PushingLemmas
 mod ServingLemmas

@@ -10,7 +10,7 @@ use Rattle.audit_core.specs.declared.routed.Routed.{Routed}
 use Rattle.audit_core.specs.declared.stamp.Stamp.{Stamp}
 use Rattle.http_edge.specs.declared.request.Request.{Request}
 use Rattle.service_endpoints.specs.declared.endpoint.Endpoint.{Endpoint}
-use Rattle.proxy_server.specs.Lines.{Adds, stamp_of, rows_after, text_of, empty_reply}
+use Rattle.proxy_server.specs.Lines.{Adds, stamp_of, rows_after, text_of, too_large_of, empty_reply}
 use Rattle.proxy_server.specs.declared.setup.Setup.{Setup}
 
 -- what the law on routes of one thread says
@@ -25,11 +25,11 @@ ChangesHere = (ends : List Endpoint) (own : Errand) (old new : Story) (routed : 
     → new.opening ≡ old.opening → rows_of new ≡ rows_by (rows_of old) own
 
 pub adds_here : DecidesHere → ChangesHere → (set : Setup) (n : ℕ) (r : Request) (old new : Story) (stamp : Stamp) (x : Answered)
-    (body lines lines_now : List ℕ) → body ≡ [] → stamp ≡ stamp_of set.moment n → new.opening ≡ old.opening
+    (body lines lines_now : List ℕ) (large : ℕ) → body ≡ [] → stamp ≡ stamp_of set.moment n → new.opening ≡ old.opening
     → Settles set.settings stamp r empty_reply body old.opening old.seen (placed 0 old.seen) new.seen (placed 0 new.seen) x
-    → lines_now ≡ lines ++ text_of set n x → Adds set n r (rows_of old) (rows_of new) lines lines_now
+    → lines_now ≡ lines ++ text_of set n x → large ≡ too_large_of set x → Adds set n r (rows_of old) (rows_of new) lines lines_now large
 unfolding rows_after
-adds_here decides changes set n r old new stamp x body lines lines_now none s fixed h e =
+adds_here decides changes set n r old new stamp x body lines lines_now large none s fixed h e l =
     let own = errand_in set.settings r in
     let ends = set.settings.endpoints in
     let is : IsAnswered set.settings (stamp_of set.moment n) r (handling_of ends (rows_of old) own) empty_reply [] x =
@@ -37,7 +37,7 @@ adds_here decides changes set n r old new stamp x body lines lines_now none s fi
     (subst (λ (a : Routed). IsAnswered set.settings stamp r a.handling empty_reply [] x) (decides ends own old new h.0 h.1)
     (subst (λ b. IsAnswered set.settings stamp r h.0.handling empty_reply b x) none h.2)) in (
       text_of set n x,
-      record { answered = x; is = is; text_is = refl },
+      record { answered = x; is = is; text_is = refl; large_is = l },
       e,
       changes ends own old new h.0 h.1 fixed,
     )

@@ -90,18 +90,30 @@ pub rows_after_one : (set : Setup) (rows : List Row) (rs : List Request) (r : Re
 rows_after_one set rows [] r = refl
 rows_after_one set rows (q ∷ rs) r = rows_after_one set (rows_after set rows q) rs r
 
-pub lines_one : (set : Setup) (n m : ℕ) (rows : List Row) (rs : List Request) (r : Request) (text own : List ℕ) → n + length rs ≡ m
-    → AreLines set n rows rs text → IsLines set (rows_after_all set rows rs) m r own → AreLines set n rows (rs ++ r ∷ []) (text ++ own)
-lines_one set n m rows [] r text own e h is =
-    let place : m ≡ n = sym e ∙ omega arith in
-    (own, [], subst (λ k. IsLines set rows k r own) place is, refl, ap (λ l. l ++ own) h ∙ sym (append-nil own))
-lines_one set n m rows (q ∷ rs) r text own e h is =
+pub lines_one : (set : Setup) (n m : ℕ) (rows : List Row) (rs : List Request) (r : Request) (text own : List ℕ) (large few : ℕ)
+    → n + length rs ≡ m → AreLines set n rows rs text large → IsLines set (rows_after_all set rows rs) m r own few
+    → AreLines set n rows (rs ++ r ∷ []) (text ++ own) (large + few)
+lines_one set n m rows [] r text own large few e h is =
+    let place : m ≡ n = sym e ∙ omega arith in (
+      own,
+      [],
+      few,
+      0,
+      subst (λ k. IsLines set rows k r own few) place is,
+      (refl, refl),
+      ap (λ l. l ++ own) h.0 ∙ sym (append-nil own),
+      omega (arith, h.1),
+    )
+lines_one set n m rows (q ∷ rs) r text own large few e h is =
     let place : (n + 1) + length rs ≡ m = omega arith in (
       h.0,
       h.1 ++ own,
       h.2,
-      lines_one set (n + 1) m (rows_after set rows q) rs r h.1 own place h.3 is,
-      ap (λ l. l ++ own) h.4 ∙ append_assoc h.0 h.1 own,
+      h.3 + few,
+      h.4,
+      lines_one set (n + 1) m (rows_after set rows q) rs r h.1 own h.3 few place h.5 is,
+      ap (λ l. l ++ own) h.6 ∙ append_assoc h.0 h.1 own,
+      omega (arith, h.7),
     )
 
 pub length_one : (rs : List Request) (r : Request) → length (rs ++ r ∷ []) ≡ length rs + 1

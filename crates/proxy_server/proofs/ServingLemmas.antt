@@ -54,8 +54,9 @@ front_more w0 w v sent next h k = (
   subst (Appends w0 v) (sym (take-append-add sent next k.0)) (Appends-trans w0 w v sent (take k.0 next) h k.1),
 )
 
-pub served_none : (set : Setup) (rows : List Row) (a w : Option (List ℕ)) (x p : List ℕ) → x ≡ [] → p ≡ [] → Served set rows rows a a x w w p 0
-served_none set rows a w x p e f = record {
+pub served_none : (set : Setup) (rows : List Row) (a w : Option (List ℕ)) (x p : List ℕ) (large : ℕ) → x ≡ [] → p ≡ [] → large ≡ 0
+    → Served set rows rows a a x w w p 0 large
+served_none set rows a w x p large e f none = record {
   requests = [];
   taken = [];
   consumed = Consumes-nil a;
@@ -64,21 +65,21 @@ served_none set rows a w x p e f = record {
   few = omega arith;
   sent = [];
   written = Appends-nil w;
-  lines = f;
+  lines = (f, none);
   stands = refl;
 }
 
 -- a run that ended before its first request
-pub none_served : (set : Setup) (rows : List Row) (input output : Port) → input.after ≡ input.before → output.after ≡ output.before
-    → ServedFront set rows input output
-none_served set rows input output i o = record {
+pub none_served : (set : Setup) (rows : List Row) (input output : Port) (large : ℕ) → large ≡ 0 → input.after ≡ input.before
+    → output.after ≡ output.before → ServedFront set rows input output large
+none_served set rows input output large none i o = record {
   requests = [];
   few = omega arith;
   taken = [];
   begins = begins_none input.before.told;
   first = tt;
   text = [];
-  lines = refl;
+  lines = (refl, none);
   written = (0, subst (λ (p : State). Appends output.before.told p.told []) (sym o) (Appends-nil output.before.told));
 }
   where
@@ -91,7 +92,7 @@ pub whole_front : (w v : Option (List ℕ)) (p : List ℕ) → Appends w v p →
 whole_front w v p h = (length p, subst (Appends w v) (sym (take_all (length p) p (omega arith))) h)
 
 -- a request stands next
-pub record Standing (set : Setup) (rows rows_now : List Row) (a c : Option (List ℕ)) (y : List ℕ) (w0 w : Option (List ℕ)) (pending : List ℕ) (n : ℕ) (r : Request) : Type 0 where
+pub record Standing (set : Setup) (rows rows_now : List Row) (a c : Option (List ℕ)) (y : List ℕ) (w0 w : Option (List ℕ)) (pending : List ℕ) (n large : ℕ) (r : Request) : Type 0 where
   pub requests : List Request
   pub taken : List ℕ
   pub middle : List ℕ
@@ -102,12 +103,12 @@ pub record Standing (set : Setup) (rows rows_now : List Row) (a c : Option (List
   pub few : length requests ≤ MOST_REQUESTS
   pub sent : List ℕ
   pub written : Appends w0 w sent
-  pub lines : AreLines set 0 rows requests (sent ++ pending)
+  pub lines : AreLines set 0 rows requests (sent ++ pending) large
   pub stands : rows_now ≡ rows_after_all set rows requests
 
 module _ (law : StartsStay) (refusals : RefusalsStay) (set : Setup) (rows rows_now : List Row) (a b c : Option (List ℕ)) (x : List ℕ)
-    (w0 w : Option (List ℕ)) (p : List ℕ) (n : ℕ) (s : Served set rows rows_now a b x w0 w p n) where
-  pub stand : (y : List ℕ) (r : Request) → GotRequest b c x y r → Standing set rows rows_now a c y w0 w p n r
+    (w0 w : Option (List ℕ)) (p : List ℕ) (n large : ℕ) (s : Served set rows rows_now a b x w0 w p n large) where
+  pub stand : (y : List ℕ) (r : Request) → GotRequest b c x y r → Standing set rows rows_now a c y w0 w p n large r
   stand y r g = record {
     requests = s.requests;
     taken = s.taken ++ g.seen.taken;
@@ -143,24 +144,24 @@ closed_as output w f t p d e k same ends sound done =
     inr (q.0, subst (λ n. Rose n output.after.faults) sound q.1, subst (AppendsFront w output.after.told) same q.2))
     done
 
-pub closed : (set : Setup) (rows : List Row) (input output : Port) (w : Option (List ℕ)) (p : List ℕ) (e k : Status) → Closed output w p e k
-    → (Appends w output.after.told p → IsSound output → Serves set rows input output e)
-    → (AppendsFront w output.after.told p → ServedFront set rows input output) → Serves set rows input output k
-closed set rows input output w p e k done all front =
+pub closed : (set : Setup) (rows : List Row) (input output : Port) (large : ℕ) (w : Option (List ℕ)) (p : List ℕ) (e k : Status)
+    → Closed output w p e k → (Appends w output.after.told p → IsSound output → Serves set rows input output large e)
+    → (AppendsFront w output.after.told p → ServedFront set rows input output large) → Serves set rows input output large k
+closed set rows input output large w p e k done all front =
     ⊎_elim
     (λ (q : (k ≡ e) × Appends w output.after.told p × IsSound output).
-    subst (Serves set rows input output) (sym q.0) (all q.1 q.2))
+    subst (Serves set rows input output large) (sym q.0) (all q.1 q.2))
     (λ (q : (k ≡ WriteFault) × HasFailed output × AppendsFront w output.after.told p).
-    subst (Serves set rows input output) (sym q.0) (q.1, front q.2))
+    subst (Serves set rows input output large) (sym q.0) (q.1, front q.2))
     done
 
 -- ---- a run ends
 
 module _ (law : StartsStay) (refusals : RefusalsStay) (set : Setup) (rows rows_now : List Row) (input output : Port) (b : Option (List ℕ))
-    (x : List ℕ) (w : Option (List ℕ)) (p : List ℕ) (n : ℕ)
-    (s : Served set rows rows_now input.before.told b x output.before.told w p n) where
+    (x : List ℕ) (w : Option (List ℕ)) (p : List ℕ) (n large : ℕ)
+    (s : Served set rows rows_now input.before.told b x output.before.told w p n large) where
   -- a front of what was to be written is written
-  served_front : AppendsFront w output.after.told p → ServedFront set rows input output
+  served_front : AppendsFront w output.after.told p → ServedFront set rows input output large
   served_front h = record {
     requests = s.requests;
     few = s.few;
@@ -172,7 +173,7 @@ module _ (law : StartsStay) (refusals : RefusalsStay) (set : Setup) (rows rows_n
     written = front_more output.before.told w output.after.told s.sent p s.written h;
   }
 
-  served_stop : (e : End) → Stopped b input.after.told x e → Appends w output.after.told p → ServedAll set rows input output e
+  served_stop : (e : End) → Stopped b input.after.told x e → Appends w output.after.told p → ServedAll set rows input output large e
   served_stop e t h =
       let a = input.before.told in
       let c = input.after.told in
@@ -195,7 +196,7 @@ module _ (law : StartsStay) (refusals : RefusalsStay) (set : Setup) (rows rows_n
         written = Appends-trans output.before.told w output.after.told s.sent p s.written h;
       }
 
-  served_fault : Awaits b input.after.told x → Appends w output.after.told p → ServedTaken set rows input output
+  served_fault : Awaits b input.after.told x → Appends w output.after.told p → ServedTaken set rows input output large
   served_fault t h = record {
     requests = s.requests;
     few = s.few;
@@ -210,7 +211,7 @@ module _ (law : StartsStay) (refusals : RefusalsStay) (set : Setup) (rows rows_n
   }
 
   by_end : (e : End) → Stopped b input.after.told x e → Appends w output.after.told p → IsSound input → IsSound output
-      → Serves set rows input output (status_of e)
+      → Serves set rows input output large (status_of e)
   by_end end.Ended h e i q = (end.Ended, refl, served_stop end.Ended h e, i, q)
   by_end end.Asked h e i q = (end.Asked, refl, served_stop end.Asked h e, i, q)
   by_end end.BadHead h e i q = (end.BadHead, refl, served_stop end.BadHead h e, i, q)
@@ -221,23 +222,23 @@ module _ (law : StartsStay) (refusals : RefusalsStay) (set : Setup) (rows rows_n
 
   by_stop : (Read0 : Type 0) (t : Stop) → (Read0 → HasFailed input) → KeepsCount input.before.faults input.after.faults t
       → NoRequest b input.after.told x Read0 t → Appends w output.after.told p → IsSound output
-      → Serves set rows input output (status_of_stop t)
+      → Serves set rows input output large (status_of_stop t)
   by_stop Read0 (stop.Refused e) f i h a q = by_end e h a i q
   by_stop Read0 stop.ReadFault f i h a q = (f h.1, served_fault h.0 a)
   by_stop Read0 stop.NoMemory f i h a q = served_front (whole_front w output.after.told p a)
 
   -- what is known where the lines before a stop are written, by what the stop is
   pub stop_serves : (Read0 : Type 0) (t : Stop) (k : Status) → (Read0 → HasFailed input) → KeepsCount input.before.faults input.after.faults t
-      → NoRequest b input.after.told x Read0 t → Closed output w p (status_of_stop t) k → Serves set rows input output k
+      → NoRequest b input.after.told x Read0 t → Closed output w p (status_of_stop t) k → Serves set rows input output large k
   stop_serves Read0 t k f i h done =
-      closed set rows input output w p (status_of_stop t) k done (by_stop Read0 t f i h) served_front
+      closed set rows input output large w p (status_of_stop t) k done (by_stop Read0 t f i h) served_front
 
 -- ---- a request stands next
 
-module _ (law : StartsStay) (set : Setup) (rows rows_now : List Row) (input output : Port) (y : List ℕ) (w : Option (List ℕ)) (p : List ℕ) (n : ℕ)
-    (r : Request) (s : Standing set rows rows_now input.before.told input.after.told y output.before.told w p n r) where
+module _ (law : StartsStay) (set : Setup) (rows rows_now : List Row) (input output : Port) (y : List ℕ) (w : Option (List ℕ)) (p : List ℕ) (n large : ℕ)
+    (r : Request) (s : Standing set rows rows_now input.before.told input.after.told y output.before.told w p n large r) where
   -- the requests before it are the last
-  pub up_to : length s.requests ≡ MOST_REQUESTS → Appends w output.after.told p → ServedMost set rows input output
+  pub up_to : length s.requests ≡ MOST_REQUESTS → Appends w output.after.told p → ServedMost set rows input output large
   up_to all h = record {
     requests = s.requests;
     next = r;
@@ -254,7 +255,7 @@ module _ (law : StartsStay) (set : Setup) (rows rows_now : List Row) (input outp
   }
 
   -- a front of their lines is written
-  pub stand_front : AppendsFront w output.after.told p → ServedFront set rows input output
+  pub stand_front : AppendsFront w output.after.told p → ServedFront set rows input output large
   stand_front h = record {
     requests = s.requests;
     few = s.few;
@@ -266,20 +267,21 @@ module _ (law : StartsStay) (set : Setup) (rows rows_now : List Row) (input outp
     written = front_more output.before.told w output.after.told s.sent p s.written h;
   }
 
-module _ (set : Setup) (rows rows_now : List Row) (a c : Option (List ℕ)) (y : List ℕ) (w0 w : Option (List ℕ)) (p : List ℕ) (n : ℕ)
-    (r : Request) (s : Standing set rows rows_now a c y w0 w p n r) (room : n < MOST_REQUESTS) (own : List ℕ) (is : IsLines set rows_now n r own) where
-  all_lines : AreLines set 0 rows (s.requests ++ r ∷ []) (s.sent ++ (p ++ own))
+module _ (set : Setup) (rows rows_now : List Row) (a c : Option (List ℕ)) (y : List ℕ) (w0 w : Option (List ℕ)) (p : List ℕ) (n large : ℕ)
+    (r : Request) (s : Standing set rows rows_now a c y w0 w p n large r) (room : n < MOST_REQUESTS) (own : List ℕ) (few : ℕ)
+    (is : IsLines set rows_now n r own few) where
+  all_lines : AreLines set 0 rows (s.requests ++ r ∷ []) (s.sent ++ (p ++ own)) (large + few)
   all_lines =
-      subst (AreLines set 0 rows (s.requests ++ r ∷ [])) (append_assoc s.sent p own)
-      (lines_one set 0 n rows s.requests r (s.sent ++ p) own (omega (arith, s.count)) s.lines
-      (subst (λ now. IsLines set now n r own) s.stands is))
+      subst (λ text. AreLines set 0 rows (s.requests ++ r ∷ []) text (large + few)) (append_assoc s.sent p own)
+      (lines_one set 0 n rows s.requests r (s.sent ++ p) own large few (omega (arith, s.count)) s.lines
+      (subst (λ now. IsLines set now n r own few) s.stands is))
 
   all_few : length (s.requests ++ r ∷ []) ≤ MOST_REQUESTS
   all_few = let one = length_one s.requests r in omega (arith, one, s.count, room)
 
   -- its lines are added, and it isn't the last
   pub stand_more : (next : List Row) → next ≡ rows_after set rows_now r → asks r ≡ false
-      → Served set rows next a c y w0 w (p ++ own) (n + 1)
+      → Served set rows next a c y w0 w (p ++ own) (n + 1) (large + few)
   stand_more next changed e = record {
     requests = s.requests ++ r ∷ [];
     taken = s.taken;
@@ -294,14 +296,14 @@ module _ (set : Setup) (rows rows_now : List Row) (a c : Option (List ℕ)) (y :
         changed ∙ ap (λ now. rows_after set now r) s.stands ∙ sym (rows_after_one set rows s.requests r);
   }
 
-module _ (law : StartsStay) (set : Setup) (rows rows_now : List Row) (input output : Port) (y : List ℕ) (w : Option (List ℕ)) (p : List ℕ) (n : ℕ)
-    (r : Request) (s : Standing set rows rows_now input.before.told input.after.told y output.before.told w p n r) (room : n < MOST_REQUESTS)
-    (own : List ℕ) (is : IsLines set rows_now n r own) where
+module _ (law : StartsStay) (set : Setup) (rows rows_now : List Row) (input output : Port) (y : List ℕ) (w : Option (List ℕ)) (p : List ℕ) (n large : ℕ)
+    (r : Request) (s : Standing set rows rows_now input.before.told input.after.told y output.before.told w p n large r) (room : n < MOST_REQUESTS)
+    (own : List ℕ) (few : ℕ) (is : IsLines set rows_now n r own few) where
   -- its lines are added, and it is the last
-  pub stand_asked : asks r ≡ true → Appends w output.after.told (p ++ own) → ServedAll set rows input output end.Asked
+  pub stand_asked : asks r ≡ true → Appends w output.after.told (p ++ own) → ServedAll set rows input output (large + few) end.Asked
   stand_asked e h = record {
     requests = s.requests ++ r ∷ [];
-    few = all_few set rows rows_now _ _ y _ w p n r s room own is;
+    few = all_few set rows rows_now _ _ y _ w p n large r s room own few is;
     taken = s.taken;
     consumed = s.consumed;
     list = list_asked s.taken s.middle y s.requests r s.reads s.starts e;
@@ -309,26 +311,26 @@ module _ (law : StartsStay) (set : Setup) (rows rows_now : List Row) (input outp
         list_asked (s.taken ++ ys) (s.middle ++ ys) (y ++ ys) s.requests r
         (reads_more law s.taken ys s.middle s.requests s.reads) (law s.middle ys y r s.starts) e);
     text = s.sent ++ (p ++ own);
-    lines = all_lines set rows rows_now _ _ y _ w p n r s room own is;
+    lines = all_lines set rows rows_now _ _ y _ w p n large r s room own few is;
     written = Appends-trans output.before.told w output.after.told s.sent (p ++ own) s.written h;
   }
 
-  pub last_front : AppendsFront w output.after.told (p ++ own) → ServedFront set rows input output
+  pub last_front : AppendsFront w output.after.told (p ++ own) → ServedFront set rows input output (large + few)
   last_front h = record {
     requests = s.requests ++ r ∷ [];
-    few = all_few set rows rows_now _ _ y _ w p n r s room own is;
+    few = all_few set rows rows_now _ _ y _ w p n large r s room own few is;
     taken = s.taken;
     begins = begins input.before.told input.after.told s.taken s.consumed;
     first = first_one s.taken s.middle y s.requests r s.reads s.starts;
     text = s.sent ++ (p ++ own);
-    lines = all_lines set rows rows_now _ _ y _ w p n r s room own is;
+    lines = all_lines set rows rows_now _ _ y _ w p n large r s room own few is;
     written = front_more output.before.told w output.after.told s.sent (p ++ own) s.written h;
   }
 
 -- a part of the lines was written
-pub served_spilled : (set : Setup) (rows rows_now : List Row) (a b : Option (List ℕ)) (x : List ℕ) (w0 w v : Option (List ℕ)) (p q : List ℕ) (n : ℕ)
-    → Served set rows rows_now a b x w0 w p n → Spilled w v p q → Served set rows rows_now a b x w0 v q n
-served_spilled set rows rows_now a b x w0 w v p q n s h = record {
+pub served_spilled : (set : Setup) (rows rows_now : List Row) (a b : Option (List ℕ)) (x : List ℕ) (w0 w v : Option (List ℕ)) (p q : List ℕ) (n large : ℕ)
+    → Served set rows rows_now a b x w0 w p n large → Spilled w v p q → Served set rows rows_now a b x w0 v q n large
+served_spilled set rows rows_now a b x w0 w v p q n large s h = record {
   requests = s.requests;
   taken = s.taken;
   consumed = s.consumed;
@@ -337,6 +339,6 @@ served_spilled set rows rows_now a b x w0 w v p q n s h = record {
   few = s.few;
   sent = s.sent ++ h.front;
   written = Appends-trans w0 w v s.sent h.front s.written h.written;
-  lines = subst (AreLines set 0 rows s.requests) (ap (λ l. s.sent ++ l) h.split ∙ sym (append_assoc s.sent h.front q)) s.lines;
+  lines = subst (λ text. AreLines set 0 rows s.requests text large) (ap (λ l. s.sent ++ l) h.split ∙ sym (append_assoc s.sent h.front q)) s.lines;
   stands = s.stands;
 }

@@ -69,9 +69,9 @@ IsRefused words files NoMemory why = Unit {0}
 IsRefused words files _ why = ⊥
 
 -- a run: it is refused before it reads or writes anything, or all its files were read and the requests of its input are
--- served. What is told says why it ended
-abbrev pub Run : List (List ℕ) → FilesPort → Port → Port → Status → Option Refusal → Type 0
-Run words files input output status why =
-    (IsRefused words files status why × IsUntouched input × IsUntouched output)
+-- served. What is told says why it ended, and how many events are too large for a line
+abbrev pub Run : List (List ℕ) → FilesPort → Port → Port → Status → Option Refusal → ℕ → Type 0
+Run words files input output status why large =
+    (IsRefused words files status why × IsUntouched input × IsUntouched output × (large ≡ 0))
     ⊎ ((set : Setup) × (rows : List Row) × Configures words files.before.told set rows × AreSound files
-    × Serves set rows input output status × TellsServing status why)
+    × Serves set rows input output large status × TellsServing status why)

@@ -2,6 +2,7 @@ pub mod Adapters
 pub mod Desk
 pub mod Lines
 pub mod Ports
+pub mod Pushing
 pub mod RouteLines
 pub mod Serving
 pub mod Status

@@ -11,6 +11,7 @@ use Rattle.audit_core.specs.declared.link_note.LinkNote.TheVariants.{Whole}
 use Rattle.audit_core.specs.declared.stamp.Stamp.{Stamp}
 use Rattle.front_base.specs.AuditId.{AuditId}
 use Rattle.http_edge.specs.declared.request.Request.{Request}
+use Rattle.proxy_server.specs.Pushing.{too_large}
 use Rattle.proxy_server.specs.RouteLines.{route_line}
 use Rattle.proxy_server.specs.declared.setup.Setup.{Setup}
 
@@ -53,21 +54,33 @@ audit_lines set x = ended 10 (fitted_lines set.settings.max_event (owed x.decisi
 abbrev pub text_of : Setup → ℕ → Answered → List ℕ
 text_of set number x = if set.routes then route_line number x.handling else audit_lines set x
 
--- this is what is written of the request with that number, which is handled by these rows
-pub record IsLines (set : Setup) (rows : List Row) (number : ℕ) (r : Request) (text : List ℕ) : Type 0 where
+-- how many of its events are too large for a line; where routes are asked for, none
+abbrev pub too_large_of : Setup → Answered → ℕ
+too_large_of set x = if set.routes then 0 else too_large set.settings.max_event (owed x.decision x.facts)
+
+-- this is added for the request with that number, and so many of its events are too large
+abbrev pub Writes : Setup → ℕ → Answered → List ℕ → List ℕ → ℕ → Type 0
+Writes set number x old new large = (new ≡ old ++ text_of set number x) × (large ≡ too_large_of set x)
+
+-- this is what is written of the request with that number, which is handled by these rows, and so many of its events are
+-- too large
+pub record IsLines (set : Setup) (rows : List Row) (number : ℕ) (r : Request) (text : List ℕ) (large : ℕ) : Type 0 where
   pub answered : Answered
   pub is : IsAnswered set.settings (stamp_of set.moment number) r
       (handling_of set.settings.endpoints rows (errand_in set.settings r)) empty_reply [] answered
   pub text_is : text ≡ text_of set number answered
+  pub large_is : large ≡ too_large_of set answered
 
--- the text of the lines of these requests, the first of which has this number and is answered by these rows
-abbrev pub AreLines : Setup → ℕ → List Row → List Request → List ℕ → Type 0
-AreLines set n rows [] text = text ≡ []
-AreLines set n rows (r ∷ rs) text =
-    (own : List ℕ) × (others : List ℕ) × IsLines set rows n r own × AreLines set (n + 1) (rows_after set rows r) rs others
-    × (text ≡ own ++ others)
+-- the text of the lines of these requests, the first of which has this number and is answered by these rows, and how many
+-- of their events are too large
+abbrev pub AreLines : Setup → ℕ → List Row → List Request → List ℕ → ℕ → Type 0
+AreLines set n rows [] text large = (text ≡ []) × (large ≡ 0)
+AreLines set n rows (r ∷ rs) text large =
+    (own : List ℕ) × (others : List ℕ) × (few : ℕ) × (more : ℕ) × IsLines set rows n r own few
+    × AreLines set (n + 1) (rows_after set rows r) rs others more × (text ≡ own ++ others) × (large ≡ few + more)
 
--- the lines of a request are added, which these rows answer, and these are the rows after it
-abbrev pub Adds : Setup → ℕ → Request → List Row → List Row → List ℕ → List ℕ → Type 0
-Adds set n r rows rows_now old new =
-    (own : List ℕ) × IsLines set rows n r own × (new ≡ old ++ own) × (rows_now ≡ rows_after set rows r)
+-- the lines of a request are added, which these rows answer, and these are the rows after it; so many of its events are too
+-- large
+abbrev pub Adds : Setup → ℕ → Request → List Row → List Row → List ℕ → List ℕ → ℕ → Type 0
+Adds set n r rows rows_now old new large =
+    (own : List ℕ) × IsLines set rows n r own large × (new ≡ old ++ own) × (rows_now ≡ rows_after set rows r)

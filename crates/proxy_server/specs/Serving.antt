@@ -26,8 +26,8 @@ abbrev pub BeginsWith : Option (List ℕ) → List ℕ → Type 0
 BeginsWith None taken = Unit {0}
 BeginsWith (Some bytes) taken = (rest : List ℕ) × (bytes ≡ taken ++ rest)
 
--- all requests of the input, which end so, and their lines. `taken` is what was read of it
-pub record ServedAll (set : Setup) (rows : List Row) (input output : Port) (end : End) : Type 0 where
+-- all requests of the input, which end so, their lines, and how many of their events are too large. `taken` is what was read of it
+pub record ServedAll (set : Setup) (rows : List Row) (input output : Port) (large : ℕ) (end : End) : Type 0 where
   pub requests : List Request
   pub few : length requests ≤ MOST_REQUESTS
   pub taken : List ℕ
@@ -35,11 +35,11 @@ pub record ServedAll (set : Setup) (rows : List Row) (input output : Port) (end 
   pub list : IsRequests taken requests end
   pub whole : IfSome input.before.told (λ bytes. IsRequests bytes requests end)
   pub text : List ℕ
-  pub lines : AreLines set 0 rows requests text
+  pub lines : AreLines set 0 rows requests text large
   pub written : Appends output.before.told output.after.told text
 
 -- the requests that stand whole in the bytes taken, and their lines
-pub record ServedTaken (set : Setup) (rows : List Row) (input output : Port) : Type 0 where
+pub record ServedTaken (set : Setup) (rows : List Row) (input output : Port) (large : ℕ) : Type 0 where
   pub requests : List Request
   pub few : length requests ≤ MOST_REQUESTS
   pub taken : List ℕ
@@ -48,11 +48,11 @@ pub record ServedTaken (set : Setup) (rows : List Row) (input output : Port) : T
   pub reads : ReadsTo taken requests rest
   pub awaits : IsUnfinished rest
   pub text : List ℕ
-  pub lines : AreLines set 0 rows requests text
+  pub lines : AreLines set 0 rows requests text large
   pub written : Appends output.before.told output.after.told text
 
 -- the first 2^48 requests, which have all numbers, and their lines; one more stands next
-pub record ServedMost (set : Setup) (rows : List Row) (input output : Port) : Type 0 where
+pub record ServedMost (set : Setup) (rows : List Row) (input output : Port) (large : ℕ) : Type 0 where
   pub requests : List Request
   pub next : Request
   pub taken : List ℕ
@@ -61,18 +61,18 @@ pub record ServedMost (set : Setup) (rows : List Row) (input output : Port) : Ty
   pub whole : IfSome input.before.told (λ bytes. FirstOf bytes (requests ++ next ∷ []))
   pub all : length requests ≡ MOST_REQUESTS
   pub text : List ℕ
-  pub lines : AreLines set 0 rows requests text
+  pub lines : AreLines set 0 rows requests text large
   pub written : Appends output.before.told output.after.told text
 
 -- a prefix of the lines of the first requests of the bytes taken, which are the first of the input
-pub record ServedFront (set : Setup) (rows : List Row) (input output : Port) : Type 0 where
+pub record ServedFront (set : Setup) (rows : List Row) (input output : Port) (large : ℕ) : Type 0 where
   pub requests : List Request
   pub few : length requests ≤ MOST_REQUESTS
   pub taken : List ℕ
   pub begins : BeginsWith input.before.told taken
   pub first : FirstOf taken requests
   pub text : List ℕ
-  pub lines : AreLines set 0 rows requests text
+  pub lines : AreLines set 0 rows requests text large
   pub written : AppendsFront output.before.told output.after.told text
 
 -- the status by which an end of the list of requests is told
@@ -81,17 +81,18 @@ status_of end_case.Ended = Done
 status_of end_case.Asked = Done
 status_of _ = Input
 
--- what each status says, the others being none that this run has. The first request is answered by these rows
-abbrev pub Serves : Setup → List Row → Port → Port → Status → Type 0
-Serves set rows input output Done =
-    (end : End) × (status_of end ≡ Done) × ServedAll set rows input output end × IsSound input × IsSound output
-Serves set rows input output Input =
-    (end : End) × (status_of end ≡ Input) × ServedAll set rows input output end × IsSound input × IsSound output
-Serves set rows input output ReadFault = HasFailed input × ServedTaken set rows input output
-Serves set rows input output WriteFault = HasFailed output × ServedFront set rows input output
-Serves set rows input output NumbersSpent = ServedMost set rows input output
-Serves set rows input output NoMemory = ServedFront set rows input output
-Serves set rows input output _ = ⊥
+-- what each status says, the others being none that this run has. The first request is answered by these rows, and so many
+-- events are too large
+abbrev pub Serves : Setup → List Row → Port → Port → ℕ → Status → Type 0
+Serves set rows input output large Done =
+    (end : End) × (status_of end ≡ Done) × ServedAll set rows input output large end × IsSound input × IsSound output
+Serves set rows input output large Input =
+    (end : End) × (status_of end ≡ Input) × ServedAll set rows input output large end × IsSound input × IsSound output
+Serves set rows input output large ReadFault = HasFailed input × ServedTaken set rows input output large
+Serves set rows input output large WriteFault = HasFailed output × ServedFront set rows input output large
+Serves set rows input output large NumbersSpent = ServedMost set rows input output large
+Serves set rows input output large NoMemory = ServedFront set rows input output large
+Serves set rows input output large _ = ⊥
 
 -- ---- what the calls within a run do
 
@@ -114,9 +115,9 @@ pub record Spilled (w0 w : Option (List ℕ)) (old new : List ℕ) : Type 0 wher
   pub written : Appends w0 w front
 
 -- so far: these requests were read from the bytes taken, and these bytes are held; a part of their lines was written, and
--- the other part is pending; these are the rows now. `left0`, `left`, `w0` and `w` are what source and sink told at first
+-- the other part is pending; so many of their events are too large; these are the rows now. `left0`, `left`, `w0` and `w` are what source and sink told at first
 -- and tell now
-pub record Served (set : Setup) (rows rows_now : List Row) (left0 left : Option (List ℕ)) (held : List ℕ) (w0 w : Option (List ℕ)) (pending : List ℕ) (number : ℕ) : Type 0 where
+pub record Served (set : Setup) (rows rows_now : List Row) (left0 left : Option (List ℕ)) (held : List ℕ) (w0 w : Option (List ℕ)) (pending : List ℕ) (number large : ℕ) : Type 0 where
   pub requests : List Request
   pub taken : List ℕ
   pub consumed : Consumes left0 left taken
@@ -125,5 +126,5 @@ pub record Served (set : Setup) (rows rows_now : List Row) (left0 left : Option 
   pub few : length requests ≤ MOST_REQUESTS
   pub sent : List ℕ
   pub written : Appends w0 w sent
-  pub lines : AreLines set 0 rows requests (sent ++ pending)
+  pub lines : AreLines set 0 rows requests (sent ++ pending) large
   pub stands : rows_now ≡ rows_after_all set rows requests

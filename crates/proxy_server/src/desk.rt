@@ -7,10 +7,10 @@ ghost use Rattle.command_options.specs.declared.fault.WordsFault.TheVariants as 
 ghost use Rattle.front_ports.specs.FileMap.{KeepsFiles};
 ghost use Rattle.proxy_server.specs.Desk as spec;
 ghost use Rattle.proxy_server.specs.Ports.{files_port, port};
-ghost use Rattle.proxy_server.specs.Status.{code_of};
-ghost use Rattle.proxy_server.specs.declared.status.Status.{Status};
+ghost use Rattle.proxy_server.specs.Serving.{Serves};
+ghost use Rattle.proxy_server.specs.Why.{TellsServing};
 
-use crate::ended::{Ended, Outcome, load_outcome, served_outcome, words_outcome};
+use crate::ended::{Ended, Outcome, load_outcome, served_ended, words_outcome};
 use crate::serving::{Progress, serve_requests};
 use crate::setup::Setup;
 use crate::status::Status;
@@ -81,52 +81,75 @@ fn configure<F: Files>(alloc: Global, words: &Vec<String>, files: &mut F) -> Res
     }
 }
 
-// The run, whose status the top call answers by its code.
-fn desk<F: Files, S: Source, O: ByteSink>(
+// The requests of an input, over routes of this table.
+fn serve_table<S: Source, O: ByteSink>(
     alloc: Global,
-    words: &Vec<String>,
-    files: &mut F,
+    setup: &Setup,
+    paths: &LocalPaths,
+    table: RouteTable,
     input: &mut S,
     out: &mut O,
-) -> Outcome
-    ensures run { spec.Run (map string_bytes words.now.items)
-        (files_port (F.files files.old) (F.failed files.old) (F.faults files.old)
-        (F.files files.new) (F.failed files.new) (F.faults files.new))
+    progress: &mut Progress,
+) -> Status
+    requires { progress.old.too_large ≡ 0 }
+    ensures run { Serves setup.now table.rows
         (port (S.left input.old) (S.read_faults input.old) (S.left input.new) (S.read_faults input.new))
         (port (O.written out.old) (O.write_faults out.old) (O.written out.new) (O.write_faults out.new))
-        result.status result.why }
-    ensures kept { KeepsFiles (F.files files.old) (F.files files.new) }
-    ensures files_later { F.faults files.old ≤ F.faults files.new }
+        progress.new.too_large result }
     ensures read_later { S.read_faults input.old ≤ S.read_faults input.new }
     ensures write_later { O.write_faults out.old ≤ O.write_faults out.new }
 {
-    let told = match configure(alloc, words, files) {
-        Ok(told) => told,
-        Err(outcome) => return outcome,
-    };
-    let Ok(paths) = LocalPaths::new(alloc) else {
-        return Outcome {
-            status: Status::NoMemory,
-            why: None,
-        };
-    };
-    let Ok(mut routes) = TableRoutes::new(alloc, told.table) else {
-        return Outcome {
-            status: Status::NoMemory,
-            why: None,
-        };
-    };
+    match TableRoutes::new(alloc, table) {
+        Ok(routes) => {
+            let mut routes = routes;
+            serve_requests(alloc, setup, paths, &mut routes, input, out, progress)
+        }
+        Err(_) => Status::NoMemory,
+    }
+}
+
+// The same, over the paths that are answered here.
+fn serve_paths<S: Source, O: ByteSink>(
+    alloc: Global,
+    setup: &Setup,
+    table: RouteTable,
+    input: &mut S,
+    out: &mut O,
+    progress: &mut Progress,
+) -> Status
+    requires { progress.old.too_large ≡ 0 }
+    ensures run { Serves setup.now table.rows
+        (port (S.left input.old) (S.read_faults input.old) (S.left input.new) (S.read_faults input.new))
+        (port (O.written out.old) (O.write_faults out.old) (O.written out.new) (O.write_faults out.new))
+        progress.new.too_large result }
+    ensures read_later { S.read_faults input.old ≤ S.read_faults input.new }
+    ensures write_later { O.write_faults out.old ≤ O.write_faults out.new }
+{
+    match LocalPaths::new(alloc) {
+        Ok(paths) => serve_table(alloc, setup, &paths, table, input, out, progress),
+        Err(_) => Status::NoMemory,
+    }
+}
+
+// A run that was told what to do.
+fn run_start<S: Source, O: ByteSink>(
+    alloc: Global,
+    start: Start,
+    input: &mut S,
+    out: &mut O,
+) -> Ended
+    ensures run { Serves start.setup start.table.rows
+        (port (S.left input.old) (S.read_faults input.old) (S.left input.new) (S.read_faults input.new))
+        (port (O.written out.old) (O.write_faults out.old) (O.written out.new) (O.write_faults out.new))
+        result.too_large result.status }
+    ensures why { TellsServing result.status result.why }
+    ensures read_later { S.read_faults input.old ≤ S.read_faults input.new }
+    ensures write_later { O.write_faults out.old ≤ O.write_faults out.new }
+{
+    let Start { setup, table } = start;
     let mut progress = Progress::NONE;
-    let status = serve_requests(
-        alloc,
-        &told.setup,
-        &paths,
-        &mut routes,
-        input,
-        out,
-        &mut progress,
-    );
-    served_outcome(status, &progress)
+    let status = serve_paths(alloc, &setup, table, input, out, &mut progress);
+    served_ended(status, &progress, setup.settings.max_event)
 }
 
 /// The command `explain`: reads the requests of an input and writes the audit lines that each of them owes, each with a
@@ -134,8 +157,10 @@ fn desk<F: Files, S: Source, O: ByteSink>(
 /// which the requests may change, and the endpoints of a fourth. Where the words ask for routes, it writes one line of
 /// each request instead: its number, and where it goes.
 ///
-/// It answers the code of a `Status`, and what was refused: the fault of the words, or that of a file by its name. Which
-/// word is bad, and a refused request's number and first byte, are told too, and no clause speaks of them.
+/// It answers a `Status`, and what was refused: the fault of the words, or that of a file by its name. Which word is bad,
+/// and a refused request's number and first byte, are told too, and no clause speaks of them. It counts the events that are
+/// too large for a line and so aren't written: those of all requests that were answered, where it ends early too; with
+/// routes asked for, none.
 ///
 /// The status is `Done` where the input was read to its end, or to the last request of its connection; `Usage` where the
 /// words, which are those after the program's name, are no command line; `Configuration` where an option is out of its
@@ -153,19 +178,18 @@ pub fn run_desk<F: Files, S: Source, O: ByteSink>(
     input: &mut S,
     out: &mut O,
 ) -> Ended
-    ensures run { (status : Status) × (result.status ≡ code_of status)
-        × spec.Run (map string_bytes words.now.items)
+    ensures run { spec.Run (map string_bytes words.now.items)
         (files_port (F.files files.old) (F.failed files.old) (F.faults files.old)
         (F.files files.new) (F.failed files.new) (F.faults files.new))
         (port (S.left input.old) (S.read_faults input.old) (S.left input.new) (S.read_faults input.new))
         (port (O.written out.old) (O.write_faults out.old) (O.written out.new) (O.write_faults out.new))
-        status result.why }
+        result.status result.why result.too_large }
 
     // The words alone decide on `Usage`.
-    ensures usage { result.status ≡ code_of Status.Usage
+    ensures usage { result.status ≡ Status.Usage
         → command_of (map string_bytes words.now.items) ≡ Err words_fault.Usage }
     ensures misused { command_of (map string_bytes words.now.items) ≡ Err words_fault.Usage
-        → (result.status ≡ code_of Status.Usage) ⊎ (result.status ≡ code_of Status.NoMemory) }
+        → (result.status ≡ Status.Usage) ⊎ (result.status ≡ Status.NoMemory) }
 
     // Told files stay, and the counts of faults don't fall.
     ensures kept { KeepsFiles (F.files files.old) (F.files files.new) }
@@ -173,9 +197,11 @@ pub fn run_desk<F: Files, S: Source, O: ByteSink>(
     ensures read_later { S.read_faults input.old ≤ S.read_faults input.new }
     ensures write_later { O.write_faults out.old ≤ O.write_faults out.new }
 {
-    let Outcome { status, why } = desk(alloc, words, files, input, out);
-    Ended {
-        status: status.code(),
-        why,
+    match configure(alloc, words, files) {
+        Ok(start) => run_start(alloc, start, input, out),
+        Err(outcome) => {
+            let Outcome { status, why } = outcome;
+            Ended::of(status, why)
+        }
     }
 }

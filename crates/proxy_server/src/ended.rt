@@ -12,30 +12,89 @@ use std::alloc::{AllocError, Global};
 /// How a top call ended.
 #[derive(Debug, Drop)]
 pub struct Ended {
-    /// The code of a `Status`.
-    pub status: u8,
+    pub status: Status,
     /// What was refused, where there is more to tell than the status.
     pub why: Option<Refusal>,
+    /// How many events of the requests that were answered were too large for a line, and are left out.
+    pub too_large: u64,
+    /// How many bytes a line could have, 0 where no words said so.
+    pub max_event: u64,
+}
+
+// The line on events that are left out, with a line feed, or nothing.
+fn too_large_line(alloc: Global, events: u64, most: u64) -> Result<String, AllocError> {
+    if events == 0 {
+        return Ok(String::new(alloc));
+    }
+    let noun = if events == 1 { "event" } else { "events" };
+    format!(in alloc; "apiaggd: {events} {noun} left out: longer than {most} bytes\n")
 }
 
 impl Ended {
-    /// What a person is told of it, each line with a line feed: the status's word and, where something was refused, what.
-    /// Nothing where all was done.
-    pub fn told(&self, alloc: Global, words: &[String]) -> Result<String, AllocError> {
-        let Some(word) = Status::of_code(self.status).and_then(|status| status.word()) else {
+    /// An end before any request was answered.
+    pub fn of(status: Status, why: Option<Refusal>) -> Ended
+        ensures status { result.status ≡ status }
+        ensures why { result.why ≡ why }
+        ensures none { result.too_large ≡ 0 }
+    {
+        Ended {
+            status,
+            why,
+            too_large: 0,
+            max_event: 0,
+        }
+    }
+
+    // The status's word and, where something was refused, what and why.
+    fn status_lines(
+        &self,
+        alloc: Global,
+        words: &[String],
+        reason: Option<&str>,
+    ) -> Result<String, AllocError> {
+        let Some(word) = self.status.word() else {
             return Ok(String::new(alloc));
         };
         match &self.why {
             Some(why) => {
-                let line = refusal_text(alloc, words, why)?;
-                format!(in alloc; "apiaggd: {word}\n{line}\n")
+                let line = refusal_text(alloc, words, why, reason)?;
+                format!(in alloc; "apiaggd: {word}\napiaggd: {line}\n")
             }
             None => format!(in alloc; "apiaggd: {word}\n"),
         }
     }
+
+    /// What standard error says of it, each line with a line feed: the status's word and, where something was refused,
+    /// what, with the system's reason; and how many events are left out, if any are. Nothing where all was done.
+    pub fn told(
+        &self,
+        alloc: Global,
+        words: &[String],
+        reason: Option<&str>,
+    ) -> Result<String, AllocError> {
+        let status = self.status_lines(alloc, words, reason)?;
+        let events = too_large_line(alloc, self.too_large, self.max_event)?;
+        format!(in alloc; "{status}{events}")
+    }
+
+    /// The system's reason for what was refused, by those that the files, the input and the output give for their last
+    /// fault.
+    pub fn reason(
+        &self,
+        files: Option<&'static str>,
+        input: Option<&'static str>,
+        output: Option<&'static str>,
+    ) -> Option<&'static str> {
+        match &self.why {
+            Some(Refusal::Files { .. }) => files,
+            Some(Refusal::Input) => input,
+            Some(Refusal::Output) => output,
+            _ => None,
+        }
+    }
 }
 
-/// The same before the status is a code.
+/// How words and files are refused.
 #[derive(Debug, Drop)]
 pub struct Outcome {
     pub status: Status,
@@ -124,13 +183,16 @@ fn why_of_serving(status: Status, progress: &Progress) -> Option<Refusal>
     }
 }
 
-/// How a run ends that read its input with this status, having come so far.
-pub fn served_outcome(status: Status, progress: &Progress) -> Outcome
+/// How a run ends that read its input with this status, having come so far, where an event may have so many bytes.
+pub fn served_ended(status: Status, progress: &Progress, max_event: u64) -> Ended
     ensures status { result.status ≡ status }
     ensures why { spec.TellsServing status result.why }
+    ensures too_large { result.too_large ≡ progress.now.too_large }
 {
-    Outcome {
+    Ended {
         status,
         why: why_of_serving(status, progress),
+        too_large: progress.too_large,
+        max_event,
     }
 }

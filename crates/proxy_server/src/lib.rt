@@ -18,6 +18,7 @@ mod adapters;
 mod desk;
 mod ended;
 mod lines;
+mod pushing;
 mod route_line;
 mod serving;
 mod setup;

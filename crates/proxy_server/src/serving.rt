@@ -19,12 +19,25 @@ use std::alloc::Global;
 // Lines are gathered until they have so many bytes, and written together.
 const WRITE_BYTES: usize = 65_536;
 
+fn status_of(end: End) -> Status
+    ensures { result ≡ spec.status_of end }
+{
+    match end {
+        End::Ended => Status::Done,
+        End::Asked => Status::Done,
+        End::BadHead => Status::Input,
+        End::HeadTooLarge => Status::Input,
+        End::BadFraming => Status::Input,
+        End::BodyTooLarge => Status::Input,
+        End::CutShort => Status::Input,
+    }
+}
+
 fn status_of_stop(stop: Stop) -> Status
     ensures { result ≡ spec.status_of_stop stop }
 {
     match stop {
-        Stop::Refused(End::Ended | End::Asked) => Status::Done,
-        Stop::Refused(_) => Status::Input,
+        Stop::Refused(end) => status_of(end),
         Stop::ReadFault => Status::ReadFault,
         Stop::NoMemory => Status::NoMemory,
     }
@@ -57,7 +70,7 @@ fn spill<O: ByteSink>(out: &mut O, pending: &mut Vec<u8>) -> Result<(), PortFaul
     Ok(())
 }
 
-/// How far a run over an input came, for messages: no clause says so.
+/// How far a run over an input came. The first three are for messages, and no clause speaks of them.
 #[derive(Clone, Copy, Debug, PartialEq, Eq)]
 pub struct Progress {
     /// How many requests came before the one that is read.
@@ -66,6 +79,8 @@ pub struct Progress {
     pub used: u64,
     /// Why no more requests come, once none come.
     pub end: End,
+    /// How many events of the requests that were answered are too large for a line.
+    pub too_large: u64,
 }
 
 impl Progress {
@@ -73,18 +88,21 @@ impl Progress {
         served: 0,
         used: 0,
         end: End::Ended,
+        too_large: 0,
     };
 }
 
 // Notes why no more requests come.
-fn note_end(progress: &mut Progress, stop: Stop) {
+fn note_end(progress: &mut Progress, stop: Stop)
+    ensures { progress.new.too_large ≡ progress.old.too_large }
+{
     if let Stop::Refused(end) = stop {
         progress.end = end;
     }
 }
 
 /// Writes the lines of each request of the input, up to the end of its list of requests. Requests have the numbers
-/// from 0 on, and each is answered by the table as those before it left it.
+/// from 0 on, and each is answered by the table as those before it left it. `progress` counts the events that are too large.
 pub fn serve_requests<S: Source, O: ByteSink>(
     alloc: Global,
     setup: &Setup,
@@ -94,10 +112,11 @@ pub fn serve_requests<S: Source, O: ByteSink>(
     out: &mut O,
     progress: &mut Progress,
 ) -> Status
+    requires { progress.old.too_large ≡ 0 }
     ensures run { spec.Serves setup.now (rows_of routes.old)
         (port (S.left input.old) (S.read_faults input.old) (S.left input.new) (S.read_faults input.new))
         (port (O.written out.old) (O.write_faults out.old) (O.written out.new) (O.write_faults out.new))
-        result }
+        progress.new.too_large result }
     ensures read_later { S.read_faults input.old ≤ S.read_faults input.new }
     ensures write_later { O.write_faults out.old ≤ O.write_faults out.new }
 {
@@ -121,7 +140,7 @@ pub fn serve_requests<S: Source, O: ByteSink>(
             return close(out, pending.as_slice(), Status::NumbersSpent);
         }
         match add_lines(alloc, setup, paths, routes, number, &request, &mut pending) {
-            Ok(()) => {}
+            Ok(count) => progress.too_large += count,
             Err(_) => return close(out, pending.as_slice(), Status::NoMemory),
         }
         number += 1;

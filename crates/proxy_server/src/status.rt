@@ -1,4 +1,4 @@
-ghost use Rattle.std.specs.Prelude.{◌≡◌, IfNone, IfSome};
+ghost use Rattle.std.specs.Prelude.{◌≡◌};
 ghost use Rattle.proxy_server.specs.Status.{code_of};
 
 /// How a top call ended.
@@ -42,26 +42,7 @@ impl Status {
         }
     }
 
-    /// The status of that code, none where no status has it.
-    pub fn of_code(code: u8) -> Option<Status>
-        ensures has { IfSome result (λ status. code_of status ≡ code) }
-        ensures none { IfNone result ((status : Status) → code_of status ≡ code → ⊥) }
-    {
-        match code {
-            0 => Some(Status::Done),
-            2 => Some(Status::Usage),
-            3 => Some(Status::Configuration),
-            4 => Some(Status::ReadFault),
-            5 => Some(Status::PortFault),
-            6 => Some(Status::NoMemory),
-            7 => Some(Status::WriteFault),
-            8 => Some(Status::NumbersSpent),
-            9 => Some(Status::Input),
-            _ => None,
-        }
-    }
-
-    /// The word that tells a person, none where all was done.
+    /// The word that names it, none where all was done.
     pub fn word(self) -> Option<&'static str> {
         match self {
             Status::Done => None,

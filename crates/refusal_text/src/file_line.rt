@@ -1,5 +1,5 @@
 // The line for a file that wasn't loaded.
-ghost use Rattle.std.specs.Prelude.{◌≡◌, ◌++◌, IfOk, string_bytes};
+ghost use Rattle.std.specs.Prelude.{◌≡◌, ◌++◌, IfOk, codes, option_map, string_bytes};
 ghost use Rattle.front_config.specs.Load.{name_for};
 ghost use Rattle.refusal_text.specs.Place.{place_of};
 ghost use Rattle.refusal_text.specs.Text as spec;
@@ -82,20 +82,42 @@ fn bad_file(
     Ok(line)
 }
 
-fn unread(alloc: Global, names: &FileNames, which: Which) -> Result<String, AllocError>
-    ensures { IfOk result (λ line. spec.Begins (string_bytes line) (spec.file_head names.now which)) }
+/// The system's reason, or else these words.
+pub fn reason_or<'r>(words: &'static str, reason: Option<&'r str>) -> &'r str
+    ensures { result.now ≡ spec.reason_or words.now (option_map (λ own. own.now) reason.entry) }
+{
+    match reason {
+        Some(reason) => reason,
+        None => words,
+    }
+}
+
+fn unread(
+    alloc: Global,
+    names: &FileNames,
+    which: Which,
+    reason: Option<&str>,
+) -> Result<String, AllocError>
+    ensures { IfOk result (λ line. string_bytes line ≡ spec.file_head names.now which
+        ++ spec.reason_or (codes "could not be read") (option_map (λ own. own.now) reason.entry)) }
 {
     let mut line = file_head(alloc, names, which)?;
-    line.push_str("could not be read")?;
+    line.push_str(reason_or("could not be read", reason))?;
     Ok(line)
 }
 
-/// The line for files that weren't loaded.
-pub fn file_line(alloc: Global, names: &FileNames, fault: &LoadFault) -> Result<String, AllocError>
-    ensures { IfOk result (λ line. spec.SaysFile names.now fault.now (string_bytes line)) }
+/// The line for files that weren't loaded, the system having given this reason.
+pub fn file_line(
+    alloc: Global,
+    names: &FileNames,
+    fault: &LoadFault,
+    reason: Option<&str>,
+) -> Result<String, AllocError>
+    ensures { IfOk result (λ line.
+        spec.SaysFile names.now fault.now (option_map (λ own. own.now) reason.entry) (string_bytes line)) }
 {
     match fault {
-        LoadFault::ReadFault { which } => unread(alloc, names, *which),
+        LoadFault::ReadFault { which } => unread(alloc, names, *which, reason),
         LoadFault::BadFile { which, fault } => bad_file(alloc, names, *which, fault),
         LoadFault::NoMemory => String::from_str(alloc, "out of memory"),
     }

@@ -43,20 +43,15 @@ const BEYOND: &str =
     "JSON with a number too great, an escape of half a surrogate pair, or more than 127 arrays and objects \
 inside one another";
 
-/// Why bytes were refused as no JSON: the first byte that no JSON text has there, counted from 1, and its line and column
-/// where the file has several lines.
+/// Why bytes were refused as no JSON: the line and the column of the first byte that no JSON text has there.
 pub fn json_reason(alloc: Global, bytes: &[u8]) -> Result<String, AllocError> {
     let Some(stop) = json_stop(bytes) else {
         return String::from_str(alloc, BEYOND);
     };
     if stop >= bytes.len() {
-        return String::from_str(alloc, "no JSON: the file ends too early");
+        return String::from_str(alloc, "not JSON: the file ends too early");
     }
-    let byte = (stop as u64).saturating_add(1);
     let (before, _) = bytes.split_at(stop);
     let Position { line, column } = position_of(before);
-    if !bytes.contains(&b'\n') {
-        return format!(in alloc; "no JSON at byte {byte}");
-    }
-    format!(in alloc; "no JSON at byte {byte}: line {line}, column {column}")
+    format!(in alloc; "not JSON: line {line}, column {column}")
 }

@@ -6,6 +6,8 @@ use token_users::{BadRecord, Field};
 
 const WHOLE_NUMBERS: &str = "a number with a fraction or an exponent, -0, or one past 64 bits";
 
+const STAGES: &str = "not a list of RequestReceived, ResponseStarted, ResponseComplete or Panic";
+
 const TEXTS: &str = "not a list of texts";
 
 fn not_utf8(field: Field) -> &'static str {
@@ -42,8 +44,8 @@ fn policy_member(is_rule: bool, name: &str) -> &'static str {
         "number" => WHOLE_NUMBERS,
         "rules" if is_rule => "not an object",
         "rules" => "not a list",
-        "level" => "not a level",
-        "omitStages" => "not a list of stages",
+        "level" => "not None, Metadata, Request or RequestResponse",
+        "omitStages" => STAGES,
         "omitManagedFields" => "not true or false",
         "resources" => "not a list of objects with a group, resources and resourceNames",
         _ => TEXTS,
@@ -84,9 +86,9 @@ fn row_member(member: &str) -> &'static str {
 
 fn range(member: &str) -> &'static str {
     match member {
-        "spec.groupPriorityMinimum" => "out of range: not in 1..20000",
-        "spec.versionPriority" => "out of range: not in 1..1000",
-        "spec.service.port" => "out of range: not in 1..65535",
+        "spec.groupPriorityMinimum" => "must be 1 to 20000",
+        "spec.versionPriority" => "must be 1 to 1000",
+        "spec.service.port" => "must be 1 to 65535",
         _ => "out of range",
     }
 }

@@ -1,7 +1,8 @@
-ghost use Rattle.std.specs.Prelude.{◌≡◌, IfOk, string_bytes};
+ghost use Rattle.std.specs.Prelude.{◌≡◌, ◌++◌, IfOk, codes, option_map, string_bytes};
 ghost use Rattle.refusal_text.specs.Text as spec;
 
-use crate::file_line::file_line;
+use crate::addresses::{listen_line, webhook_line};
+use crate::file_line::{file_line, reason_or};
 use crate::refusal::Refusal;
 use crate::usage::usage_line;
 use command_options::Ranged;
@@ -14,21 +15,7 @@ fn range_line(alloc: Global, option: Ranged, number: u64) -> Result<String, Allo
     let name = option.name();
     let least = option.least();
     let most = option.most();
-    format!(in alloc; "--{name}={number}: not in {least}..{most}")
-}
-
-fn listen_line(alloc: Global, text: &str) -> Result<String, AllocError>
-    ensures { IfOk result (λ line. string_bytes line ≡ spec.listen_line text.now) }
-{
-    format!(in alloc; "--listen={text}: not A.B.C.D:PORT or localhost:PORT")
-}
-
-fn webhook_line(alloc: Global, url: &str) -> Result<String, AllocError>
-    ensures { IfOk result (λ line. string_bytes line ≡ spec.webhook_line url.now) }
-{
-    format!(in alloc;
-        "--audit-webhook-url={url}: not http with an IPv4 address or localhost, and no user or fragment"
-    )
+    format!(in alloc; "--{name}={number}: must be {least} to {most}")
 }
 
 // The name of a refusal, and the status that it would be answered with over a connection.
@@ -58,14 +45,32 @@ fn request_line(alloc: Global, number: u64, byte: u64, end: End) -> Result<Strin
     Ok(line)
 }
 
-/// The line that tells a person of a refusal, without a line feed. These are the words after the program's name. Bytes,
-/// lines, columns, records and requests are counted from 1, and places in a list of JSON from 0.
+fn input_line(alloc: Global, reason: Option<&str>) -> Result<String, AllocError>
+    ensures { IfOk result (λ line. string_bytes line ≡ codes "standard input: "
+        ++ spec.reason_or (codes "could not be read") (option_map (λ own. own.now) reason.entry)) }
+{
+    let why = reason_or("could not be read", reason);
+    format!(in alloc; "standard input: {why}")
+}
+
+fn output_line(alloc: Global, reason: Option<&str>) -> Result<String, AllocError>
+    ensures { IfOk result (λ line. string_bytes line ≡ codes "standard output: "
+        ++ spec.reason_or (codes "could not be written") (option_map (λ own. own.now) reason.entry)) }
+{
+    let why = reason_or("could not be written", reason);
+    format!(in alloc; "standard output: {why}")
+}
+
+/// The line on a refusal, without a line feed: the words after `apiaggd: `. Where a file, the input or the output could not
+/// be read or written, it has the reason that the system gave, if there is one. Bytes, lines, columns, records and requests
+/// are counted from 1, and places in a list of JSON from 0.
 pub fn refusal_text(
     alloc: Global,
     words: &[String],
     refusal: &Refusal,
+    reason: Option<&str>,
 ) -> Result<String, AllocError>
-    ensures { IfOk result (λ line. spec.Says refusal.now (string_bytes line)) }
+    ensures { IfOk result (λ line. spec.Says refusal.now (option_map (λ own. own.now) reason.entry) (string_bytes line)) }
 {
     match refusal {
         Refusal::Words(bad) => usage_line(alloc, words, bad),
@@ -73,9 +78,9 @@ pub fn refusal_text(
         Refusal::Limits { option, number } => range_line(alloc, *option, *number),
         Refusal::Listen(text) => listen_line(alloc, text.as_str()),
         Refusal::Webhook(url) => webhook_line(alloc, url.as_str()),
-        Refusal::Files { names, fault } => file_line(alloc, names, fault),
+        Refusal::Files { names, fault } => file_line(alloc, names, fault, reason),
         Refusal::Request { number, byte, end } => request_line(alloc, *number, *byte, *end),
-        Refusal::Input => String::from_str(alloc, "standard input: could not be read"),
-        Refusal::Output => String::from_str(alloc, "standard output: could not be written"),
+        Refusal::Input => input_line(alloc, reason),
+        Refusal::Output => output_line(alloc, reason),
     }
 }

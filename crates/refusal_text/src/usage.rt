@@ -1,11 +1,30 @@
 // What is wrong with words that are no command line.
-ghost use Rattle.std.specs.Prelude.{IfOk};
-
-use command_options::{BadWord, WordFault, options_for, sink_of};
+use command_options::{BadWord, WordFault, command_with, options_for, ranged_named, sink_of};
 use std::alloc::{AllocError, Global};
 use strsim::levenshtein;
 
-const HINT: &str = "Try 'apiaggd --help'.";
+const PROGRAM_HELP: &str = "Try 'apiaggd --help'.";
+
+// The help that tells the options of the command of that name.
+fn help_on(command: &str) -> &'static str {
+    match command {
+        "explain" => "Try 'apiaggd explain --help'.",
+        "serve" => "Try 'apiaggd serve --help'.",
+        "rehearse" => "Try 'apiaggd rehearse --help'.",
+        _ => PROGRAM_HELP,
+    }
+}
+
+// The help that fits a fault of these words.
+fn help_for(words: &[String], fault: WordFault) -> &'static str {
+    match fault {
+        WordFault::NoCommand | WordFault::UnknownCommand => PROGRAM_HELP,
+        _ => match words {
+            [command, ..] => help_on(command.as_str()),
+            [] => PROGRAM_HELP,
+        },
+    }
+}
 
 // Whether a name is near a known one: the start of it, or at most a third of it away in edits.
 fn is_near(alloc: Global, name: &str, known: &str) -> Result<bool, AllocError> {
@@ -43,43 +62,80 @@ fn option_in(word: &str) -> &str {
     }
 }
 
+// The command that has this option, with its dashes.
+fn owner_of(option: &str) -> Option<&'static str> {
+    command_with(option.strip_prefix("--")?)
+}
+
+// An option that the command hasn't: it is another command's, or near a known one, or neither.
 fn unknown_option(alloc: Global, words: &[String], option: &str) -> Result<String, AllocError> {
+    if let Some(command) = owner_of(option) {
+        return format!(in alloc; "{option}: an option of {command}");
+    }
     let name = option.trim_start_matches('-');
     match near_option(alloc, words, name)? {
-        Some(known) => {
-            format!(in alloc; "{option}: unknown option; did you mean --{known}? {HINT}")
+        Some(known) => format!(in alloc; "{option}: unknown option; did you mean --{known}?"),
+        None => format!(in alloc; "{option}: unknown option"),
+    }
+}
+
+fn not_number(alloc: Global, option: &str) -> Result<String, AllocError> {
+    match ranged_named(option.trim_start_matches('-')) {
+        Some(own) => {
+            let least = own.least();
+            let most = own.most();
+            format!(in alloc; "{option}: not a whole number from {least} to {most}")
         }
-        None => format!(in alloc; "{option}: unknown option. {HINT}"),
+        None => format!(in alloc; "{option}: not a whole number"),
     }
 }
 
 // The mode of a sink that isn't named.
 fn no_sink(alloc: Global, option: &str) -> Result<String, AllocError> {
     match sink_of(option.trim_start_matches('-')) {
-        Some(sink) => format!(in alloc; "{option}: needs --{sink}. {HINT}"),
-        None => format!(in alloc; "{option}: needs its sink. {HINT}"),
+        Some(sink) => format!(in alloc; "{option}: needs --{sink}"),
+        None => format!(in alloc; "{option}: needs its sink"),
     }
 }
 
-/// The line for a bad word of these.
+// What asks for help or the version, and stands beside no other word.
+fn stands_alone(option: &str) -> bool {
+    matches!(option, "--help" | "-h" | "--version")
+}
+
+fn fault_line(
+    alloc: Global,
+    words: &[String],
+    word: &str,
+    fault: WordFault,
+) -> Result<String, AllocError> {
+    let option = option_in(word);
+    if stands_alone(option) {
+        return format!(in alloc; "{option} stands alone");
+    }
+    match fault {
+        WordFault::NoCommand => String::from_str(alloc, "no command"),
+        WordFault::UnknownCommand => format!(in alloc; "{word:?}: unknown command"),
+        WordFault::NotOption => format!(in alloc; "{word:?}: not an option"),
+        WordFault::UnknownOption => unknown_option(alloc, words, option),
+        WordFault::NoValue => format!(in alloc; "{option}: no value"),
+        WordFault::HasValue => format!(in alloc; "{option}: takes no value"),
+        WordFault::Twice => format!(in alloc; "{option}: given twice"),
+        WordFault::NotNumber => not_number(alloc, option),
+        WordFault::NotMode => format!(in alloc; "{option}: not batch, blocking or blocking-strict"),
+        WordFault::NoSink => no_sink(alloc, option),
+    }
+}
+
+/// The line for a bad word of these, which ends with the help that tells more.
 pub fn usage_line(alloc: Global, words: &[String], bad: &BadWord) -> Result<String, AllocError> {
     let word = match words.get(bad.place) {
         Some(word) => word.as_str(),
         None => "",
     };
-    let option = option_in(word);
-    match bad.fault {
-        WordFault::NoCommand => format!(in alloc; "no command. {HINT}"),
-        WordFault::UnknownCommand => format!(in alloc; "{word:?}: unknown command. {HINT}"),
-        WordFault::NotOption => format!(in alloc; "{word:?}: not an option. {HINT}"),
-        WordFault::UnknownOption => unknown_option(alloc, words, option),
-        WordFault::NoValue => format!(in alloc; "{option}: no value. {HINT}"),
-        WordFault::HasValue => format!(in alloc; "{option}: takes no value. {HINT}"),
-        WordFault::Twice => format!(in alloc; "{option}: given twice. {HINT}"),
-        WordFault::NotNumber => format!(in alloc; "{option}: not a number of 64 bits. {HINT}"),
-        WordFault::NotMode => {
-            format!(in alloc; "{option}: not batch, blocking or blocking-strict. {HINT}")
-        }
-        WordFault::NoSink => no_sink(alloc, option),
-    }
+    let mut line = fault_line(alloc, words, word, bad.fault)?;
+    let stop = if line.ends_with('?') { " " } else { ". " };
+    line.push_str(stop)?;
+    line.push_str(help_for(words, bad.fault))?;
+    Ok(line)
 }

@@ -1,5 +1,5 @@
-//! Runs of `apiaggd explain` that are refused, over the files of this folder's `data`: what each ends with and what a
-//! person is told of it, on standard output, where it is compared byte by byte.
+//! Runs of `apiaggd explain` that are refused, or leave events out, over the files of this folder's `data`: what each ends
+//! with and what standard error says of it, on standard output, where it is compared byte by byte.
 #![tactic(auto)]
 
 use proxy_server::{ReaderSource, SystemFiles, WriterSink, run_desk};
@@ -21,6 +21,9 @@ explain --moment=1 --moment 2|
 explain --routes=true|
 serve|
 explain|GET /healthz HTTP/1.1~~GET /healthz HTTP/1.1~~GET /healthz HTTP/2~~
+explain --max-event-size=300|GET /healthz HTTP/1.1~~
+explain --max-event-size=320|GET /healthz HTTP/1.1~~GET /healthz HTTP/2~~
+explain --max-event-size=300 --routes|GET /healthz HTTP/1.1~~
 ";
 
 fn words_of(alloc: Global, line: &str) -> Result<Vec<String>, AllocError> {
@@ -52,8 +55,9 @@ fn told(rt: &HostRuntime, line: &str, input: &str) -> Result<String, AllocError>
     let mut source = ReaderSource::new(input.as_bytes());
     let mut out = WriterSink::new(io::sink());
     let ended = run_desk(alloc, &words, &mut files, &mut source, &mut out);
-    let text = ended.told(alloc, words.as_slice())?;
-    format!(in alloc; "apiaggd {line}\n{}\n{text}", ended.status)
+    let reason = ended.reason(files.reason(), source.reason(), out.reason());
+    let text = ended.told(alloc, words.as_slice(), reason)?;
+    format!(in alloc; "apiaggd {line}\n{}\n{text}", ended.status.code())
 }
 
 fn main(rt: HostRuntime) -> ExitCode {

@@ -28,6 +28,14 @@ impl Peers {
             hook: listen(rt)?,
         })
     }
+
+    /// Where the webhook's peer and the backend listen.
+    pub fn ports(&self) -> io::Result<(u16, u16)> {
+        Ok((
+            self.hook.local_addr()?.port(),
+            self.backend.local_addr()?.port(),
+        ))
+    }
 }
 
 // A client asks for an API to be registered, with these headers more.

@@ -1,37 +1,53 @@
 use crate::counted::{Counted, figures_of};
 use crate::play::{Peers, play};
 use crate::setting::configured;
+use apiservice_table::RouteTable;
+use audit_core::Settings;
 use front_base::Address;
 use proxy_runs::{can_run, settings_of};
 use route_history::NewRoutes;
 use serve_config::ServeConfig;
 use serve_runs::RunStatus;
+use serve_words::ServeWords;
 use shared_runs::run_shared;
 use std::marker::Brand;
 use std::sync::Arc;
 use std::test::Fail;
 use std::thread;
 use tcp_plant::{TcpGate, TcpPlant};
+use tcp_ports::DEFAULT_LIMITS;
+
+// A gate for two bays, which is open.
+fn open_gate(rt: &HostRuntime) -> Result<Arc<TcpGate>, Fail> {
+    let alloc = rt.alloc();
+    let at = Address {
+        ip: [127, 0, 0, 1],
+        port: 0,
+    };
+    let hook = String::from_str(alloc, "webhook")?;
+    let gate = TcpGate::bind(rt, alloc, at, DEFAULT_LIMITS, 2, String::new(alloc), hook)?;
+    gate.open();
+    Ok(Arc::new(alloc, gate)?)
+}
+
+// What is left of a configuration, in parts that go different ways.
+fn parts_of(config: ServeConfig) -> (ServeWords, Settings, RouteTable) {
+    let ServeConfig { words, loaded } = config;
+    let (settings, table) = settings_of(&words, loaded);
+    (words, settings, table)
+}
 
 #[test]
 fn bays_and_the_drainer_work_at_once(rt: HostRuntime) -> Result<(), Fail> {
     let alloc = rt.alloc();
     let peers = Peers::open(&rt)?;
-    let config = configured(
-        alloc,
-        peers.hook.local_addr()?.port(),
-        peers.backend.local_addr()?.port(),
-    )?;
-    let ServeConfig { words, loaded } = config;
-    let (settings, table) = settings_of(&words, loaded);
-    let routes = NewRoutes::new(alloc, table)?;
-    let at = Address {
-        ip: [127, 0, 0, 1],
-        port: 0,
-    };
-    let gate = Arc::new(alloc, TcpGate::bind(&rt, alloc, at, words.limits, 2)?)?;
+    let (hook, backend) = peers.ports()?;
+    let gate = open_gate(&rt)?;
     let closer = Arc::try_clone(&gate)?;
     let listen = gate.address();
+    let mut plant = TcpPlant::new(&rt, &gate)?;
+    let (words, settings, table) = parts_of(configured(alloc, hook, backend)?);
+    let routes = NewRoutes::new(alloc, table)?;
     if !can_run(&words) {
         return Err(Fail::from("numbers of a run"));
     }
@@ -40,7 +56,6 @@ fn bays_and_the_drainer_work_at_once(rt: HostRuntime) -> Result<(), Fail> {
         closer.close();
         played
     })?;
-    let mut plant = TcpPlant::new(&rt, &gate)?;
     let ended = run_shared::<Brand, TcpPlant<HostRuntime>>(
         &rt, alloc, &words, settings, listen, routes, &mut plant,
     );
@@ -53,5 +68,7 @@ fn bays_and_the_drainer_work_at_once(rt: HostRuntime) -> Result<(), Fail> {
         lost: 0,
     };
     assert_eq!(rt; figures_of(ended), expected);
+    assert_eq!(rt; gate.running(), 3);
+    assert_eq!(rt; gate.hook().counts().written, 13);
     Ok(())
 }

@@ -3,4 +3,10 @@
 #![tactic(auto)]
 
 #[cfg(test)]
+mod common;
+#[cfg(test)]
+mod requests;
+#[cfg(test)]
 mod sockets;
+#[cfg(test)]
+mod starts;

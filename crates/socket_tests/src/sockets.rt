@@ -1,26 +1,13 @@
+use crate::common::{SHORT, address_of, connect, listen, millis_since, next_of, read_out};
 use front_base::Address;
 use front_ports::{ByteSink, Conn, Dial, Door, PortFault, Source, write_all};
-use std::io::{Read, Write};
-use std::net::{IpAddr, Ipv4Addr, Net, Shutdown, SocketAddr, TcpListener, TcpStream};
+use std::io::{ErrorKind, Read, Write};
+use std::net::{Net, Shutdown, TcpListener, TcpStream};
 use std::test::Fail;
-use std::time::{Clock, Duration, Instant};
+use std::time::{Duration, Instant};
 use std::{io, thread};
 use tcp_ports::{
-    DEFAULT_LIMITS, ServedClient, SharedListener, TcpDial, TcpDoor, TcpLimits, TcpLink,
-};
-
-// Times that are short enough for a test, and far from each other.
-const SHORT: TcpLimits = TcpLimits {
-    idle_timeout: 2_000,
-    fresh_grace: 60,
-    read_header_timeout: 150,
-    min_rate: 1_000,
-    stall_timeout: 300,
-    linger_timeout: 200,
-    response_header_timeout: 250,
-    shutdown_timeout: 300,
-    wake_interval: 50,
-    ..DEFAULT_LIMITS
+    DEFAULT_LIMITS, DialFault, ServedClient, SharedListener, TcpDial, TcpDoor, TcpLimits, TcpLink,
 };
 
 // No wake-up is made up for within the time of a round of the test that looks for lost ones.
@@ -32,68 +19,6 @@ const WAKEFUL: TcpLimits = TcpLimits {
 };
 
 const MOST_ROUND: u64 = 15_000;
-
-// The IPv4 address and the port, zeros for another address.
-fn address_of(from: SocketAddr) -> Address {
-    let ip = match from.ip() {
-        IpAddr::V4(ip) => ip.octets(),
-        IpAddr::V6(_) => [0; 4],
-    };
-    Address {
-        ip,
-        port: from.port(),
-    }
-}
-
-fn socket_addr_of(to: Address) -> SocketAddr {
-    let [a, b, c, d] = to.ip;
-    SocketAddr::new(IpAddr::V4(Ipv4Addr::new(a, b, c, d)), to.port)
-}
-
-fn listen<R: Net<Listener = TcpListener, Stream = TcpStream>>(
-    rt: &R,
-    limits: TcpLimits,
-) -> io::Result<SharedListener> {
-    let at = Address {
-        ip: [127, 0, 0, 1],
-        port: 0,
-    };
-    SharedListener::bind(rt, at, limits)
-}
-
-fn connect<R: Net<Stream = TcpStream>>(rt: &R, to: Address) -> io::Result<TcpStream> {
-    TcpStream::connect(rt, socket_addr_of(to))
-}
-
-// The next connection of a door.
-fn next_of<D: Door>(door: &mut D) -> Result<D::C, Fail> {
-    match door.next()? {
-        Some(conn) => Ok(conn),
-        None => Err(Fail::from("no connection")),
-    }
-}
-
-fn millis_since<R: Clock>(rt: &R, start: &Instant) -> io::Result<u64> {
-    Ok(u64::try_from(start.elapsed(rt)?.as_millis()).unwrap_or(u64::MAX))
-}
-
-// Reads until nothing comes: how it ended, and after how many milliseconds.
-fn read_out<S: Source>(
-    rt: &HostRuntime,
-    source: &mut S,
-) -> io::Result<(Result<usize, PortFault>, u64)> {
-    let start = Instant::now(rt)?;
-    let mut buf = [0u8; 64];
-    let mut end = Ok(0);
-    for _ in 0..1_000 {
-        end = source.read(&mut buf);
-        match end {
-            Ok(count) if count > 0 => {}
-            _ => break,
-        }
-    }
-    Ok((end, millis_since(rt, &start)?))
-}
 
 // Answers a request before all of it was read, and hands the connection back. What the client got.
 fn serve_early(
@@ -203,7 +128,10 @@ fn a_slow_client_is_a_fault(rt: HostRuntime) -> Result<(), Fail> {
     let listener = listen(&rt, SHORT)?;
     let served = ServedClient::new();
     let mut door = TcpDoor::new(&rt, &listener, &served, 0);
-    for (text, least) in [("GET / HT", 150), ("PUT / HTTP/1.1\r\n\r\nabc", 290)] {
+    for (text, least) in [
+        ("GET / HT", 150),
+        ("PUT / HTTP/1.1\r\nContent-Length: 9\r\n\r\nabc", 290),
+    ] {
         let mut client = connect(&rt, listener.address())?;
         client.write_all(text.as_bytes())?;
         let mut conn = next_of(&mut door)?;
@@ -249,7 +177,8 @@ fn stream_end(
 ) -> Result<(Result<usize, PortFault>, u64), Fail> {
     let served = ServedClient::new();
     let mut door = TcpDoor::new(rt, listener, &served, 0);
-    let mut dial = TcpDial::new(rt, listener, &served);
+    let fault = DialFault::new();
+    let mut dial = TcpDial::new(rt, listener, &served, &fault);
     let client = connect(rt, listener.address())?;
     let conn = next_of(&mut door)?;
     let (mut link, mut peer) = link_of(&mut dial, backend, HEAD)?;
@@ -279,12 +208,18 @@ fn a_stream_may_be_silent_while_its_client_is_there(rt: HostRuntime) -> Result<(
     Ok(())
 }
 
+fn kind_of(fault: &DialFault) -> Option<ErrorKind> {
+    fault.last_error().map(|error| error.kind())
+}
+
 #[test]
 fn a_link_without_a_client_outlives_a_close_and_moves(rt: HostRuntime) -> Result<(), Fail> {
     let listener = listen(&rt, SHORT)?;
     let backend = TcpListener::bind(&rt, "127.0.0.1:0")?;
     let nobody = ServedClient::new();
-    let mut dial = TcpDial::new(&rt, &listener, &nobody);
+    let fault = DialFault::new();
+    let mut dial = TcpDial::new(&rt, &listener, &nobody, &fault);
+    assert_eq!(rt; kind_of(&fault), None);
     listener.close();
     for (reply, least) in [("HTTP/1.1 200", 240), (HEAD, 290)] {
         let (mut link, _peer) = link_of(&mut dial, &backend, reply)?;
@@ -294,9 +229,11 @@ fn a_link_without_a_client_outlives_a_close_and_moves(rt: HostRuntime) -> Result
         assert!(rt; spent >= least, "{reply}: {spent} ms");
         dial.done(link);
     }
+    assert_eq!(rt; kind_of(&fault), Some(ErrorKind::TimedOut));
     let to = address_of(backend.local_addr()?);
     drop(backend);
     assert!(rt; dial.dial(to).is_err());
+    assert_eq!(rt; kind_of(&fault), Some(ErrorKind::ConnectionRefused));
     Ok(())
 }
 
@@ -423,7 +360,8 @@ fn ports_move_to_threads(rt: HostRuntime) -> Result<(), Fail> {
     let listener = listen(&rt, SHORT)?;
     let client = ServedClient::new();
     let mut door = TcpDoor::new(&rt, &listener, &client, 0);
-    let mut dial = TcpDial::new(&rt, &listener, &client);
+    let fault = DialFault::new();
+    let mut dial = TcpDial::new(&rt, &listener, &client, &fault);
     let _client = connect(&rt, listener.address())?;
     let link = dial.dial(listener.address())?;
     let conn = next_of(&mut door)?;

@@ -3,6 +3,7 @@ ghost use Rattle.tcp_plant.specs.Handles.{clock_last};
 
 use front_base::{MOMENT_END, Moment};
 use front_ports::Clock;
+use std::sync::atomic::{AtomicU64, Ordering};
 use std::time::Duration;
 use std::{rt, thread};
 
@@ -11,6 +12,8 @@ use std::{rt, thread};
 pub struct SystemClock<'b, R> {
     rt: &'b R,
     last: Moment,
+    // Where a drainer's first rest is counted, until it is.
+    drainers: Option<&'b AtomicU64>,
 }
 
 impl<'b, R: rt::Clock> SystemClock<'b, R> {
@@ -20,6 +23,18 @@ impl<'b, R: rt::Clock> SystemClock<'b, R> {
         SystemClock {
             rt,
             last: Moment::epoch(),
+            drainers: None,
+        }
+    }
+
+    /// The clock of a drainer, which is counted once it rests: its thread runs then.
+    pub(crate) fn of_drainer(rt: &'b R, drainers: &'b AtomicU64) -> SystemClock<'b, R>
+        ensures { clock_last result ≡ 0 }
+    {
+        SystemClock {
+            rt,
+            last: Moment::epoch(),
+            drainers: Some(drainers),
         }
     }
 }
@@ -51,6 +66,10 @@ impl<'b, R: rt::Clock> Clock for SystemClock<'b, R> {
 
     /// Sleeps for a millisecond.
     fn rest(&mut self) {
+        if let Some(drainers) = self.drainers {
+            drainers.fetch_add(1, Ordering::SeqCst);
+            self.drainers = None;
+        }
         thread::sleep(self.rt, Duration::from_millis(1));
     }
 }

@@ -10,9 +10,18 @@
 mod clock;
 mod gate;
 mod log_file;
+mod log_target;
+mod notice;
 mod plant;
+mod sink_diary;
+mod sink_notes;
+mod sink_share;
 
 pub use clock::SystemClock;
 pub use gate::TcpGate;
 pub use log_file::LogFile;
+pub use notice::{Losses, NOTICE_INTERVAL, Notice, Notices, Why};
 pub use plant::TcpPlant;
+pub use sink_diary::SinkDiary;
+pub use sink_notes::SinkNotes;
+pub use sink_share::{SinkCounts, SinkShare};

@@ -6,20 +6,20 @@ ghost use Rattle.tcp_plant.specs.Handles.{plant_tells};
 use crate::clock::SystemClock;
 use crate::gate::TcpGate;
 use crate::log_file::LogFile;
+use crate::sink_diary::SinkDiary;
+use crate::sink_notes::SinkNotes;
 use front_base::Address;
 use front_plants::{MOST_ALLOTTED, Plant, PlantFail};
 use log_sink::LogSink;
-use session_core::NoDiary;
 use std::alloc::Global;
 use std::fs::File;
-use std::io::Print;
+use std::io::{Eprint, Print};
 use std::net::{Net, TcpStream};
 use std::random::RandomSource;
 use std::sync::Wait;
 use std::thread::Threads;
 use std::{io, rt};
 use tcp_ports::{TcpDial, TcpDoor};
-use truncate_backend::NoNotes;
 use webhook_sink::{HookFault, WebhookSink};
 
 /// A plant whose handles are sockets, files and the system's clock. It counts the calls whose port failed, and tells no more.
@@ -28,7 +28,8 @@ pub struct TcpPlant<'b, R> {
     rt: &'b R,
     gate: &'b TcpGate,
     boot: u64,
-    // How many dials it made.
+    // How many doors and dials it made.
+    doors: u64,
     dials: u64,
     faults: u64,
 }
@@ -51,6 +52,7 @@ impl<'b, R> TcpPlant<'b, R> {
             rt,
             gate,
             boot: boot_word(rt)?,
+            doors: 0,
             dials: 0,
             faults: 0,
         })
@@ -75,7 +77,8 @@ impl<
         + Net<Stream = TcpStream>
         + rt::Clock
         + rt::Files<File = File>
-        + Print,
+        + Print
+        + Eprint,
 > Plant for TcpPlant<'b, R> {
     type Rt = R;
 
@@ -85,11 +88,11 @@ impl<
 
     type K = SystemClock<'b, R>;
 
-    type Y = NoDiary;
+    type Y = SinkDiary<'b, R>;
 
-    type W = LogSink<LogFile<'b, R>, NoNotes>;
+    type W = LogSink<LogFile<'b, R>, SinkNotes<'b, R>>;
 
-    type H = WebhookSink<TcpDial<'b, R>, NoNotes>;
+    type H = WebhookSink<TcpDial<'b, R>, SinkNotes<'b, R>>;
 
     ghost tells = { plant_tells };
 
@@ -112,6 +115,7 @@ impl<
         connections: u64,
     ) -> Result<TcpDoor<'b, R>, PlantFail> {
         let gate = self.gate;
+        self.doors = self.doors.saturating_add(1);
         if listen != gate.address() {
             return Err(self.fault());
         }
@@ -126,15 +130,20 @@ impl<
         let gate = self.gate;
         let client = gate.client(self.dials).unwrap_or(&gate.nobody);
         self.dials = self.dials.saturating_add(1);
-        Ok(TcpDial::new(self.rt, &gate.listener, client))
+        Ok(TcpDial::new(self.rt, &gate.listener, client, &gate.backends))
     }
 
+    /// The clocks that are asked for before the first door are those of drainers.
     fn clock(&mut self) -> SystemClock<'b, R> {
-        SystemClock::new(self.rt)
+        if self.doors == 0 {
+            SystemClock::of_drainer(self.rt, &self.gate.drainers)
+        } else {
+            SystemClock::new(self.rt)
+        }
     }
 
-    fn diary(&mut self, _alloc: Global) -> NoDiary {
-        NoDiary
+    fn diary(&mut self, _alloc: Global) -> SinkDiary<'b, R> {
+        SinkDiary::new(self.rt, &self.gate.log, &self.gate.hook)
     }
 
     /// The log of this path, as `LogFile::open` has it.
@@ -142,11 +151,16 @@ impl<
         &mut self,
         alloc: Global,
         path: &str,
-    ) -> Result<LogSink<LogFile<'b, R>, NoNotes>, PlantFail> {
-        let Ok(file) = LogFile::open(self.rt, path) else {
-            return Err(self.fault());
+    ) -> Result<LogSink<LogFile<'b, R>, SinkNotes<'b, R>>, PlantFail> {
+        let share = &self.gate.log;
+        let file = match LogFile::open(self.rt, alloc, path, share) {
+            Ok(file) => file,
+            Err(error) => {
+                share.fail(&error);
+                return Err(self.fault());
+            }
         };
-        match LogSink::start(alloc, file, NoNotes) {
+        match LogSink::start(alloc, file, SinkNotes::new(self.rt, share)) {
             Ok(log) => Ok(log),
             Err(_) => Err(PlantFail::NoMemory),
         }
@@ -156,10 +170,11 @@ impl<
         &mut self,
         alloc: Global,
         url: &str,
-    ) -> Result<WebhookSink<TcpDial<'b, R>, NoNotes>, PlantFail> {
+    ) -> Result<WebhookSink<TcpDial<'b, R>, SinkNotes<'b, R>>, PlantFail> {
         let gate = self.gate;
-        let dial = TcpDial::new(self.rt, &gate.listener, &gate.nobody);
-        match WebhookSink::start(alloc, url, dial, NoNotes) {
+        let share = &gate.hook;
+        let dial = TcpDial::new(self.rt, &gate.listener, &gate.nobody, &share.dial_fault);
+        match WebhookSink::start(alloc, url, dial, SinkNotes::new(self.rt, share)) {
             Ok(hook) => Ok(hook),
             Err(HookFault::BadUrl) => Err(self.fault()),
             Err(HookFault::NoMemory) => Err(PlantFail::NoMemory),

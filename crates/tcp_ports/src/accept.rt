@@ -16,12 +16,13 @@ fn is_broken(error: &io::Error) -> bool {
     }
 }
 
-/// The next connection, or none once the listener was closed. An accept that fails for one connection, or for want of
+/// The next connection once the listener is open, or none once it was closed. An accept that fails for one connection, or for want of
 /// descriptors, is made again.
 pub(crate) fn next_conn<'b, R: rt::Clock>(
     rt: &'b R,
     listener: &'b SharedListener,
 ) -> io::Result<Option<TcpConn<'b, R>>> {
+    listener.wait_until_open(rt);
     for _ in 0..MOST_TURNS {
         if listener.is_closed() {
             return Ok(None);

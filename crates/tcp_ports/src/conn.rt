@@ -5,12 +5,13 @@ ghost use Rattle.front_ports.specs.Cause.{HasCause};
 ghost use Rattle.tcp_ports.specs.Counts.{conn_read_faults, conn_write_faults, conn_input, conn_output, conn_from};
 
 use crate::clock::{millis_now, timeout_of};
+use crate::expect::answer_expect;
 use crate::idle::request_begins;
 use crate::linger::linger;
 use crate::listener::SharedListener;
-use crate::pace::Pace;
 use crate::poll::{INPUT, MOST_TURNS, read_some, wait_for};
 use crate::rate::RateFloor;
+use crate::request_scan::RequestScan;
 use crate::send::send_some;
 use front_ports::{ByteSink, Conn, PortFault, Source};
 use std::io::ErrorKind;
@@ -18,18 +19,19 @@ use std::net::TcpStream;
 use std::os::fd::{AsRawFd, RawFd};
 use std::{io, rt};
 
-/// A connection of a client. After a write its next byte begins a request.
+/// A connection of a client. It is idle after a write, unless bytes of the next request came already.
 #[derive(Drop)]
 pub struct TcpConn<'b, R> {
     rt: &'b R,
     listener: &'b SharedListener,
     stream: TcpStream,
     peer: [u8; 4],
-    // Whether no byte came since the last write, or since it was accepted.
+    // Whether it waits for the first byte of a request: none came since it was accepted, or since a write that followed the
+    // last byte of a request.
     idle: bool,
     answered: bool,
-    // How the request that is being read comes.
-    pace: Pace,
+    // Where the bytes that were read stand, and how they come.
+    requests: RequestScan,
     sending: RateFloor,
     // Whether the input ended, or counts as ended.
     ended: bool,
@@ -42,7 +44,7 @@ fn read_request(
     rt: &impl rt::Clock,
     listener: &SharedListener,
     stream: &mut TcpStream,
-    pace: &mut Pace,
+    requests: &mut RequestScan,
     buf: &mut [u8],
 ) -> io::Result<usize>
     ensures { ReadsAtMost result buf.new }
@@ -56,7 +58,7 @@ fn read_request(
         }
         let count = read.unwrap_or(0);
         let waited = millis_now(rt).saturating_sub(start);
-        let late = pace.is_late(&buf[..count], waited, limits.read_header_timeout, limits);
+        let late = requests.is_late(&buf[..count], waited, limits);
         if late || listener.is_past_shutdown(rt) {
             break;
         }
@@ -67,20 +69,38 @@ fn read_request(
     Err(io::Error::from(ErrorKind::TimedOut))
 }
 
+// Reads bytes of a request whose first bytes came before. A client that waits for the interim reply gets it first.
+fn read_on(
+    rt: &impl rt::Clock,
+    listener: &SharedListener,
+    stream: &mut TcpStream,
+    requests: &mut RequestScan,
+    sending: &mut RateFloor,
+    buf: &mut [u8],
+) -> io::Result<usize>
+    ensures { ReadsAtMost result buf.new }
+{
+    if requests.awaits_continue() {
+        answer_expect(rt, listener, stream, sending)?;
+        requests.continued();
+    }
+    read_request(rt, listener, stream, requests, buf)
+}
+
 // Reads the first bytes of a request. No byte is the end of the connection, or it counts as ended.
 fn read_first(
     rt: &impl rt::Clock,
     listener: &SharedListener,
     stream: &mut TcpStream,
     answered: bool,
-    pace: &mut Pace,
+    requests: &mut RequestScan,
     buf: &mut [u8],
 ) -> io::Result<usize>
     ensures { ReadsAtMost result buf.new }
 {
     let limits = listener.limits();
     if let Some(count) = read_some(stream, buf)? {
-        pace.is_late(&buf[..count], 0, limits.read_header_timeout, limits);
+        requests.is_late(&buf[..count], 0, limits);
         return Ok(count);
     }
     // That try has waited for `idle_grace`.
@@ -92,7 +112,7 @@ fn read_first(
     if !request_begins(rt, listener, stream.as_raw_fd(), grace) {
         return Ok(0);
     }
-    read_request(rt, listener, stream, pace, buf)
+    read_request(rt, listener, stream, requests, buf)
 }
 
 impl<'b, R: rt::Clock> TcpConn<'b, R> {
@@ -112,7 +132,7 @@ impl<'b, R: rt::Clock> TcpConn<'b, R> {
             peer,
             idle: true,
             answered: false,
-            pace: Pace::new(),
+            requests: RequestScan::new(),
             sending: RateFloor::new(),
             ended: false,
             read_faults: 0,
@@ -156,11 +176,18 @@ impl<'b, R: rt::Clock> Source for TcpConn<'b, R> {
                 listener,
                 &mut self.stream,
                 self.answered,
-                &mut self.pace,
+                &mut self.requests,
                 buf,
             )
         } else {
-            read_request(rt, listener, &mut self.stream, &mut self.pace, buf)
+            read_on(
+                rt,
+                listener,
+                &mut self.stream,
+                &mut self.requests,
+                &mut self.sending,
+                buf,
+            )
         };
         match read {
             Ok(count) => {
@@ -191,9 +218,8 @@ impl<'b, R: rt::Clock> ByteSink for TcpConn<'b, R> {
         ensures cause { HasCause (conn_write_faults self.old) (conn_write_faults self.new) result }
         ensures aside { conn_input self.new ≡ conn_input self.old }
     {
-        self.idle = true;
+        self.idle = self.requests.is_between();
         self.answered = true;
-        self.pace = Pace::new();
         match send_some(
             self.rt,
             self.listener,

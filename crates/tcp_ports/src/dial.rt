@@ -3,9 +3,10 @@ ghost use Rattle.front_ports.specs.Cause.{HasCause, Rose};
 ghost use Rattle.tcp_ports.specs.Counts.{dial_faults, dial_link_faults, link_read_faults, link_write_faults};
 
 use crate::clock::timeout_of;
+use crate::dial_fault::DialFault;
 use crate::limits::TcpLimits;
 use crate::link::TcpLink;
-use crate::listener::{SharedListener, socket_addr_of};
+use crate::listener::{SharedListener, set_options, socket_addr_of};
 use crate::served_client::ServedClient;
 use front_base::Address;
 use front_ports::{Dial, PortFault};
@@ -18,6 +19,7 @@ pub struct TcpDial<'b, R> {
     rt: &'b R,
     listener: &'b SharedListener,
     client: &'b ServedClient,
+    fault: &'b DialFault,
     faults: u64,
     link_faults: u64,
 }
@@ -32,16 +34,19 @@ fn open_stream<R: Net<Stream = TcpStream>>(
         &socket_addr_of(to),
         timeout_of(limits.dial_timeout),
     )?;
-    stream.set_nodelay(true)?;
-    stream.set_read_timeout(Some(timeout_of(limits.wake_interval)))?;
-    stream.set_write_timeout(Some(timeout_of(limits.wake_interval)))?;
+    set_options(&stream, timeout_of(limits.wake_interval))?;
     Ok(stream)
 }
 
 impl<'b, R: Net<Stream = TcpStream> + rt::Clock> TcpDial<'b, R> {
     /// A dial for the client that the door of the same bay notes, or for none where no door has `client`. The listener
-    /// gives the limits, and ends links of clients once it is closed.
-    pub fn new(rt: &'b R, listener: &'b SharedListener, client: &'b ServedClient) -> TcpDial<'b, R>
+    /// gives the limits, and ends links of clients once it is closed. Why a call fails is noted in `fault`.
+    pub fn new(
+        rt: &'b R,
+        listener: &'b SharedListener,
+        client: &'b ServedClient,
+        fault: &'b DialFault,
+    ) -> TcpDial<'b, R>
         ensures faults { dial_faults result ≡ 0 }
         ensures link_faults { dial_link_faults result ≡ 0 }
     {
@@ -49,6 +54,7 @@ impl<'b, R: Net<Stream = TcpStream> + rt::Clock> TcpDial<'b, R> {
             rt,
             listener,
             client,
+            fault,
             faults: 0,
             link_faults: 0,
         }
@@ -66,8 +72,9 @@ impl<'b, R: Net<Stream = TcpStream> + rt::Clock> Dial for TcpDial<'b, R> {
 
     fn dial(&mut self, to: Address) -> Result<TcpLink<'b, R>, PortFault> {
         match open_stream(self.rt, self.listener.limits(), to) {
-            Ok(stream) => Ok(TcpLink::new(self.rt, self.listener, self.client, stream)),
-            Err(_) => {
+            Ok(stream) => Ok(TcpLink::new(self.rt, self.listener, self.client, self.fault, stream)),
+            Err(error) => {
+                self.fault.note(&error);
                 self.faults = self.faults.saturating_add(1);
                 Err(PortFault)
             }

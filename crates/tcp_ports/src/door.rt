@@ -16,6 +16,8 @@ pub struct TcpDoor<'b, R> {
     rt: &'b R,
     listener: &'b SharedListener,
     client: &'b ServedClient,
+    // Whether it has begun to wait for connections.
+    running: bool,
     // How many connections it may still give.
     remaining: u64,
     closes: u64,
@@ -38,6 +40,7 @@ impl<'b, R: rt::Clock> TcpDoor<'b, R> {
             rt,
             listener,
             client,
+            running: false,
             remaining: if connections == 0 {
                 u64::MAX
             } else {
@@ -77,6 +80,8 @@ impl<'b, R: rt::Clock> Door for TcpDoor<'b, R> {
             door_remaining self.old ≡ door_remaining self.new + 1)) }
         ensures uncounted { OnErr result (door_remaining self.new ≡ door_remaining self.old) }
     {
+        self.listener.mark_running(!self.running);
+        self.running = true;
         let next = if self.remaining > 0 {
             next_conn(self.rt, self.listener)
         } else {

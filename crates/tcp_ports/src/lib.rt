@@ -8,14 +8,23 @@
 //! Nothing is promised of time, nor of what a network does. By code and tests alone, no peer holds a bay for nothing: a
 //! connection that is idle makes room for one that waits, and one that is late with a head, moves a body too slowly, takes
 //! no bytes or has gone ends by a fault (`TcpLimits`). Each wait lasts one `wake_interval` at most before the bay looks
-//! again, so that no wake-up that is lost can hold one.
+//! again, so that no wake-up that is lost can hold one. A client that expects `100 Continue` gets it once the door waits for
+//! its body.
+//!
+//! A listener that is bound takes connections into the system's queue. Its doors give them once it is opened, and each door
+//! that waits is counted, so that a server can say that it serves when all of its bays run.
 #![tactic(auto)]
 
 mod accept;
 mod clock;
 mod conn;
 mod dial;
+mod dial_fault;
 mod door;
+mod expect;
+mod head_end;
+mod head_line;
+mod head_notes;
 mod idle;
 mod keep_alive;
 mod limits;
@@ -25,11 +34,14 @@ mod listener;
 mod pace;
 mod poll;
 mod rate;
+mod reply_scan;
+mod request_scan;
 mod send;
 mod served_client;
 
 pub use conn::TcpConn;
 pub use dial::TcpDial;
+pub use dial_fault::DialFault;
 pub use door::TcpDoor;
 pub use limits::{DEFAULT_LIMITS, TcpLimits};
 pub use link::TcpLink;

@@ -36,8 +36,8 @@ pub const DEFAULT_LIMITS: TcpLimits = TcpLimits {
     fresh_grace: 200,
     // `ReadHeaderTimeout` of net/http. kube-apiserver has 32 s, but a bay is scarcer than a goroutine.
     read_header_timeout: 10_000,
-    // `MinRate` of Apache's mod_reqtimeout; net/http has no floor.
-    min_rate: 500,
+    // Apache's mod_reqtimeout has `MinRate` 500, by which a body of 3 MiB may hold a bay for 105 minutes; net/http has no floor.
+    min_rate: 8192,
     // In place of `ReadTimeout` and `WriteTimeout` of net/http, which bound whole requests, and so end watches.
     stall_timeout: 30_000,
     // `rstAvoidanceDelay` of net/http's server.

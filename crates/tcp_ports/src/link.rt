@@ -5,11 +5,12 @@ ghost use Rattle.front_ports.specs.Cause.{HasCause};
 ghost use Rattle.tcp_ports.specs.Counts.{link_read_faults, link_write_faults, link_input, link_output};
 
 use crate::clock::millis_now;
+use crate::dial_fault::DialFault;
 use crate::keep_alive::keep_alive;
 use crate::listener::SharedListener;
-use crate::pace::Pace;
 use crate::poll::{BREAK, INPUT, MOST_TURNS, NO_SOCKET, PEER_END, read_some, wait_for_any};
 use crate::rate::RateFloor;
+use crate::reply_scan::ReplyScan;
 use crate::send::send_some;
 use crate::served_client::ServedClient;
 use front_ports::{ByteSink, Link, PortFault, Source};
@@ -24,8 +25,9 @@ pub struct TcpLink<'b, R> {
     rt: &'b R,
     listener: &'b SharedListener,
     client: &'b ServedClient,
+    fault: &'b DialFault,
     stream: TcpStream,
-    pace: Pace,
+    reply: ReplyScan,
     sending: RateFloor,
     read_faults: u64,
     write_faults: u64,
@@ -53,7 +55,7 @@ fn read_reply(
     listener: &SharedListener,
     client: RawFd,
     stream: &mut TcpStream,
-    pace: &mut Pace,
+    reply: &mut ReplyScan,
     buf: &mut [u8],
 ) -> io::Result<usize>
     ensures { ReadsAtMost result buf.new }
@@ -61,7 +63,7 @@ fn read_reply(
     let limits = listener.limits();
     let has_client = client != NO_SOCKET;
     for _ in 0..MOST_TURNS {
-        let streams = has_client && pace.is_in_body();
+        let streams = has_client && reply.is_in_body();
         let start = millis_now(rt);
         let read = read_some(stream, buf)?;
         if read.is_none() && is_abandoned(listener, client, stream.as_raw_fd(), streams) {
@@ -69,13 +71,7 @@ fn read_reply(
         }
         let count = read.unwrap_or(0);
         let waited = millis_now(rt).saturating_sub(start);
-        let late = !streams
-            && pace.is_late(
-                &buf[..count],
-                waited,
-                limits.response_header_timeout,
-                limits,
-            );
+        let late = !streams && reply.is_late(&buf[..count], waited, limits);
         if late || has_client && listener.is_past_shutdown(rt) {
             break;
         }
@@ -91,6 +87,7 @@ impl<'b, R: rt::Clock> TcpLink<'b, R> {
         rt: &'b R,
         listener: &'b SharedListener,
         client: &'b ServedClient,
+        fault: &'b DialFault,
         stream: TcpStream,
     ) -> TcpLink<'b, R>
         ensures reads { link_read_faults result ≡ 0 }
@@ -100,8 +97,9 @@ impl<'b, R: rt::Clock> TcpLink<'b, R> {
             rt,
             listener,
             client,
+            fault,
             stream,
-            pace: Pace::new(),
+            reply: ReplyScan::new(),
             sending: RateFloor::new(),
             read_faults: 0,
             write_faults: 0,
@@ -136,11 +134,12 @@ impl<'b, R: rt::Clock> Source for TcpLink<'b, R> {
             self.listener,
             client,
             &mut self.stream,
-            &mut self.pace,
+            &mut self.reply,
             buf,
         ) {
             Ok(count) => Ok(count),
-            Err(_) => {
+            Err(error) => {
+                self.fault.note(&error);
                 self.read_faults = self.read_faults.saturating_add(1);
                 Err(PortFault)
             }
@@ -164,14 +163,18 @@ impl<'b, R: rt::Clock> ByteSink for TcpLink<'b, R> {
         ensures aside { link_input self.new ≡ link_input self.old }
     {
         let has_client = self.client.socket() != NO_SOCKET;
-        match send_some(
+        let sent = send_some(
             self.rt,
             self.listener,
             has_client,
             &mut self.stream,
             &mut self.sending,
             piece,
-        ) {
+        );
+        if let Err(error) = &sent {
+            self.fault.note(error);
+        }
+        match sent {
             Ok(count) if count > 0 => Ok(count),
             _ => {
                 self.write_faults = self.write_faults.saturating_add(1);

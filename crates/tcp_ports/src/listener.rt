@@ -1,12 +1,16 @@
 use crate::clock::{millis_now, timeout_of};
 use crate::keep_alive::keep_alive;
 use crate::limits::TcpLimits;
-use crate::poll::{INPUT, wait_for};
+use crate::poll::{INPUT, MOST_TURNS, wait_for};
 use front_base::Address;
 use std::net::{IpAddr, Ipv4Addr, Net, Shutdown, SocketAddr, TcpListener, TcpStream};
 use std::os::fd::{AsRawFd, OwnedFd, RawFd};
 use std::sync::atomic::{AtomicBool, AtomicU64, Ordering};
-use std::{io, rt};
+use std::time::Duration;
+use std::{io, rt, thread};
+
+// How often a door looks whether the listener is open, in milliseconds.
+const OPEN_INTERVAL: u64 = 2;
 
 /// The listening socket that all bays share: with one for each bay, a connection could wait at a busy bay while others are
 /// free. Any thread may close it.
@@ -20,6 +24,9 @@ pub struct SharedListener {
     closed: AtomicBool,
     // When a bay first saw that it was closed, in milliseconds, 0 before.
     closed_at: AtomicU64,
+    // How many doors have begun to wait, and whether they may give connections.
+    running: AtomicU64,
+    opened: AtomicBool,
     // How many bays wait for a connection.
     free_bays: AtomicU64,
     // Whether an idle connection has ended for one that waits, and its bay isn't free yet.
@@ -43,23 +50,34 @@ pub(crate) fn socket_addr_of(to: Address) -> SocketAddr {
     SocketAddr::new(IpAddr::V4(Ipv4Addr::new(a, b, c, d)), to.port)
 }
 
+// Has no wait on a socket last for longer than that.
+pub(crate) fn set_options(socket: &TcpStream, most: Duration) -> io::Result<()> {
+    socket.set_nodelay(true)?;
+    socket.set_write_timeout(Some(most))?;
+    socket.set_read_timeout(Some(most))
+}
+
+// The same socket as a stream, for the calls that only a stream has, and where it listens. Each connection inherits its
+// options, but sets a timeout of its own for its reads. An accept ends by that of reads too, and then looks whether the
+// listener was closed.
+fn prepare(listener: &TcpListener, limits: &TcpLimits) -> io::Result<(TcpStream, Address)> {
+    let address = address_of(listener.local_addr()?);
+    let socket = TcpStream::from(OwnedFd::from(listener.try_clone()?));
+    keep_alive(listener.as_raw_fd());
+    set_options(&socket, timeout_of(limits.wake_interval))?;
+    Ok((socket, address))
+}
+
 impl SharedListener {
     /// Listens at this address, where port 0 is one that the system picks. It can do so again at once after another
-    /// process did. Where one still does, the error's kind is `AddrInUse`.
+    /// process did. Where one still does, the error's kind is `AddrInUse`. No connection is given before it is opened.
     pub fn bind<R: Net<Listener = TcpListener, Stream = TcpStream>>(
         net: &R,
         at: Address,
         limits: TcpLimits,
     ) -> io::Result<SharedListener> {
         let listener = TcpListener::bind(net, socket_addr_of(at))?;
-        let address = address_of(listener.local_addr()?);
-        let socket = TcpStream::from(OwnedFd::from(listener.try_clone()?));
-        // Each connection inherits these options, but sets a timeout of its own for its reads.
-        keep_alive(listener.as_raw_fd());
-        socket.set_nodelay(true)?;
-        socket.set_write_timeout(Some(timeout_of(limits.wake_interval)))?;
-        // An accept ends by this one too, and then looks whether the listener was closed.
-        socket.set_read_timeout(Some(timeout_of(limits.wake_interval)))?;
+        let (socket, address) = prepare(&listener, &limits)?;
         Ok(SharedListener {
             listener,
             socket,
@@ -70,6 +88,8 @@ impl SharedListener {
             },
             closed: AtomicBool::new(false),
             closed_at: AtomicU64::new(0),
+            running: AtomicU64::new(0),
+            opened: AtomicBool::new(false),
             free_bays: AtomicU64::new(0),
             making_room: AtomicBool::new(false),
         })
@@ -78,6 +98,20 @@ impl SharedListener {
     /// Where it listens, with the port that the system picked.
     pub fn address(&self) -> Address {
         self.address
+    }
+
+    /// How many doors have begun to wait for their first connection, or had it already.
+    pub fn running(&self) -> u64 {
+        self.running.load(Ordering::SeqCst)
+    }
+
+    /// Lets the doors give connections. Those that came before wait in the system's queue.
+    pub fn open(&self) {
+        self.opened.store(true, Ordering::SeqCst);
+    }
+
+    pub fn is_open(&self) -> bool {
+        self.opened.load(Ordering::SeqCst)
     }
 
     /// Ends the waits of all bays, idle connections and silent streams. Connections are given no longer, and requests in
@@ -98,6 +132,21 @@ impl SharedListener {
 
     pub(crate) fn is_closed(&self) -> bool {
         self.closed.load(Ordering::SeqCst)
+    }
+
+    /// A door waits, for the first time or not.
+    pub(crate) fn mark_running(&self, first: bool) {
+        self.running.fetch_add(u64::from(first), Ordering::SeqCst);
+    }
+
+    /// Waits until it is open or closed.
+    pub(crate) fn wait_until_open(&self, rt: &impl rt::Clock) {
+        for _ in 0..MOST_TURNS {
+            if self.is_open() || self.is_closed() {
+                return;
+            }
+            thread::sleep(rt, Duration::from_millis(OPEN_INTERVAL));
+        }
     }
 
     /// Whether it was closed so long ago that requests in progress don't go on.

@@ -1,0 +1,38 @@
+// What is said of a run.
+use proxy_server::{Ended, Outcome, Status};
+use refusal_text::Refusal;
+use std::alloc::{AllocError, Global};
+
+// That of a code, where it is one.
+fn status_of(code: u8) -> Status {
+    match code {
+        2 => Status::Usage,
+        3 => Status::Configuration,
+        4 => Status::ReadFault,
+        5 => Status::PortFault,
+        6 => Status::NoMemory,
+        7 => Status::WriteFault,
+        8 => Status::NumbersSpent,
+        9 => Status::Input,
+        _ => Status::Done,
+    }
+}
+
+/// A run that ended with the status of that code, and why.
+pub fn ended_with(status: u8, why: Option<Refusal>) -> Ended {
+    Ended::of(status_of(status), why)
+}
+
+/// The status of a run of these words, and what is said of it where the system gives no reason.
+pub fn said_of_ended(alloc: Global, words: &[String], ended: &Ended) -> Result<String, AllocError> {
+    match ended.told(alloc, words, None) {
+        Ok(text) => format!(in alloc; "{}\n{text}", ended.status.code()),
+        Err(fault) => Err(fault),
+    }
+}
+
+/// The same of a run that was refused before it began.
+pub fn said_of(alloc: Global, words: &[String], outcome: Outcome) -> Result<String, AllocError> {
+    let ended = Ended::of(outcome.status, outcome.why);
+    said_of_ended(alloc, words, &ended)
+}

@@ -1,0 +1,52 @@
+// Runs that end before they serve a request.
+use crate::endings::{said_of, said_of_ended};
+use crate::lines::words_of;
+use case_rows::fields;
+use proxy_server::{ReaderSource, SystemFiles, WriterSink, run_desk};
+use serve_config::{ServeConfig, configure_serve};
+use std::alloc::{AllocError, Global};
+use std::io;
+
+// The bays, the user of the token `a`, and the delegate of a run of `serve` that begins.
+fn begun(alloc: Global, config: &ServeConfig) -> Result<String, AllocError> {
+    let bays = config.words.bays;
+    let user = match config.loaded.tokens.user(b"a") {
+        Some(user) => user.name.as_str(),
+        None => "-",
+    };
+    let local = config.loaded.endpoints.of(None);
+    format!(in alloc; "bays {bays}, user {user}, local {local:?}\n")
+}
+
+fn serve(rt: &HostRuntime, words: &Vec<String>) -> Result<String, AllocError> {
+    let alloc = rt.alloc();
+    match configure_serve(alloc, words, &mut SystemFiles::new(rt)) {
+        Ok(config) => begun(alloc, &config),
+        Err(outcome) => said_of(alloc, words.as_slice(), outcome),
+    }
+}
+
+// Over an input of no bytes.
+fn explain(rt: &HostRuntime, words: &Vec<String>) -> Result<String, AllocError> {
+    let alloc = rt.alloc();
+    let mut source = ReaderSource::new(b"".as_slice());
+    let mut out = WriterSink::new(io::sink());
+    let ended = run_desk(
+        alloc,
+        words,
+        &mut SystemFiles::new(rt),
+        &mut source,
+        &mut out,
+    );
+    said_of_ended(alloc, words.as_slice(), &ended)
+}
+
+/// How a run of a command ends, and what is said of it: the fields are the command, and the command line.
+pub fn ended(rt: &HostRuntime, row: &str) -> Result<String, AllocError> {
+    let (command, line) = fields(row);
+    let words = words_of(rt.alloc(), line)?;
+    match command {
+        "serve" => serve(rt, &words),
+        _ => explain(rt, &words),
+    }
+}

@@ -1,0 +1,196 @@
+// What help and `--version` print.
+use crate::ending::finish_told;
+use command_options::Topic;
+use proxy_server::{Ended, Status};
+use refusal_text::Refusal;
+use std::process::ExitCode;
+use system_errors::reason_of;
+
+const HELP: &str = "\
+Usage: apiaggd COMMAND [OPTION]..
+       apiaggd COMMAND --help
+       apiaggd --help | --version
+
+A front door for a Kubernetes API server: it routes requests to aggregated
+APIs, and writes audit events.
+
+Commands:
+  explain   prints the audit events that requests cause
+  serve     serves a cluster API, and writes its audit events
+  rehearse  serves requests in memory by threads, and sums them up
+
+Options:
+  -h, --help  prints this help, or after COMMAND that of the command;
+              'apiaggd help' and 'apiaggd help COMMAND' do the same
+  --version   prints the version
+
+Exit status:
+  0  all that was asked for was done
+  2  the command line is invalid
+  3  an option is out of its range, or a file is invalid
+  4  a file or the input could not be read
+  5  a socket or a sink could not be opened, or a listener failed
+  6  memory ran out
+  7  the output could not be written
+  8  there are more than 2^48 requests
+  9  a request is malformed, too large or cut short
+
+With a status other than 0 one line on standard error names the status, and a
+second one says what was refused, and why.
+";
+
+const EXPLAIN_HELP: &str = r#"Usage: apiaggd explain [OPTION].. < REQUESTS
+
+Prints the audit events that requests to a Kubernetes API server cause, or
+where the requests go. Reads HTTP/1.1 requests from standard input and writes
+one line of JSON for each event to standard output.
+
+Options are written --NAME=VALUE or --NAME VALUE.
+
+Files, each of at most 16777216 bytes:
+  --token-auth-file=FILE     known bearer tokens, as CSV (default: none)
+  --audit-policy-file=FILE   audit policy, as JSON
+                             (default: every request at level Metadata)
+  --apiservices=FILE         APIService objects, as JSON: one, or a list of at
+                             most 1024 (default: none)
+  --endpoints=FILE           where services are reached, as CSV: the key
+                             NAMESPACE/NAME:PORT, or local for APIs without a
+                             service, and A.B.C.D:PORT (default: none)
+
+Output:
+  --max-event-size=BYTES     most bytes of an event's line: 256 to 4194304
+                             (default: 1048576)
+  --moment=MICROSECONDS      time of every event, since 1970: 0 to
+                             253370764799999999 (default: 0)
+  --routes                   one line for each request takes the place of its
+                             events: its number, and backend with the address,
+                             or local or refused with the status
+
+  -h, --help                 prints this help
+
+Examples, with the files of the folder examples. The first one prints two
+lines, which are folded here:
+  apiaggd explain < examples/list-pods.http
+    {"kind":"Event","apiVersion":"audit.k8s.io/v1","level":"Metadata",
+     "auditID":"00000000-0000-0000-0000-000000000000",
+     "stage":"RequestReceived","requestURI":"/api/v1/namespaces/a/pods",
+     "verb":"list","user":{"username":"system:anonymous", ..}, ..}
+    {"kind":"Event", .., "stage":"ResponseComplete", ..,
+     "responseStatus":{"metadata":{},"code":404}, ..}
+
+  apiaggd explain --token-auth-file=examples/tokens.csv \
+      --audit-policy-file=examples/audit-policy.json < examples/requests.http
+"#;
+
+pub const VERSION: &str = "apiaggd 0.1.0\n";
+
+const SERVE_HELP: &str = "\
+Usage: apiaggd serve [OPTION]..
+
+Answers requests to a Kubernetes API server, or sends them on to the backends
+that APIServices name, and writes their audit events.
+
+Options are written --NAME=VALUE or --NAME VALUE.
+
+Files, each of at most 16777216 bytes:
+  --token-auth-file=FILE     known bearer tokens, as CSV (default: none)
+  --audit-policy-file=FILE   audit policy, as JSON
+                             (default: every request at level Metadata)
+  --apiservices=FILE         APIService objects, as JSON: one, or a list of at
+                             most 1024 (default: none)
+  --endpoints=FILE           where services are reached, as CSV: the key
+                             NAMESPACE/NAME:PORT, or local for APIs without a
+                             service, and A.B.C.D:PORT (default: none)
+
+Listening:
+  --listen=A.B.C.D:PORT      where connections are accepted; localhost:PORT
+                             too (default: 127.0.0.1:8001)
+  --bays=N                   connections served at once, of which a watch takes
+                             one as long as it lasts: 1 to 64 (default: 8)
+
+Audit events go to a log, to a webhook, or to both:
+  --audit-log-path=PATH      log of events, - for standard output
+                             (default: no log)
+  --audit-log-mode=MODE      how events go to the log (default: blocking)
+  --audit-webhook-url=URL    webhook of events, over http to an IPv4 address or
+                             localhost (default: no webhook)
+  --audit-webhook-mode=MODE  how events go to the webhook (default: batch)
+  --max-event-size=BYTES     most bytes of an event's line: 256 to 4194304
+                             (default: 1048576)
+  A MODE is
+    blocking                 an event is written before its request goes on
+    blocking-strict          the same, and a request whose arrival can't be
+                             written is answered 500
+    batch                    events wait in a buffer, and are written in batches
+
+Batches, of the sinks in mode batch:
+  --batch-buffer=N           most lines that wait for a sink: 1 to 100000; a
+                             line that finds it full is lost (default: 10000)
+  --batch-max-size=N         most lines of a batch: 1 to 10000 (default: 400)
+  --batch-max-wait-ms=N      milliseconds that a batch waits for more lines: 0
+                             to 3600000 (default: 30000)
+  --max-batch-size=BYTES     most bytes of a batch: 256 to 67108864
+                             (default: 10485760)
+
+Timeouts, in milliseconds:
+  --idle-timeout=N           how long a connection may be idle: 1 to 3600000
+                             (default: 60000)
+  --read-header-timeout=N    how long a request's head may take: 1 to 3600000
+                             (default: 10000)
+  --min-rate=N               bytes a second that a peer has to move, 0 for no
+                             floor: 0 to 1000000 (default: 8192)
+  --stall-timeout=N          how long a peer may move nothing: 1 to 3600000
+                             (default: 30000)
+  --dial-timeout=N           how long a connection to a backend may take to
+                             open: 1 to 3600000 (default: 5000)
+  --response-header-timeout=N
+                             how long a reply's head may take: 1 to 3600000
+                             (default: 60000)
+
+End:
+  --exit-on-stdin-eof        an end of standard input ends the run
+  --connections=N            connections after which each bay ends, 0 for no
+                             end (default: 0)
+  --shutdown-timeout=N       milliseconds that requests in progress may go on
+                             once the run ends: 0 to 3600000 (default: 20000)
+
+  -h, --help                 prints this help
+";
+
+const REHEARSE_HELP: &str = "\
+Usage: apiaggd rehearse START COUNT
+
+Serves COUNT requests by four bays in threads, whose clients, delegate and
+webhook are in memory, and compares all that they did with what was planned.
+Prints how many requests were recorded at each level, how many events there
+were of each stage, and how many requests were answered each status.
+
+  START       the kind of the first request; the eight kinds follow one another
+  COUNT       how many requests: 1 to 20000
+
+  -h, --help  prints this help
+
+Example:
+  apiaggd rehearse 1 20000
+";
+
+/// A page of help.
+pub fn help_on(topic: Topic) -> &'static str {
+    match topic {
+        Topic::Program => HELP,
+        Topic::Explain => EXPLAIN_HELP,
+        Topic::Serve => SERVE_HELP,
+        Topic::Rehearse => REHEARSE_HELP,
+    }
+}
+
+/// Prints a text, and gives the status of the program.
+pub fn print_text(rt: &HostRuntime, text: &str) -> ExitCode {
+    match print!(rt; "{text}") {
+        Ok(()) => ExitCode::from(0),
+        Err(error) => {
+            let ended = Ended::of(Status::WriteFault, Some(Refusal::Output));
+            finish_told(rt, &[], &ended, Some(reason_of(&error)))
+        }
+    }
+}

@@ -1,0 +1,16 @@
+//! What `serve` tells an operator on standard error: what it begins with, which requests a strict sink doesn't stop, and what
+//! became of connections and audit lines.
+//!
+//! Nothing is promised of these texts. The counts of connections, of lines offered, and those of a sink in mode batch are those of the
+//! run; those of a blocking sink are its handles' own.
+#![tactic(auto)]
+
+mod begun;
+mod ended;
+mod ends;
+mod strict;
+
+pub use begun::begun_text;
+pub use ended::{ended_text, short_text};
+pub use ends::ends_text;
+pub use strict::strict_warnings;

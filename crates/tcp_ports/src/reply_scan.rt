@@ -1,0 +1,52 @@
+use crate::head_end::{Place, place_after};
+use crate::limits::TcpLimits;
+use crate::pace::Pace;
+
+/// How one reply comes.
+#[derive(Clone, Copy, Drop)]
+pub(crate) struct ReplyScan {
+    place: Place,
+    pace: Pace,
+}
+
+impl ReplyScan {
+    pub(crate) fn new() -> ReplyScan {
+        ReplyScan {
+            place: Place::Start,
+            pace: Pace::new(),
+        }
+    }
+
+    /// Whether its head has come.
+    pub(crate) fn is_in_body(&self) -> bool {
+        match self.place {
+            Place::Body => true,
+            _ => false,
+        }
+    }
+
+    fn take(&mut self, bytes: &[u8]) {
+        let mut place = self.place;
+        for byte in bytes {
+            place = place_after(place, *byte);
+        }
+        self.place = place;
+    }
+
+    /// A read waited so many milliseconds for these bytes. Whether the backend is too slow with the head, or with the body.
+    pub(crate) fn is_late(&mut self, bytes: &[u8], waited: u64, limits: &TcpLimits) -> bool {
+        let in_body = self.is_in_body();
+        let late = self.pace.is_late(
+            in_body,
+            bytes.len(),
+            waited,
+            limits.response_header_timeout,
+            limits,
+        );
+        if in_body {
+            return late;
+        }
+        self.take(bytes);
+        late && !self.is_in_body()
+    }
+}
