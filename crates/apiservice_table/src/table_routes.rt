@@ -41,6 +41,14 @@ fn copy_rows(alloc: Global, rows: &[Row]) -> Result<Vec<Row>, NoMemory>
     Ok(copies)
 }
 
+// Keeps a copy of a change after the others.
+fn note(alloc: Global, seen: &mut Vec<Change>, change: &Change) -> Result<(), NoMemory>
+    ensures noted { OnOk result (seen.new.items ≡ seen.old.items ++ change.now ∷ []) }
+    ensures same { OnErr result (seen.new.items ≡ seen.old.items) }
+{
+    Ok(seen.push(change.copy(alloc)?)?)
+}
+
 // Makes a change of a table, and keeps a copy of it after the others.
 fn keep_change(
     alloc: Global,
@@ -56,7 +64,9 @@ fn keep_change(
     ensures same { OnErr result (seen.new.items ≡ seen.old.items) }
 {
     let len = seen.len();
-    seen.push(change.copy(alloc)?)?;
+    if note(alloc, seen, &change).is_err() {
+        return Err(ChangeFault::NoMemory);
+    }
     match table.apply(alloc, change) {
         Ok(()) => Ok(()),
         Err(fault) => {

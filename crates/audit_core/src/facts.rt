@@ -1,5 +1,6 @@
 // What is known of a request that was answered.
 ghost use Rattle.std.specs.Prelude.{◌≡◌, IfOk};
+ghost use Rattle.stage_event.specs.Due as due;
 ghost use Rattle.stage_event.specs.Kept.{IsKept};
 ghost use Rattle.audit_core.specs.Answer as answer;
 ghost use Rattle.audit_core.specs.Exchange as spec;
@@ -70,6 +71,38 @@ fn answer_kept_if(
     kept_sent(alloc, method, handling, note, body)
 }
 
+// What is copied of a request, and what is kept of its bodies.
+struct Copied {
+    target: Text,
+    agent: Text,
+    request: Kept,
+    reply: Kept,
+}
+
+fn copy_parts(
+    alloc: Global,
+    request: &Request,
+    info: &Info,
+    level: Level,
+    handling: &Handling,
+    note: LinkNote,
+    body: &[u8],
+) -> Result<Copied, NoMemory>
+    ensures { IfOk result (λ it. (it.target ≡ request.now.head.target)
+        × (it.agent ≡ spec.agent_in request.now.head.headers)
+        × spec.IsKeptIf (due.request_due level info.now) request.now.body it.request
+        × spec.IsKeptIf (due.reply_due level info.now)
+        (spec.sent_body request.now.head.method (answer.body_of handling.now note body.now)) it.reply) }
+{
+    let method = request.head.method.as_str();
+    Ok(Copied {
+        request: kept_if(alloc, request_due(level, info), request.body.as_slice())?,
+        reply: answer_kept_if(alloc, reply_due(level, info), method, handling, note, body)?,
+        target: request.head.target.copy(alloc)?,
+        agent: agent_in(alloc, &request.head.headers)?,
+    })
+}
+
 /// The facts of a request that was handled so, whose link came to that, with that body. Bodies are looked at where the
 /// level shows them.
 pub fn facts_of(
@@ -86,21 +119,28 @@ pub fn facts_of(
     ensures { IfOk result (spec.AreFacts stamp.now request.now info user level
         (answer.status_of handling.now note) (answer.body_of handling.now note body.now)) }
 {
-    let method = request.head.method.as_str();
-    let request_kept = kept_if(alloc, request_due(level, &info), request.body.as_slice())?;
-    let reply_kept = answer_kept_if(alloc, reply_due(level, &info), method, handling, note, body)?;
-    Ok(Facts {
-        id: stamp.id,
-        target: request.head.target.copy(alloc)?,
-        info,
-        user,
-        peer: stamp.peer,
-        agent: agent_in(alloc, &request.head.headers)?,
-        status: status_of(handling, note),
-        request: request_kept,
-        reply: reply_kept,
-        received: stamp.received,
-        started: stamp.started,
-        complete: stamp.complete,
-    })
+    match copy_parts(alloc, request, &info, level, handling, note, body) {
+        Ok(
+            Copied {
+                target,
+                agent,
+                request,
+                reply,
+            },
+        ) => Ok(Facts {
+            id: stamp.id,
+            target,
+            info,
+            user,
+            peer: stamp.peer,
+            agent,
+            status: status_of(handling, note),
+            request,
+            reply,
+            received: stamp.received,
+            started: stamp.started,
+            complete: stamp.complete,
+        }),
+        Err(_) => Err(NoMemory),
+    }
 }

@@ -6,7 +6,7 @@ use Rattle.audit_core.specs.declared.offers.OfferNote.{OfferNote}
 use Rattle.audit_core.specs.declared.settings.Settings.{Settings}
 use Rattle.bay_runs.specs.Runs.{ConnTells, ServedConn, Ran, ends_of}
 use Rattle.bay_laws.specs.Whole.{AllInMemory, SameLane, SameLanes, TellsEach, TellsAll, is_out_of_memory}
-use Rattle.connection_laws.specs.Whole.{due_in, offers_in, Tells, CanLeave}
+use Rattle.connection_laws.specs.Whole.{due_in, offered_in, offered_of, offers_in, Tells, CanLeave}
 use Rattle.audit_core.specs.declared.offers.Outcome.{Outcome}
 use Rattle.audit_core.specs.declared.sinks.Sink.{Sink}
 use Rattle.audit_core.specs.declared.sinks.Sink.TheVariants.{Log, Webhook}
@@ -47,6 +47,12 @@ due_append set [] ys = refl
 due_append set (x ∷ xs) ys =
     ap (λ l. offers_due set (owed x.decision x.facts) ++ l) (due_append set xs ys)
     ∙ sym (append_assoc (offers_due set (owed x.decision x.facts)) (due_in set xs) (due_in set ys))
+
+offered_append : (set : Settings) (xs ys : List Exchange) → offered_in set (xs ++ ys) ≡ offered_in set xs ++ offered_in set ys
+offered_append set [] ys = refl
+offered_append set (x ∷ xs) ys =
+    ap (λ l. offered_of set x ++ l) (offered_append set xs ys)
+    ∙ sym (append_assoc (offered_of set x) (offered_in set xs) (offered_in set ys))
 
 offers_append : (xs ys : List Exchange) → offers_in (xs ++ ys) ≡ offers_in xs ++ offers_in ys
 offers_append [] ys = refl
@@ -147,6 +153,7 @@ keeps_serves set peer m n c d conn_end.NoMemory h =
 none_told : (set : Settings) (m : BayState) → TellsAll set m m [] []
 none_told set m = record {
   due = [];
+  offered_is = refl;
   offered = (refl, refl);
   noted = adds_none m.notes;
   number_is = omega arith;
@@ -160,6 +167,7 @@ more_told : Join → (set : Settings) (m k n : BayState) (end : ConnEnd) (ends :
     → Tells set m k xs rest → CanLeave end rest → Keeps m k → TellsAll set k n ends ys → TellsAll set m n (end ∷ ends) (xs ++ ys)
 more_told join set m k n end ends xs ys rest h can kept j = record {
   due = h.due ++ j.due;
+  offered_is = ap (λ l. l ++ j.due) h.offered_is ∙ ap (λ l. offered_in set xs ++ l) j.offered_is ∙ sym (offered_append set xs ys);
   offered = subst (λ l. OffersAll (h.due ++ j.due) m.lanes l n.lanes) (sym (offers_append xs ys))
       (join h.due j.due m.lanes k.lanes n.lanes (offers_in xs) (offers_in ys) h.offered j.offered);
   noted = adds_join m.notes k.notes n.notes xs ys h.noted j.noted;

@@ -2,7 +2,7 @@
 use Rattle.std.specs.Prelude.{◌≡◌, ℕ, ◌+◌, Bool, true, false, List, [], ◌∷◌, ◌++◌, length}
 use Rattle.audit_core.specs.Offers.{Due}
 use Rattle.audit_core.specs.declared.settings.Settings.{Settings}
-use Rattle.connection_laws.specs.Whole.{Tells, CanLeave, due_in, offers_in}
+use Rattle.connection_laws.specs.Whole.{Tells, CanLeave, due_in, offered_in, offers_in}
 use Rattle.event_offers.specs.Lanes.{LaneState, LanesState}
 use Rattle.event_offers.specs.Offering.{OffersAll}
 use Rattle.front_ports.specs.Told.{Adds}
@@ -47,6 +47,7 @@ pub record SameLanes (m n : LanesState) : Type 0 where
 -- that they are due was made
 pub record TellsAll (set : Settings) (m n : BayState) (ends : List ConnEnd) (xs : List Exchange) : Type 0 where
   pub due : List Due
+  pub offered_is : due ≡ offered_in set xs
   pub offered : OffersAll due m.lanes (offers_in xs) n.lanes
   pub noted : Adds m.notes n.notes xs
   pub number_is : n.number ≡ m.number + length xs

@@ -1,10 +1,11 @@
 -- The exchanges of a connection.
-use Rattle.std.proofs.Common.{◌≡◌, ℕ, ◌+◌, List, [], ◌∷◌, ◌++◌, length, Option, None, Some, refl, sym, ap, subst, ◌∙◌, append_assoc, append-nil, inl, inr, arith}
+use Rattle.std.proofs.Common.{◌≡◌, ℕ, ◌+◌, List, [], ◌∷◌, ◌++◌, length, take, Option, None, Some, refl, sym, ap, subst, ◌∙◌, append_assoc, append-nil, inl, inr, arith}
+use Rattle.std.proofs.Math.Seq.{take-append_seam}
 use Rattle.audit_core.specs.Offers.{Due, offers_due}
 use Rattle.audit_core.specs.Owed.{owed}
 use Rattle.audit_core.specs.declared.offers.OfferNote.{OfferNote}
 use Rattle.audit_core.specs.declared.settings.Settings.{Settings}
-use Rattle.connection_laws.specs.Whole.{due_in, offers_in, Tells, CanLeave}
+use Rattle.connection_laws.specs.Whole.{due_in, offered_in, offered_of, offers_in, Tells, CanLeave}
 use Rattle.event_offers.specs.Lanes.{LanesState}
 use Rattle.event_offers.specs.Offering.{OffersAll}
 use Rattle.front_ports.specs.Told.{Adds}
@@ -37,6 +38,23 @@ due_append set (x ∷ xs) ys =
     ap (λ l. offers_due set (owed x.decision x.facts) ++ l) (due_append set xs ys)
     ∙ sym (append_assoc (offers_due set (owed x.decision x.facts)) (due_in set xs) (due_in set ys))
 
+offered_append : (set : Settings) (xs ys : List Exchange) → offered_in set (xs ++ ys) ≡ offered_in set xs ++ offered_in set ys
+offered_append set [] ys = refl
+offered_append set (x ∷ xs) ys =
+    ap (λ l. offered_of set x ++ l) (offered_append set xs ys)
+    ∙ sym (append_assoc (offered_of set x) (offered_in set xs) (offered_in set ys))
+
+-- something became of each offer that was made
+all_noted : (dues : List Due) (m : LanesState) (notes : List OfferNote) (n : LanesState) → OffersAll dues m notes n → length notes ≡ length dues
+all_noted [] m notes n h = ap length h.0
+all_noted (due ∷ dues) m notes n h = let later = all_noted dues h.2 h.1 n h.5 in let e = ap length h.4 in omega (arith, e, later)
+
+-- so what was offered of what is due is its first part of that length
+first_offered : (all due rest : List Due) (m : LanesState) (notes : List OfferNote) (n : LanesState) → all ≡ due ++ rest → OffersAll due m notes n
+    → due ≡ take (length notes) all
+first_offered all due rest m notes n e h =
+    sym (take-append_seam due rest) ∙ (ap (λ l. take (length due) l) (sym e) ∙ ap (λ k. take k all) (sym (all_noted due m notes n h)))
+
 offers_append : (xs ys : List Exchange) → offers_in (xs ++ ys) ≡ offers_in xs ++ offers_in ys
 offers_append [] ys = refl
 offers_append (x ∷ xs) ys =
@@ -52,6 +70,7 @@ tells_none : (set : Settings) (m : BayState) → Tells set m m [] []
 tells_none set m = record {
   due = [];
   due_is = refl;
+  offered_is = refl;
   offered = (refl, refl);
   noted = adds_none m.notes;
   number_is = omega arith;
@@ -65,6 +84,7 @@ tells_join join set m k n xs ys rest h j = record {
       ∙ ap (λ l. l ++ due_in set ys) (h.due_is ∙ append-nil h.due)
       ∙ ap (λ l. h.due ++ l) j.due_is
       ∙ sym (append_assoc h.due j.due rest);
+  offered_is = ap (λ l. l ++ j.due) h.offered_is ∙ ap (λ l. offered_in set xs ++ l) j.offered_is ∙ sym (offered_append set xs ys);
   offered = subst (λ l. OffersAll (h.due ++ j.due) m.lanes l n.lanes) (sym (offers_append xs ys))
       (join h.due j.due m.lanes k.lanes n.lanes (offers_in xs) (offers_in ys) h.offered j.offered);
   noted = adds_join m.notes k.notes n.notes xs ys h.noted j.noted;
@@ -77,6 +97,7 @@ tells_one : (set : Settings) (m n : BayState) (x : Exchange) (due rest : List Du
 tells_one set m n x due rest e h noted number = record {
   due = due;
   due_is = append-nil (offers_due set (owed x.decision x.facts)) ∙ e;
+  offered_is = first_offered (offers_due set (owed x.decision x.facts)) due rest m.lanes x.offers n.lanes e h ∙ sym (append-nil (offered_of set x));
   offered = subst (λ l. OffersAll due m.lanes l n.lanes) (sym (append-nil x.offers)) h;
   noted = noted;
   number_is = number;
@@ -112,6 +133,7 @@ unbegun_tells : (set : Settings) (m n : BayState) (w0 w : Option (List ℕ)) →
 unbegun_tells set m n w0 w h = record {
   due = [];
   due_is = refl;
+  offered_is = refl;
   offered = (refl, ap (λ (s : BayState). s.lanes) h.same);
   noted = subst (λ o. Adds m.notes o []) (sym (ap (λ (s : BayState). s.notes) h.same)) (adds_none m.notes);
   number_is = omega (arith, ap (λ (s : BayState). s.number) h.same);

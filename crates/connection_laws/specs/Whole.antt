@@ -1,5 +1,5 @@
 -- What the requests of a connection do together (Kubernetes, "Auditing").
-use Rattle.std.specs.Prelude.{◌≡◌, ℕ, ◌+◌, ◌-◌, ◌^◌, ◌≤◌, min, ◌&&◌, Bool, true, false, List, [], ◌∷◌, ◌++◌, length, ⊤}
+use Rattle.std.specs.Prelude.{◌≡◌, ℕ, ◌+◌, ◌-◌, ◌^◌, ◌≤◌, min, ◌&&◌, Bool, true, false, List, [], ◌∷◌, ◌++◌, length, take, ⊤}
 use Rattle.audit_core.specs.Offers.{Due, offers_due}
 use Rattle.audit_core.specs.Owed.{owed}
 use Rattle.audit_core.specs.declared.offers.OfferNote.{OfferNote}
@@ -20,6 +20,14 @@ abbrev pub due_in : Settings → List Exchange → List Due
 due_in set [] = []
 due_in set (x ∷ xs) = offers_due set (owed x.decision x.facts) ++ due_in set xs
 
+-- as much of what an exchange is due as became of it something, and of all of them
+abbrev pub offered_of : Settings → Exchange → List Due
+offered_of set x = take (length x.offers) (offers_due set (owed x.decision x.facts))
+
+abbrev pub offered_in : Settings → List Exchange → List Due
+offered_in set [] = []
+offered_in set (x ∷ xs) = offered_of set x ++ offered_in set xs
+
 -- what became of all offers
 abbrev pub offers_in : List Exchange → List OfferNote
 offers_in [] = []
@@ -30,6 +38,7 @@ offers_in (x ∷ xs) = x.offers ++ offers_in xs
 pub record Tells (set : Settings) (m n : BayState) (xs : List Exchange) (rest : List Due) : Type 0 where
   pub due : List Due
   pub due_is : due_in set xs ≡ due ++ rest
+  pub offered_is : due ≡ offered_in set xs
   pub offered : OffersAll due m.lanes (offers_in xs) n.lanes
   pub noted : Adds m.notes n.notes xs
   pub number_is : n.number ≡ m.number + length xs

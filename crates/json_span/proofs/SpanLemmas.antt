@@ -61,6 +61,9 @@ ends_stop (b ∷ bs) (inr c) p e = ap (λ x. one_more (λ q. place_reach q bs) (
 pub value_over : (v : Value) (rest : List ℕ) → Spells v (flat v) → depth v ≤ 128 → EndsMember rest → place_reach start (flat v ++ rest) ≡ length (flat v)
 value_over v rest h fits ends = reach_over place_step place_ends start (flat v) rest (text_gives (flat v) v (bare (Spells v) (flat v) h, fits)).0 (ends_stop rest ends)
 
+pub value_stands : (v : Value) (rest : List ℕ) → StandsFor (flat v) v → EndsMember rest → place_reach start (flat v ++ rest) ≡ length (flat v)
+value_stands v rest h ends = reach_over place_step place_ends start (flat v) rest (text_gives (flat v) v h).0 (ends_stop rest ends)
+
 -- ---- parts of a text
 
 pub drop_behind : (text xs ys : List ℕ) (i : ℕ) → drop i text ≡ xs ++ ys → drop (i + length xs) text ≡ ys

@@ -23,7 +23,7 @@ mod token;
 
 pub use fault::{JsonError, JsonFault};
 pub use joined::compact;
-pub use laws::{compact_keeps_the_value, one_fault, one_value};
-pub use members::member;
+pub use laws::{compact_keeps_the_value, one_fault, one_length, one_value};
+pub use members::{member, value_len};
 pub use quoted::{escape_from, push_quoted, quote};
 pub use text::check;

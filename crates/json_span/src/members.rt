@@ -21,8 +21,8 @@ fn string_len(text: &[u8]) -> usize
     text.len()
 }
 
-// How many bytes at the start belong to the value there.
-fn value_len(text: &[u8]) -> usize
+/// How many bytes at the start belong to the compact value there. A comma or a closing brace follows it.
+pub fn value_len(text: &[u8]) -> usize
     ensures reach { result ≡ spec.place_reach spec.start text.now }
     ensures within { result ≤ length text.now }
 {

@@ -38,6 +38,46 @@ fn refused(alloc: Global, fault: ChangeFault) -> Result<LocalReply, NoMemory>
     }
 }
 
+// A change that is about to be made, its reply, and the copy that is handed out.
+struct Prepared {
+    reply: LocalReply,
+    made: Change,
+    change: Change,
+}
+
+fn reply_and_copy(alloc: Global, change: &Change) -> Result<(LocalReply, Change), NoMemory>
+    ensures { IfOk result (λ both. (both.0 ≡ spec.done change.now) × (both.1 ≡ change.now)) }
+{
+    let reply = done(alloc, change)?;
+    Ok((reply, change.copy(alloc)?))
+}
+
+fn prepare(alloc: Global, change: Change) -> Result<Prepared, NoMemory>
+    ensures { IfOk result (λ it. (it.reply ≡ spec.done change) × (it.made ≡ change) × (it.change ≡ change)) }
+{
+    match reply_and_copy(alloc, &change) {
+        Ok((reply, made)) => Ok(Prepared {
+            reply,
+            made,
+            change,
+        }),
+        Err(_) => Err(NoMemory),
+    }
+}
+
+// The reply to a change that the rows don't take, in the place of what was prepared.
+fn instead(
+    alloc: Global,
+    fault: ChangeFault,
+    _: LocalReply,
+    _: Change,
+) -> Result<LocalReply, NoMemory>
+    ensures reply { IfOk result (λ reply. reply ≡ spec.refused fault) }
+    ensures due { IfOk result (λ _. (due : Option ChangeFault) → IsDue fault due → due ≡ Some fault) }
+{
+    refused(alloc, fault)
+}
+
 // Makes a change. The reply and the copy that is handed out are made before it, so that none is made where memory runs out.
 fn write<R: Routes>(
     alloc: Global,
@@ -51,11 +91,14 @@ fn write<R: Routes>(
     ensures later { IsLater (R.seen routes.old) (R.seen routes.new) }
     ensures fixed { R.opening routes.new ≡ R.opening routes.old }
 {
-    let reply = done(alloc, &change)?;
-    let made = change.copy(alloc)?;
+    let Prepared {
+        reply,
+        made,
+        change,
+    } = prepare(alloc, change)?;
     match routes.change(alloc, change) {
         Ok(()) => Ok((reply, Some(made))),
-        Err(fault) => Ok((refused(alloc, fault)?, None)),
+        Err(fault) => Ok((instead(alloc, fault, reply, made)?, None)),
     }
 }
 

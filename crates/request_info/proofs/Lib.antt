@@ -1,5 +1,6 @@
 mod EscapeLemmas
 mod FormLemmas
+mod MethodLemmas
 mod PartsLemmas
 mod PathLemmas
 mod RequestLemmas

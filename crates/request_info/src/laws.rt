@@ -4,7 +4,7 @@ ghost use Rattle.std.specs.List.{All};
 ghost use Rattle.std.specs.Str.{is_utf8};
 ghost use Rattle.request_info.specs.Parts.{IsPart, parts_of, path_with};
 ghost use Rattle.request_info.specs.Forms.{IsApiPath, IsInCluster, IsInNamespace, IsNamespace, IsSpecialVerb, HasWatch};
-ghost use Rattle.request_info.specs.Request.{method_verb, verb_of, collection_verb, resource_info, path_info};
+ghost use Rattle.request_info.specs.Request.{audit_info, method_verb, verb_of, collection_verb, resource_info, path_info};
 ghost use Rattle.request_info.specs.Resource.{Api, Named, api_of, behind_verb, named_by};
 ghost use Rattle.request_info.specs.Spelling.{Spells};
 ghost use Rattle.request_info.specs.Target.{decoded};
@@ -99,4 +99,9 @@ pub fn end_slashes_do_not_count()
 pub fn escapes_stand_for_bytes()
     ensures spelled { (spelled path : List ℕ) → decoded spelled ≡ Some path → Spells path spelled × IsTrue (is_utf8 path) }
     ensures decoded { (spelled path : List ℕ) → Spells path spelled → IsTrue (is_utf8 path) → decoded spelled ≡ Some path }
+{}
+
+/// The method of a request gives its verb, and nothing else of what it asks for.
+pub fn the_method_gives_the_verb_alone()
+    ensures { (method other target : List ℕ) → record (audit_info method target) { verb = [] } ≡ record (audit_info other target) { verb = [] } }
 {}

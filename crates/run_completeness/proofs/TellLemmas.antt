@@ -55,5 +55,6 @@ module _ {R L N W H T K Y D C : Type 0} (h : BayHandles R L N W H K Y D C) where
         (adds_all b.m.notes b.n.notes b.exchanges b.opens.diary b.told.noted);
     number_is = counted_all b.n.number end.number b.m.number (length b.exchanges) (ap (λ n. n.number) b.ends) b.told.number_is b.opens.number;
     due = b.told.due;
+    offered_is = b.told.offered_is;
     whole = λ none. b.told.whole (in_memory no_ends (ends_of b.runs.all) (sym (ap (λ (c : EndCounts). c.no_memory) b.runs.counted) ∙ none)).1;
   }

@@ -4,7 +4,7 @@ use Rattle.audit_core.specs.Offers.{Due}
 use Rattle.audit_core.specs.declared.settings.Settings.{Settings}
 use Rattle.audit_core.specs.declared.sinks.Sink.{Sink}
 use Rattle.batch_backend.specs.Batches.{WithinLimits}
-use Rattle.connection_laws.specs.Whole.{due_in, offers_in, count_of, is_full}
+use Rattle.connection_laws.specs.Whole.{due_in, offered_in, offers_in, count_of, is_full}
 use Rattle.event_offers.specs.Taken.{is_taken, is_tried, lines_for}
 use Rattle.front_base.specs.Line.{Line}
 use Rattle.batch_backend.specs.Closes.{FullButLast}
@@ -27,6 +27,7 @@ pub record BayTold {R L N W H K Y D C : Type 0} (h : BayHandles R L N W H K Y D 
   pub noted : IfSome (h.diary.notes end.diary) (λ notes. notes ≡ exchanges)
   pub number_is : end.number ≡ length exchanges
   pub due : List Due
+  pub offered_is : due ≡ offered_in set exchanges
   pub whole : end.counts.no_memory ≡ 0 → due_in set exchanges ≡ due
 
 -- ---- a sink in batch mode

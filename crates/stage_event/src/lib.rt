@@ -20,4 +20,4 @@ pub use event::{Event, ObjectRef};
 pub use facts::{Facts, Kept};
 pub use keeping::{MOST_KEPT_BYTES, kept};
 pub use laws::{levels_hide, one_kept, stages_hide, views_settle};
-pub use making::{event_at, event_from};
+pub use making::{event_at, event_from, object_ref};

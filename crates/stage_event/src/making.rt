@@ -113,7 +113,8 @@ fn reference(alloc: Global, info: &Info) -> Result<ObjectRef, NoMemory>
     })
 }
 
-fn object_ref(alloc: Global, info: &Info) -> Result<Option<ObjectRef>, NoMemory>
+/// The object that an event names: that of a request for a resource, where a resource, a namespace or a name is given.
+pub fn object_ref(alloc: Global, info: &Info) -> Result<Option<ObjectRef>, NoMemory>
     ensures { IfOk result (λ named. named ≡ spec.object_ref info.now) }
 {
     if info.resource_request && is_named(info) {
