@@ -1,0 +1,94 @@
+// Values of rows. A text that memory refuses comes out empty, so that the output of its case is a wrong one.
+ghost use Rattle.std.specs.Prelude.{◌≡◌, ◌≤◌, IfSome, length};
+ghost use Rattle.audit_core.specs.declared.sinks.SinkMode.TheVariants.{Off};
+ghost use Rattle.front_base.specs.declared.file.TheConstants.{MOST_FILE_BYTES};
+
+use audit_core::{Settings, SinkMode};
+use case_rows::{bytes_of, read_cases};
+use front_base::{Bytes, MOST_FILE_BYTES, Text, Texts, User};
+use http_edge::Request;
+use http_head::{HeadAnswer, read_request};
+use policy_rules::{Policy, read_policy};
+use service_endpoints::Endpoints;
+use std::alloc::Global;
+use token_users::{Tokens, read_tokens};
+
+/// The field of that number of a row, from 0.
+pub fn field(row: &str, number: usize) -> &str {
+    row.split(" | ").nth(number).unwrap_or("")
+}
+
+/// Bytes as they are printed, where they are UTF-8.
+pub fn shown(bytes: &[u8]) -> &str {
+    str::from_utf8(bytes).unwrap_or("not UTF-8")
+}
+
+pub fn text_of(alloc: Global, text: &str) -> Text {
+    match Text::copy_of(alloc, text) {
+        Ok(text) => text,
+        Err(_) => Text::new(String::new(alloc)),
+    }
+}
+
+/// The user `ann`.
+pub fn ann(alloc: Global) -> User {
+    User {
+        name: text_of(alloc, "ann"),
+        uid: text_of(alloc, ""),
+        groups: Texts::new(Vec::new(alloc)),
+    }
+}
+
+/// The request whose head and whose body these fields spell.
+pub fn request_of(alloc: Global, head: &str, body: &str) -> Option<Request> {
+    match read_request(alloc, bytes_of(alloc, head).as_slice()) {
+        Ok(HeadAnswer::Whole { head, .. }) => Some(Request {
+            head,
+            body: Bytes::new(bytes_of(alloc, body)),
+        }),
+        _ => None,
+    }
+}
+
+// The bytes of a file that isn't too long.
+fn file_bytes(text: &str) -> &[u8]
+    ensures { length result.now ≤ MOST_FILE_BYTES }
+{
+    let bytes = text.as_bytes();
+    if bytes.len() as u64 <= MOST_FILE_BYTES {
+        bytes
+    } else {
+        b""
+    }
+}
+
+fn tokens_of(rt: &HostRuntime) -> Option<Tokens> {
+    let text = read_cases(rt, "tokens.csv").ok()?;
+    read_tokens(rt.alloc(), file_bytes(text.as_str())).ok()
+}
+
+fn policy_of(rt: &HostRuntime, name: &str) -> Option<Policy> {
+    let text = read_cases(rt, name).ok()?;
+    read_policy(rt.alloc(), file_bytes(text.as_str())).ok()
+}
+
+/// The settings that the tokens and the policy of that file make, with such a log, no webhook and no endpoint.
+pub fn settings_of(
+    rt: &HostRuntime,
+    policy: &str,
+    max_event: u64,
+    log: SinkMode,
+) -> Option<Settings>
+    ensures { IfSome result (λ set. (set.max_event ≡ max_event) × (set.log ≡ log) × (set.hook ≡ Off)) }
+{
+    let tokens = tokens_of(rt)?;
+    let policy = policy_of(rt, policy)?;
+    Some(Settings {
+        tokens,
+        policy,
+        endpoints: Endpoints::none(rt.alloc()),
+        max_event,
+        log,
+        hook: SinkMode::Off,
+    })
+}

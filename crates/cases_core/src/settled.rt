@@ -1,0 +1,114 @@
+use crate::fixtures::{field, request_of, settings_of, shown};
+use apiservice_rows::read_rows;
+use apiservice_table::{RouteTable, TableRoutes, read_rows_fit};
+use audit_core::{Answered, LineForm, LinkNote, Settings, SinkMode, Stamp, push_owed, settle};
+use case_rows::read_cases;
+use front_base::{AuditId, Moment, NoMemory};
+use http_edge::Request;
+use local_replies::LocalPaths;
+use std::alloc::Global;
+use std::io;
+
+fn moment(micros: u64) -> Moment {
+    Moment::new(micros).unwrap_or(Moment::epoch())
+}
+
+// Three moments, a second apart.
+fn stamp() -> Stamp {
+    Stamp {
+        id: AuditId {
+            boot: 1,
+            bay: 2,
+            number: 3,
+        },
+        peer: [10, 0, 0, 7],
+        received: moment(1_735_689_600_000_000),
+        started: moment(1_735_689_601_000_000),
+        complete: moment(1_735_689_602_000_000),
+    }
+}
+
+fn routes_of(alloc: Global, services: &str) -> Option<TableRoutes> {
+    read_rows_fit();
+    let rows = read_rows(alloc, services.as_bytes()).ok()?;
+    TableRoutes::new(alloc, RouteTable::from_rows(alloc, rows).ok()?).ok()
+}
+
+// Answers a request, and keeps what is known of it.
+fn push_answered(
+    alloc: Global,
+    answers: &mut Vec<Answered>,
+    settings: &Settings,
+    routes: &mut TableRoutes,
+    request: &Request,
+) -> Result<(), NoMemory> {
+    let paths = LocalPaths::new(alloc)?;
+    let answered = settle(
+        alloc,
+        settings,
+        &paths,
+        routes,
+        &stamp(),
+        request,
+        LinkNote::Whole(200),
+        b"".as_slice(),
+    )?;
+    Ok(answers.push(answered)?)
+}
+
+fn answers_of(rt: &HostRuntime, settings: &Settings, request: &Request) -> Option<Vec<Answered>> {
+    let services = read_cases(rt, "services.json").ok()?;
+    let mut routes = routes_of(rt.alloc(), services.as_str())?;
+    let mut answers = Vec::new(rt.alloc());
+    push_answered(rt.alloc(), &mut answers, settings, &mut routes, request).ok()?;
+    Some(answers)
+}
+
+// The lines of the events, after what was there.
+fn lines_of(alloc: Global, answered: &Answered) -> Result<Vec<u8>, NoMemory> {
+    let mut out = b"before\n".to_vec(alloc)?;
+    let form = LineForm {
+        most: 4_096,
+        end: b'\n',
+    };
+    push_owed(alloc, answered, form, &mut out)?;
+    Ok(out)
+}
+
+fn show_answered(rt: &HostRuntime, answered: &Answered) -> io::Result<()> {
+    println!(rt; "  {:?}", answered.decision)?;
+    println!(rt; "  {:?}", answered.handling)?;
+    match lines_of(rt.alloc(), answered) {
+        Ok(lines) => print!(rt; "{}", shown(lines.as_slice())),
+        Err(_) => println!(rt; "  out of memory"),
+    }
+}
+
+fn show_answers(rt: &HostRuntime, answers: &[Answered]) -> io::Result<()> {
+    for answered in answers {
+        show_answered(rt, answered)?;
+    }
+    Ok(())
+}
+
+fn show_request(rt: &HostRuntime, settings: &Settings, request: &Request) -> io::Result<()> {
+    match answers_of(rt, settings, request) {
+        Some(answers) => show_answers(rt, answers.as_slice()),
+        None => println!(rt; "  no answer"),
+    }
+}
+
+fn show_by(rt: &HostRuntime, row: &str, settings: &Settings) -> io::Result<()> {
+    match request_of(rt.alloc(), field(row, 0), field(row, 1)) {
+        Some(request) => show_request(rt, settings, &request),
+        None => println!(rt; "  no request"),
+    }
+}
+
+/// How a request is recorded and answered, and the lines of its events. A row has the head and the body.
+pub fn show_settled(rt: &HostRuntime, row: &str) -> io::Result<()> {
+    match settings_of(rt, "policy.json", 4_096, SinkMode::Off) {
+        Some(settings) => show_by(rt, row, &settings),
+        None => println!(rt; "  no settings"),
+    }
+}
