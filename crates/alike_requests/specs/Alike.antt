@@ -1,0 +1,50 @@
+-- Requests of which an auditor sees the same (Kubernetes, "Auditing", audit policy).
+use Rattle.std.specs.Prelude.{◌≡◌, ◌≢◌, true, Option, Some, None}
+use Rattle.alike_requests.specs.Seen.{Seen, Settled}
+use Rattle.audit_core.specs.Answer.{link_status}
+use Rattle.audit_core.specs.Errand.{errand_in, info_in, user_in}
+use Rattle.audit_core.specs.Exchange.{agent_in, decision_in}
+use Rattle.audit_core.specs.declared.settings.Settings.{Settings}
+use Rattle.front_base.specs.declared.level.Level.TheVariants as levels
+use Rattle.stage_event.specs.Due.{request_due, reply_due}
+use Rattle.stage_event.specs.Kept.{IsKept}
+use Rattle.stage_event.specs.Views.{shown_if}
+use Rattle.stage_event.specs.declared.facts.Kept.{Kept}
+
+-- two requests that were answered want the same, the same rows decided, their links gave the same status, and where an event shows
+-- their bodies, the same is kept of both
+pub record AnsweredAlike (set : Settings) (s t : Seen) (by other : Settled) : Type 0 where
+  pub wanted : errand_in set s.request ≡ errand_in set t.request
+  pub rows : by.rows ≡ other.rows
+  pub link : link_status by.link ≡ link_status other.link
+  pub body : request_due (decision_in set s.request).level (info_in s.request) ≡ true
+      → (kept : Kept) → IsKept s.request.body kept → IsKept t.request.body kept
+
+-- where memory stopped one of them: the status and the body that were noted are shown alike
+pub record StoppedAlike (set : Settings) (s t : Seen) : Type 0 where
+  pub status : s.exchange.facts.status ≡ t.exchange.facts.status
+  pub body : shown_if (request_due (decision_in set s.request).level (info_in s.request)) s.exchange.facts.request
+      ≡ shown_if (request_due (decision_in set s.request).level (info_in s.request)) t.exchange.facts.request
+
+abbrev pub SettledAlike : Settings → Seen → Seen → Option Settled → Option Settled → Type 0
+SettledAlike set s t None None = StoppedAlike set s t
+SettledAlike set s t None (Some other) = StoppedAlike set s t
+SettledAlike set s t (Some by) None = StoppedAlike set s t
+SettledAlike set s t (Some by) (Some other) = AnsweredAlike set s t by other
+
+-- above None an event shows the same of both: of what was asked, by whom, when, and what the reply was
+pub record AlikeShown (set : Settings) (s t : Seen) : Type 0 where
+  pub target : s.request.head.target ≡ t.request.head.target
+  pub info : info_in s.request ≡ info_in t.request
+  pub user : user_in set s.request ≡ user_in set t.request
+  pub agent : agent_in s.request.head.headers ≡ agent_in t.request.head.headers
+  pub moments : s.stamp ≡ t.stamp
+  pub settled : SettledAlike set s t s.settled t.settled
+  pub reply : shown_if (reply_due (decision_in set s.request).level (info_in s.request)) s.exchange.facts.reply
+      ≡ shown_if (reply_due (decision_in set s.request).level (info_in s.request)) t.exchange.facts.reply
+
+-- requests of one level, of which the same became of their events
+pub record AlikeSeen (set : Settings) (s t : Seen) : Type 0 where
+  pub level : (decision_in set s.request).level ≡ (decision_in set t.request).level
+  pub shown : (decision_in set s.request).level ≢ levels.None → AlikeShown set s t
+  pub offers : s.exchange.offers ≡ t.exchange.offers

@@ -1,0 +1,40 @@
+ghost use Rattle.std.specs.Prelude.{◌≡◌, ◌++◌, List, Some};
+ghost use Rattle.alike_exchanges.specs.Alike.{AlikeExchanges};
+ghost use Rattle.alike_requests.specs.Alike.{AlikeSeen, SettledAlike};
+ghost use Rattle.alike_requests.specs.Seen.{AreNoted, Seen, door_seen, noted_by};
+ghost use Rattle.audit_core.specs.Exchange.{decision_in};
+ghost use Rattle.audit_core.specs.declared.settings.Settings.{Settings};
+ghost use Rattle.bay_runs.specs.Runs.{ConnTells, Ran, ServedConn};
+ghost use Rattle.front_base.specs.declared.level.Level.TheVariants as level;
+ghost use Rattle.role_threads.specs.Lists.{AllPairs};
+ghost use Rattle.session_core.specs.Bays.{BayState};
+ghost use Rattle.session_core.specs.declared.exchange.Exchange.{Exchange};
+
+use stage_event::one_kept;
+
+/// Of a door: a diary that is told has what was noted of its requests and no other, and each is how its request is recorded.
+/// It holds whichever way connections end, and of those that memory stopped too.
+pub fn a_door_notes_its_requests<C>()
+    ensures noted { (tells : C → ConnTells) (set : Settings) (m : BayState) (all : List (ServedConn C)) (n : BayState) (r : Ran tells set m all n)
+        (before : List Exchange) → m.notes ≡ Some before → n.notes ≡ Some (before ++ noted_by (door_seen tells set m all n r)) }
+    ensures each { (tells : C → ConnTells) (set : Settings) (m : BayState) (all : List (ServedConn C)) (n : BayState) (r : Ran tells set m all n)
+        → AreNoted set (door_seen tells set m all n r) }
+{}
+
+/// Of requests that look alike alike exchanges are noted.
+pub fn alike_requests_are_noted_alike()
+    ensures { (set : Settings) (these those : List Seen) → AreNoted set these → AreNoted set those → AllPairs (AlikeSeen set) these those
+        → AllPairs AlikeExchanges (noted_by these) (noted_by those) }
+{
+    one_kept();
+}
+
+/// Which requests look alike: at level None any two; at Metadata two with one head, at the same moments, whatever their bodies and
+/// the bodies of their replies are, where their answers gave the same status.
+pub fn what_requests_are_alike()
+    ensures none { (set : Settings) (s t : Seen) → (decision_in set s.request).level ≡ level.None → (decision_in set t.request).level ≡ level.None
+        → s.exchange.offers ≡ t.exchange.offers → AlikeSeen set s t }
+    ensures metadata { (set : Settings) (s t : Seen) → (decision_in set s.request).level ≡ level.Metadata
+        → s.request.head ≡ t.request.head → s.stamp ≡ t.stamp → SettledAlike set s t s.settled t.settled
+        → s.exchange.offers ≡ t.exchange.offers → AlikeSeen set s t }
+{}

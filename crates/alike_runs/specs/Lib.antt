@@ -1,0 +1,2 @@
+pub mod AlikeSinks
+pub mod TwoRuns

@@ -1,0 +1,118 @@
+ghost use Rattle.std.specs.Prelude.{◌≡◌, ◌⊎◌, [], Some};
+ghost use Rattle.alike_runs.specs.AlikeSinks.{AlikeDrains, AlikeOwn, SameDrains, SameOwn};
+ghost use Rattle.alike_runs.specs.TwoRuns.{AlikeBays, AlikeRuns, TwoRuns};
+ghost use Rattle.audit_core.specs.declared.settings.Settings.{Settings};
+ghost use Rattle.audit_core.specs.declared.sinks.SinkMode.TheVariants.{Batch, Blocking, Strict};
+ghost use Rattle.plant_lanes.specs.declared.options.RunOptions.{RunOptions};
+ghost use Rattle.role_threads.specs.Lists.{AllPairs};
+ghost use Rattle.serve_roles.specs.Doors.{bay_handles};
+ghost use Rattle.serve_runs.specs.declared.ended.Ended.{Ended};
+
+use alike_exchanges::{alike_exchanges_owe_alike, cut_alike_sent_alike, parts_make_lines};
+use alike_requests::{a_door_notes_its_requests, alike_requests_are_noted_alike};
+use apiservice_table::Routes;
+use front_plants::Plant;
+use front_ports::Door;
+use run_laws::{accepted_lines_are_batched, tried_lines_are_those_offered};
+
+/// Two runs whose bays noted alike exchanges sent a sink in mode batch the same bytes, where its tries were cut alike and have
+/// lines of the same bays in the same order.
+pub fn same_audit<P: Plant, R: Routes>()
+    ensures log { (set : Settings) (options : RunOptions) (one other : Ended R P.L P.W P.H P.K P.Y P.D)
+        (runs : TwoRuns (bay_handles R.Routes P.L.Dial P.W.BatchSink P.H.BatchSink P.K.Clock P.Y.Diary P.D.Door
+        P.D.C.Source P.D.C.ByteSink P.D.C.Conn.own) P.Rt set options P.opens one other)
+        → set.log ≡ Batch → P.opens.log ≡ Some (Some [])
+        → AllPairs (AlikeBays (bay_handles R.Routes P.L.Dial P.W.BatchSink P.H.BatchSink P.K.Clock P.Y.Diary P.D.Door
+        P.D.C.Source P.D.C.ByteSink P.D.C.Conn.own)) one.bays.items other.bays.items
+        → AlikeDrains P.W.BatchSink one.log other.log → SameDrains P.W.BatchSink one.log other.log }
+    ensures hook { (set : Settings) (options : RunOptions) (one other : Ended R P.L P.W P.H P.K P.Y P.D)
+        (runs : TwoRuns (bay_handles R.Routes P.L.Dial P.W.BatchSink P.H.BatchSink P.K.Clock P.Y.Diary P.D.Door
+        P.D.C.Source P.D.C.ByteSink P.D.C.Conn.own) P.Rt set options P.opens one other)
+        → set.hook ≡ Batch → P.opens.hook ≡ Some (Some [])
+        → AllPairs (AlikeBays (bay_handles R.Routes P.L.Dial P.W.BatchSink P.H.BatchSink P.K.Clock P.Y.Diary P.D.Door
+        P.D.C.Source P.D.C.ByteSink P.D.C.Conn.own)) one.bays.items other.bays.items
+        → AlikeDrains P.H.BatchSink one.hook other.hook → SameDrains P.H.BatchSink one.hook other.hook }
+{
+    accepted_lines_are_batched::<P, R>();
+    alike_exchanges_owe_alike();
+    parts_make_lines();
+    cut_alike_sent_alike();
+}
+
+/// The same of a sink that is written to at once: each bay's own was sent the same bytes.
+pub fn same_audit_at_once<P: Plant, R: Routes>()
+    ensures log { (set : Settings) (options : RunOptions) (one other : Ended R P.L P.W P.H P.K P.Y P.D)
+        (runs : TwoRuns (bay_handles R.Routes P.L.Dial P.W.BatchSink P.H.BatchSink P.K.Clock P.Y.Diary P.D.Door
+        P.D.C.Source P.D.C.ByteSink P.D.C.Conn.own) P.Rt set options P.opens one other)
+        → (set.log ≡ Blocking) ⊎ (set.log ≡ Strict) → P.opens.log ≡ Some (Some [])
+        → AllPairs (AlikeBays (bay_handles R.Routes P.L.Dial P.W.BatchSink P.H.BatchSink P.K.Clock P.Y.Diary P.D.Door
+        P.D.C.Source P.D.C.ByteSink P.D.C.Conn.own)) one.bays.items other.bays.items
+        → AlikeOwn P.W.BatchSink one.log other.log → SameOwn P.W.BatchSink one.log other.log }
+    ensures hook { (set : Settings) (options : RunOptions) (one other : Ended R P.L P.W P.H P.K P.Y P.D)
+        (runs : TwoRuns (bay_handles R.Routes P.L.Dial P.W.BatchSink P.H.BatchSink P.K.Clock P.Y.Diary P.D.Door
+        P.D.C.Source P.D.C.ByteSink P.D.C.Conn.own) P.Rt set options P.opens one other)
+        → (set.hook ≡ Blocking) ⊎ (set.hook ≡ Strict) → P.opens.hook ≡ Some (Some [])
+        → AllPairs (AlikeBays (bay_handles R.Routes P.L.Dial P.W.BatchSink P.H.BatchSink P.K.Clock P.Y.Diary P.D.Door
+        P.D.C.Source P.D.C.ByteSink P.D.C.Conn.own)) one.bays.items other.bays.items
+        → AlikeOwn P.H.BatchSink one.hook other.hook → SameOwn P.H.BatchSink one.hook other.hook }
+{
+    tried_lines_are_those_offered::<P, R>();
+    alike_exchanges_owe_alike();
+    cut_alike_sent_alike();
+}
+
+/// Of two runs whose bays served requests that look alike the bays noted alike exchanges.
+pub fn alike_requests_make_alike_bays<P: Plant, R: Routes>()
+    ensures { (set : Settings) (options : RunOptions) (one other : Ended R P.L P.W P.H P.K P.Y P.D)
+        (runs : TwoRuns (bay_handles R.Routes P.L.Dial P.W.BatchSink P.H.BatchSink P.K.Clock P.Y.Diary P.D.Door
+        P.D.C.Source P.D.C.ByteSink P.D.C.Conn.own) P.Rt set options P.opens one other)
+        → AlikeRuns (bay_handles R.Routes P.L.Dial P.W.BatchSink P.H.BatchSink P.K.Clock P.Y.Diary P.D.Door
+        P.D.C.Source P.D.C.ByteSink P.D.C.Conn.own)
+        P.Rt set options P.opens one other runs
+        → AllPairs (AlikeBays (bay_handles R.Routes P.L.Dial P.W.BatchSink P.H.BatchSink P.K.Clock P.Y.Diary P.D.Door
+        P.D.C.Source P.D.C.ByteSink P.D.C.Conn.own)) one.bays.items other.bays.items }
+{
+    a_door_notes_its_requests::<<P::D as Door>::C>();
+    alike_requests_are_noted_alike();
+}
+
+/// From the requests to the bytes: two runs whose bays served requests that look alike, with the same drops and failures, sent each
+/// sink the same bytes, where its tries were cut alike. What lies below the recorded level of a request reaches no sink.
+pub fn alike_requests_leave_the_same_audit<P: Plant, R: Routes>()
+    ensures log { (set : Settings) (options : RunOptions) (one other : Ended R P.L P.W P.H P.K P.Y P.D)
+        (runs : TwoRuns (bay_handles R.Routes P.L.Dial P.W.BatchSink P.H.BatchSink P.K.Clock P.Y.Diary P.D.Door
+        P.D.C.Source P.D.C.ByteSink P.D.C.Conn.own) P.Rt set options P.opens one other)
+        → set.log ≡ Batch → P.opens.log ≡ Some (Some [])
+        → AlikeRuns (bay_handles R.Routes P.L.Dial P.W.BatchSink P.H.BatchSink P.K.Clock P.Y.Diary P.D.Door
+        P.D.C.Source P.D.C.ByteSink P.D.C.Conn.own)
+        P.Rt set options P.opens one other runs
+        → AlikeDrains P.W.BatchSink one.log other.log → SameDrains P.W.BatchSink one.log other.log }
+    ensures hook { (set : Settings) (options : RunOptions) (one other : Ended R P.L P.W P.H P.K P.Y P.D)
+        (runs : TwoRuns (bay_handles R.Routes P.L.Dial P.W.BatchSink P.H.BatchSink P.K.Clock P.Y.Diary P.D.Door
+        P.D.C.Source P.D.C.ByteSink P.D.C.Conn.own) P.Rt set options P.opens one other)
+        → set.hook ≡ Batch → P.opens.hook ≡ Some (Some [])
+        → AlikeRuns (bay_handles R.Routes P.L.Dial P.W.BatchSink P.H.BatchSink P.K.Clock P.Y.Diary P.D.Door
+        P.D.C.Source P.D.C.ByteSink P.D.C.Conn.own)
+        P.Rt set options P.opens one other runs
+        → AlikeDrains P.H.BatchSink one.hook other.hook → SameDrains P.H.BatchSink one.hook other.hook }
+    ensures log_at_once { (set : Settings) (options : RunOptions) (one other : Ended R P.L P.W P.H P.K P.Y P.D)
+        (runs : TwoRuns (bay_handles R.Routes P.L.Dial P.W.BatchSink P.H.BatchSink P.K.Clock P.Y.Diary P.D.Door
+        P.D.C.Source P.D.C.ByteSink P.D.C.Conn.own) P.Rt set options P.opens one other)
+        → (set.log ≡ Blocking) ⊎ (set.log ≡ Strict) → P.opens.log ≡ Some (Some [])
+        → AlikeRuns (bay_handles R.Routes P.L.Dial P.W.BatchSink P.H.BatchSink P.K.Clock P.Y.Diary P.D.Door
+        P.D.C.Source P.D.C.ByteSink P.D.C.Conn.own)
+        P.Rt set options P.opens one other runs
+        → AlikeOwn P.W.BatchSink one.log other.log → SameOwn P.W.BatchSink one.log other.log }
+    ensures hook_at_once { (set : Settings) (options : RunOptions) (one other : Ended R P.L P.W P.H P.K P.Y P.D)
+        (runs : TwoRuns (bay_handles R.Routes P.L.Dial P.W.BatchSink P.H.BatchSink P.K.Clock P.Y.Diary P.D.Door
+        P.D.C.Source P.D.C.ByteSink P.D.C.Conn.own) P.Rt set options P.opens one other)
+        → (set.hook ≡ Blocking) ⊎ (set.hook ≡ Strict) → P.opens.hook ≡ Some (Some [])
+        → AlikeRuns (bay_handles R.Routes P.L.Dial P.W.BatchSink P.H.BatchSink P.K.Clock P.Y.Diary P.D.Door
+        P.D.C.Source P.D.C.ByteSink P.D.C.Conn.own)
+        P.Rt set options P.opens one other runs
+        → AlikeOwn P.H.BatchSink one.hook other.hook → SameOwn P.H.BatchSink one.hook other.hook }
+{
+    alike_requests_make_alike_bays::<P, R>();
+    same_audit::<P, R>();
+    same_audit_at_once::<P, R>();
+}
