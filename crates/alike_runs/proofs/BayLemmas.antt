@@ -53,14 +53,15 @@ module _ {R L N W H K Y D C : Type 0} (h : BayHandles R L N W H K Y D C) (set : 
       (alike : AllPairs (AlikeBays h) bays others) where
     -- ---- batches
 
-    pub same_drains : (parts : Parts) → BatchesTell h s opens set sink options bays end → BatchesTell h s opens set sink options others other
+    pub same_drains : (parts : Parts) (allots given : List ℕ) → BatchesTell h s opens set sink options allots bays end
+        → BatchesTell h s opens set sink options given others other
         → AlikeDrains s end other → SameDrains s end other
-    same_drains parts b d a =
+    same_drains parts allots given b d a =
         let cut : AlikeTurns (s.tells b.drain.sink) (s.tells d.drain.sink) =
         subst (λ z. IfBoth (λ (a b : DrainEnd S K). AlikeTurns (s.tells a.sink) (s.tells b.sink)) (Some b.drain) z) d.drain_is
         (subst (λ z. IfBoth (λ (a b : DrainEnd S K). AlikeTurns (s.tells a.sink) (s.tells b.sink)) z other.drain) b.drain_is a) in
-        let each = λ (k : ℕ). by_place (BatchedLines h set sink options.buffer b.allots (of_bay k (lines_of b.tries)) k)
-        (BatchedLines h set sink options.buffer d.allots (of_bay k (lines_of d.tries)) k) (AlikeBays h)
+        let each = λ (k : ℕ). by_place (BatchedLines h set sink options.buffer allots (of_bay k (lines_of b.tries)) k)
+        (BatchedLines h set sink options.buffer given (of_bay k (lines_of d.tries)) k) (AlikeBays h)
         (of_bay k (lines_of b.tries) ≡ of_bay k (lines_of d.tries)) bays others k (b.each k) (d.each k) alike
         (λ x y p q r. p.lines ∙ alike_lines dues offers x y p.told q.told r is_taken sink k ∙ sym q.lines)
         (λ past. b.others k (subst (λ n. n ≤ k) count past) ∙ sym (d.others k (subst (λ n. n ≤ k) count past))) in

@@ -10,6 +10,7 @@ use Rattle.batch_backend.specs.Batches.{Drained, WithinLimits, PendsWithin}
 use Rattle.batch_backend.specs.Closes.{AllFull, FullButLast, IsSoon}
 use Rattle.batch_backend.specs.Pumps.{PumpedAs, Put, Moved, PumpMoved, wrote, lost, is_rest}
 use Rattle.batch_backend.specs.Flushes.{Pumps, PutRest, FlushedAs, FlushMoved, PumpedOn, PumpedOut, written_of, lost_of}
+use Rattle.batch_backend.proofs.LossLemmas.{none_counted}
 use Rattle.batch_backend.proofs.CloseLemmas.{but_last, but_last_put, none_full}
 use Rattle.batch_backend.proofs.TryLaws.{TryLaws, JoinLaws}
 use Rattle.batch_backend.proofs.PumpLemmas.{joined-none, moved-put, put_tries, moved-from, moved-then, then_tries, full-then, told-kept, rest-none, less-work}
@@ -82,6 +83,7 @@ stayed d e o n s t f g h =
       within = All-nil (λ (t : Try). WithinLimits d.limits t.lines);
       were_written = refl;
       were_lost = refl;
+      counted = none_counted s s refl;
     })
 
 full_stayed : (d e : Drained) (now : ℕ) (o n : OutletTells) (s t : SinkTells) → e ≡ d → n ≡ o → t ≡ s → PumpMoved d now o s 0 0 e n t

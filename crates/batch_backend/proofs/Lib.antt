@@ -1,5 +1,6 @@
 pub mod TryLaws
 pub mod AddLemmas
+pub mod LossLemmas
 pub mod PumpLemmas
 pub mod PartLemmas
 pub mod FlushLemmas

@@ -11,9 +11,10 @@ use Rattle.batch_backend.specs.declared.pumped.Pumped.{Pumped}
 use Rattle.batch_backend.specs.declared.pumped.Pumped.TheVariants.{Took, Wrote, Lost, Waiting, Idle}
 use Rattle.batch_backend.specs.Batches.{Pending, Move, Drained, WithinLimits, IsBatch, is_over, is_whole, is_any, since_of, after_pop}
 use Rattle.batch_backend.specs.Closes.{AllFull, IsSoon, StaysFull}
-use Rattle.batch_backend.specs.Pumps.{PumpedAs, Put, PutAfter, Moved, PumpMoved, wrote, lost, is_rest}
+use Rattle.batch_backend.specs.Pumps.{CountsLoss, PumpedAs, Put, PutAfter, Moved, PumpMoved, wrote, lost, is_rest}
 use Rattle.batch_backend.specs.Flushes.{work_left}
 use Rattle.batch_backend.proofs.CloseLemmas.{FullTry, FullBy, full_then, none_full, not_due, popped_full}
+use Rattle.batch_backend.proofs.LossLemmas.{counted_then, done_counted, lost_counted, none_counted}
 use Rattle.batch_backend.proofs.TryLaws.{TryLaws, JoinLaws}
 
 pub joined-none : {T : Type 0} (a : Option (List T)) → Joined a [] a
@@ -44,6 +45,7 @@ module _ (law : TryLaws) where
         within = All-cons (λ (t : Try). WithinLimits d.limits t.lines) _ [] w (All-nil (λ (t : Try). WithinLimits d.limits t.lines));
         were_written = omega arith;
         were_lost = omega arith;
+        counted = done_counted s t p.1.is.counts;
       }
   moved-put d e put popped o n s t (Lost k) f w g p j =
       let x = p.1.1 in
@@ -63,6 +65,7 @@ module _ (law : TryLaws) where
         within = All-cons (λ (t : Try). WithinLimits d.limits t.lines) _ [] w (All-nil (λ (t : Try). WithinLimits d.limits t.lines));
         were_written = omega arith;
         were_lost = omega arith;
+        counted = lost_counted s t fault k x.is.counts;
       }
   moved-put d e put popped o n s t Took f w g p j = absurd p
   moved-put d e put popped o n s t Waiting f w g p j = absurd p
@@ -108,6 +111,7 @@ module _ (law : TryLaws) where
         within = All-nil (λ (t : Try). WithinLimits d.limits t.lines);
         were_written = sym w;
         were_lost = omega arith;
+        counted = subst (λ l. CountsLoss s l t) (sym l) (none_counted s t h);
       }
 
   full_rest : (d e : Drained) (now : ℕ) (popped : List Line) (o n : OutletTells) (s t : SinkTells) (answer : Pumped)
@@ -201,6 +205,7 @@ module _ (law : TryLaws) where
             (subst (λ (z : Limits). All (λ (t : Try). WithinLimits z t.lines) y.tries) x.limits y.within);
         were_written = omega arith;
         were_lost = omega arith;
+        counted = counted_then s t u l k x.counted y.counted;
       }
 
   pub then_tries : (joins : JoinLaws) (d e f : Drained) (o n m : OutletTells) (s t u : SinkTells) (w l v k : ℕ)

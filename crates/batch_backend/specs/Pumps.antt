@@ -1,5 +1,5 @@
 -- What one pump does.
-use Rattle.std.specs.Prelude.{◌≡◌, ◌+◌, ℕ, List, [], ◌∷◌, ◌++◌, length, Option, Some, None, IfSome, Ok, Err, ⊤, Bool, true, false, ◌⊎◌, if◌then◌else◌, All}
+use Rattle.std.specs.Prelude.{◌≡◌, ◌<◌, ◌≤◌, ◌+◌, ℕ, List, [], ◌∷◌, ◌++◌, length, Option, Some, None, IfSome, Ok, Err, ⊤, Bool, true, false, ◌⊎◌, if◌then◌else◌, All}
 use Rattle.front_base.specs.Line.{Line}
 use Rattle.truncate_backend.specs.Told.{Joined}
 use Rattle.truncate_backend.specs.Tries.{Try, SinkTells, Tried, lines_of, done_of}
@@ -82,6 +82,12 @@ is_rest Idle = true
 
 -- ---- where lines go
 
+-- what a sink counted doesn't fall, and where lines were lost it counted a fault or a refusal
+pub record CountsLoss (s : SinkTells) (lost : ℕ) (t : SinkTells) : Type 0 where
+  pub faults : s.faults ≤ t.faults
+  pub refusals : s.refusals ≤ t.refusals
+  pub cause : 0 < lost → 0 < t.faults + t.refusals
+
 -- some tries and some pops: the lines of the tries, joined, followed by those that wait now, are those that waited,
 -- followed by those that were popped. So many lines of the tries were written, and so many lost
 pub record Moved (d : Drained) (o : OutletTells) (s : SinkTells) (written lost : ℕ) (e : Drained) (n : OutletTells) (t : SinkTells) : Type 0 where
@@ -94,6 +100,7 @@ pub record Moved (d : Drained) (o : OutletTells) (s : SinkTells) (written lost :
   pub within : All (λ (t : Try). WithinLimits d.limits t.lines) tries
   pub were_written : length (done_of tries) ≡ written
   pub were_lost : length (done_of tries) + lost ≡ length (lines_of tries)
+  pub counted : CountsLoss s lost t
 
 -- one pump moved these, and says for which reason a batch ends
 pub record PumpMoved (d : Drained) (now : ℕ) (o : OutletTells) (s : SinkTells) (written lost : ℕ) (e : Drained) (n : OutletTells) (t : SinkTells) : Type 0 where

@@ -24,22 +24,26 @@ pub record IsNewClock (given : Option (List ℕ)) (last : ℕ) : Type 0 where
   pub no_moment : IfSome given (λ moments. moments ≡ [])
   pub none_last : last ≡ 0
 
--- what a new sink tells: the text of a try with given lines, and the bytes that its port was given
+-- what a new sink tells: the text of a try with given lines, and the bytes that its port was given; and how many lines the lane of
+-- a bay is allotted in a queue over it, where that is said of all plants of this kind
 pub record SinkOpens : Type 0 where
   pub text : List Line → List ℕ
   pub sent : Option (Option (List ℕ))
+  pub allots : ℕ → Option ℕ
 
--- what the new logs and webhooks of a plant tell of the bytes that their ports were given: `Some (Some [])` where they tell these
+-- what the new logs and webhooks of a plant tell of the bytes that their ports were given: `Some (Some [])` where they tell these; and what
+-- it allots each bay
 pub record Openings : Type 0 where
   pub log : Option (Option (List ℕ))
   pub hook : Option (Option (List ℕ))
+  pub allots : ℕ → Option ℕ
 
 abbrev pub log_opens : Openings → SinkOpens
-log_opens o = record { text = log_text; sent = o.log }
+log_opens o = record { text = log_text; sent = o.log; allots = o.allots }
 
 -- the webhook that this text names
 abbrev pub hook_opens : Openings → List ℕ → SinkOpens
-hook_opens o url = record { text = hook_text url; sent = o.hook }
+hook_opens o url = record { text = hook_text url; sent = o.hook; allots = o.allots }
 
 -- a sink that made no try
 pub record IsNewSink (opens : SinkOpens) (sink : SinkTells) : Type 0 where

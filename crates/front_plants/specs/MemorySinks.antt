@@ -1,5 +1,5 @@
 -- What the sinks of a plant in memory tell.
-use Rattle.std.specs.Prelude.{ℕ, List, [], Option, Some}
+use Rattle.std.specs.Prelude.{ℕ, List, [], Option, Some, None}
 use Rattle.front_plants.specs.Fresh.{Openings}
 use Rattle.front_ports.specs.Memory.{bytes_written}
 use Rattle.front_ports.specs.MemoryDial.{dial_calls}
@@ -25,6 +25,6 @@ mem_log_tells log = log_tells told_bytes told_tries log
 abbrev pub mem_hook_tells : WebhookSink MemDial MemNotes → SinkTells
 mem_hook_tells hook = hook_tells dial_calls told_tries hook
 
--- new ones were given nothing
+-- new ones were given nothing; each plant allots what it was told to
 abbrev pub told_openings : Openings
-told_openings = record { log = Some (Some []); hook = Some (Some []) }
+told_openings = record { log = Some (Some []); hook = Some (Some []); allots = λ bay. None }

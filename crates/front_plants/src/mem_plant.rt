@@ -91,7 +91,7 @@ impl<R> MemPlant<R> {
 }
 
 impl<R: Threads + Wait + Copy + Drop> Plant for MemPlant<R> {
-    ghost use Rattle.std.specs.Prelude.{◌≡◌, ◌≢◌, ◌≤◌, ◌⊎◌, [], ◌∷◌, ℕ, None, Some, Err, IfOk, IsErrOf, OnErr, OnOk, IsFalse, IsTrue, drop};
+    ghost use Rattle.std.specs.Prelude.{◌≡◌, ◌≢◌, ◌≤◌, ◌⊎◌, [], ◌∷◌, ℕ, None, Some, Err, IfOk, IfSome, IsErrOf, OnErr, OnOk, IsFalse, IsTrue, drop};
     ghost use Rattle.front_ports.specs.Memory.{bytes_written};
     ghost use Rattle.front_ports.specs.MemoryClock.{clock_start, clock_step, clock_calls, clock_given, clock_last};
     ghost use Rattle.front_ports.specs.MemoryDial.{dial_calls, dial_faults, dial_link_faults};
@@ -147,6 +147,7 @@ impl<R: Threads + Wait + Copy + Drop> Plant for MemPlant<R> {
 
     fn allot(&mut self, bay: u16) -> u64
         ensures most { result ≤ MOST_ALLOTTED }
+        ensures fixed { IfSome (told_openings.allots bay) (λ allotment. result ≡ allotment) }
         ensures called { Called (plant_tells self.old) (calls.Allot bay result ∷ []) (plant_tells self.new) }
         ensures faults { (plant_tells self.new).faults ≡ (plant_tells self.old).faults }
 

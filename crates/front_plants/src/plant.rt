@@ -47,6 +47,7 @@ pub trait Plant {
     /// How many lines the lanes of this bay may have in a queue that all bays share.
     fn allot(&mut self, bay: u16) -> u64
         ensures most { result ≤ MOST_ALLOTTED }
+        ensures fixed { IfSome (opens.allots bay) (λ allotment. result ≡ allotment) }
         ensures called { Called (tells self.old) (calls.Allot bay result ∷ []) (tells self.new) }
         ensures faults { (tells self.new).faults ≡ (tells self.old).faults };
 

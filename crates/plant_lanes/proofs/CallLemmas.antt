@@ -45,18 +45,16 @@ replicate_next n x = let e : n + 1 ≡ suc n = omega arith in ap (λ m. replicat
 
 -- ---- by the sink's mode
 
-pub called_none : (opens : PlantCall) (bays : ℕ) (mode : SinkMode) (a : Option (List PlantCall)) → mode ≡ Off → CalledFor opens bays mode a a
+pub called_none : (opens : PlantCall) (bays : ℕ) (mode : SinkMode) (a : Option (List PlantCall)) → mode ≡ Off → CalledFor opens bays (replicate bays 0) mode a a
 called_none opens bays mode a e = record {
-  allots = replicate bays 0;
   count = length-replicate bays 0;
   made = subst (λ m. Joined a (sink_calls opens bays (replicate bays 0) m) a) (sym e) (joins_none a);
 }
 
 pub called_batch : (opens opened : PlantCall) (bays : ℕ) (mode : SinkMode) (allots : List ℕ) (a b c d : Option (List PlantCall)) → mode ≡ Batch
     → length allots ≡ bays → Joined a (allot_calls 0 allots) b → Joined b (opened ∷ []) c → Joined c (Clock ∷ []) d → opened ≡ opens
-    → CalledFor opens bays mode a d
+    → CalledFor opens bays allots mode a d
 called_batch opens opened bays mode allots a b c d e n p q r o = record {
-  allots = allots;
   count = n;
   made = subst (λ m. Joined a (sink_calls opens bays allots m) d) (sym e)
       (joins a b d (allot_calls 0 allots) (opens ∷ Clock ∷ []) p
@@ -64,14 +62,12 @@ called_batch opens opened bays mode allots a b c d e n p q r o = record {
 }
 
 pub called_own : (opens : PlantCall) (bays : ℕ) (mode : SinkMode) (a b : Option (List PlantCall)) → (mode ≡ Blocking) ⊎ (mode ≡ Strict)
-    → Joined a (replicate bays opens) b → CalledFor opens bays mode a b
+    → Joined a (replicate bays opens) b → CalledFor opens bays (replicate bays 0) mode a b
 called_own opens bays mode a b (inl e) p = record {
-  allots = replicate bays 0;
   count = length-replicate bays 0;
   made = subst (λ m. Joined a (sink_calls opens bays (replicate bays 0) m) b) (sym e) p;
 }
 called_own opens bays mode a b (inr e) p = record {
-  allots = replicate bays 0;
   count = length-replicate bays 0;
   made = subst (λ m. Joined a (sink_calls opens bays (replicate bays 0) m) b) (sym e) p;
 }
@@ -126,9 +122,9 @@ in_part_none opens bays mode a = record {
 }
 
 -- all of them
-pub in_part_all : (opens : PlantCall) (bays : ℕ) (mode : SinkMode) (a b : Option (List PlantCall)) → CalledFor opens bays mode a b
+pub in_part_all : (opens : PlantCall) (bays : ℕ) (allots : List ℕ) (mode : SinkMode) (a b : Option (List PlantCall)) → CalledFor opens bays allots mode a b
     → CalledInPart opens bays mode a b
-in_part_all opens bays mode a b p = record { allots = p.allots; count = p.count; part = part_whole a b (sink_calls opens bays p.allots mode) p.made }
+in_part_all opens bays allots mode a b p = record { allots = allots; count = p.count; part = part_whole a b (sink_calls opens bays allots mode) p.made }
 
 -- those of the allotments and of the sink, but not of the clock
 pub in_part_batch : (opens opened : PlantCall) (bays : ℕ) (mode : SinkMode) (allots : List ℕ) (a b c : Option (List PlantCall)) → mode ≡ Batch

@@ -1,3 +1,4 @@
 mod CallLemmas
 mod Lists
+mod MadeLemmas
 mod ServedLemmas

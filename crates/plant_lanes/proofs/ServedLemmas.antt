@@ -1,6 +1,7 @@
 -- What becomes of the lanes of a sink.
-use Rattle.std.proofs.Common.{◌≡◌, ◌<◌, ◌≤◌, ◌+◌, ◌-◌, ℕ, zero, suc, true, List, [], ◌∷◌, length, map, get_or, slice_get, Option, Some, None, IfSome, All, refl, sym, ap, ◌∙◌, subst, arith}
-use Rattle.any_lane.specs.Lanes.{any_queued}
+use Rattle.std.proofs.Common.{◌≡◌, ◌<◌, ◌≤◌, ◌+◌, ◌-◌, ◌^◌, min, ℕ, zero, suc, true, List, [], ◌∷◌, length, map, get_or, slice_get, sum_by, Option, Some, None, IfSome, All, refl, sym, ap, ◌∙◌, subst, arith}
+use Rattle.std.proofs.lemmas.List.Sums.{sum_by-cons}
+use Rattle.any_lane.specs.Lanes.{any_queued, any_tells}
 use Rattle.any_lane.specs.declared.lane.AnyLane.{AnyLane}
 use Rattle.any_lane.specs.declared.lane.AnyLane.TheVariants as lane
 use Rattle.audit_core.specs.declared.sinks.SinkMode.{SinkMode}
@@ -10,7 +11,7 @@ use Rattle.batch_backend.specs.Closes.{FullButLast}
 use Rattle.batch_backend.specs.declared.limits.Limits.{Limits}
 use Rattle.front_base.specs.Line.{Line}
 use Rattle.front_plants.specs.Fresh.{SinkOpens, IsNewSink, SentAll}
-use Rattle.plant_lanes.specs.Lanes.{AreShared, AreOwn}
+use Rattle.plant_lanes.specs.Lanes.{AreAllotted, AreShared, AreOwn}
 use Rattle.plant_lanes.specs.Served.{IsDrained, IsOwn, CanAllEnd, AreAllServed}
 use Rattle.front_ports.specs.declared.clock.Clock as clocks
 use Rattle.queue_drain.specs.Drains.{RanDrain, drain_state}
@@ -18,7 +19,7 @@ use Rattle.queue_drain.specs.declared.drain.QueueDrain.{QueueDrain}
 use Rattle.queue_drain.specs.declared.drain_end.DrainEnd.{DrainEnd}
 use Rattle.role_threads.specs.Lists.{AllPairs, IfBoth}
 use Rattle.shared_queue.specs.Bays.{of_bay}
-use Rattle.shared_queue.specs.Lanes.{lane_accepted}
+use Rattle.shared_queue.specs.Lanes.{lane_accepted, lane_fulls}
 use Rattle.shared_queue.specs.declared.lane.QueueLane.{QueueLane}
 use Rattle.sink_lanes.specs.Ends.{CanEnd, Ends, own_parts, queued_part, queued_parts, some_first}
 use Rattle.sink_lanes.specs.Lanes.{own_lane, queue_lane}
@@ -69,6 +70,16 @@ module _ {S R : Type 0} where
   queued_after (q ∷ queue) (x ∷ after) p zero = p.0.queued
   queued_after (q ∷ queue) (x ∷ after) p (suc bay) = queued_after queue after p.1 bay
 
+-- how often lanes of a queue answered Full
+fulls_in : {S R : Type 0} (s : sinks.Ghosts S) (lanes : List (AnyLane S R)) → ((bay : ℕ) → IfSome (slice_get lanes bay) (λ l. any_queued l ≡ true))
+    → sum_by (λ (l : AnyLane S R). (any_tells s l).fulls) lanes ≡ sum_by lane_fulls (queued_parts lanes)
+fulls_in s [] q = refl
+fulls_in s (lane.Off failed ∷ lanes) q = let h = q zero in absurd cc
+fulls_in {S = S} {R = R} s (lane.Queue l ∷ lanes) q =
+    sum_by-cons (λ (l : AnyLane S R). (any_tells s l).fulls) (lane.Queue l) lanes
+    ∙ (ap (λ n. lane_fulls l + n) (fulls_in s lanes (λ bay. q (suc bay))) ∙ sym (sum_by-cons lane_fulls l (queued_parts lanes)))
+fulls_in s (lane.Own o ∷ lanes) q = let h = q zero in absurd cc
+
 -- a new sink that made no try was given nothing
 none_sent : (text : List Line → List ℕ) (sent : Option (Option (List ℕ))) (tries : Option (List Try)) → sent ≡ Some (Some [])
     → IfSome tries (λ ts. ts ≡ []) → SentAfter [] text sent tries
@@ -117,15 +128,14 @@ module _ {S R K : Type 0} (s : sinks.Ghosts S) (clock : clocks.Ghosts K) (opens 
         no_drain = none_left (queued_parts after) ran end.drain (none_ran drain ran a.no_drain b) x;
       }
 
-  some_drained : (bays capacity : ℕ) (limits : Limits) (allots : List ℕ) (sink : SinkTells) (after : List (AnyLane S R)) (ran : Option (QueueDrain S R K))
-      (end : SinkEnd S K) (o : Option (DrainEnd S K)) (d : QueueDrain S R K) → end.drain ≡ o → length allots ≡ bays → length after ≡ bays
+  some_drained : (bays capacity : ℕ) (allots : List ℕ) (limits : Limits) (sink : SinkTells) (after : List (AnyLane S R)) (ran : Option (QueueDrain S R K))
+      (end : SinkEnd S K) (o : Option (DrainEnd S K)) (d : QueueDrain S R K) → end.drain ≡ o → AreAllotted opens.allots bays allots → length after ≡ bays
       → ((bay : ℕ) → IfSome (slice_get after bay) (λ l. any_queued l ≡ true))
       → IfBoth (RanDrain s clock) (Some d) ran → IsNewSink opens sink → StayTogether s clock capacity allots limits sink after ran
-      → Ends s clock (queued_parts after) ran o → IsDrained s clock opens bays capacity limits after end
-  some_drained bays capacity limits allots sink after None end o d e n m q b new t x = absurd b
-  some_drained bays capacity limits allots sink after (Some r) end None d e n m q b new t x = absurd x
-  some_drained bays capacity limits allots sink after (Some r) end (Some left) d e n m q b new t (x, sent, timed) = record {
-    allots = allots;
+      → Ends s clock (queued_parts after) ran o → IsDrained s clock opens bays capacity allots limits after end
+  some_drained bays capacity allots limits sink after None end o d e n m q b new t x = absurd b
+  some_drained bays capacity allots limits sink after (Some r) end None d e n m q b new t x = absurd x
+  some_drained bays capacity allots limits sink after (Some r) end (Some left) d e n m q b new t (x, sent, timed) = record {
     allotted = n;
     drain = left;
     drain_is = e;
@@ -142,6 +152,8 @@ module _ {S R K : Type 0} (s : sinks.Ghosts S) (clock : clocks.Ghosts K) (opens 
     each = x.each;
     written_is = x.written_is;
     lost_is = x.lost_is;
+    cause = x.cause;
+    fulls_are = x.fulls_are ∙ ap (λ n. min n (2 ^ 64 - 1)) (sym (fulls_in s after q));
     sent = sent_all opens sink (s.tells left.sink) new
         (record { text_is = sent.text_is ∙ t.sent.text_is; follows = λ before h. sent.follows before (t.sent.follows before h) });
     full = λ soon.
@@ -150,30 +162,30 @@ module _ {S R K : Type 0} (s : sinks.Ghosts S) (clock : clocks.Ghosts K) (opens 
     timed = timed t.timed;
   }
 
-  batch_served : (bays capacity : ℕ) (limits : Limits) (before after : List (AnyLane S R)) (drain ran : Option (QueueDrain S R K)) (end : SinkEnd S K)
-      → AreShared s clock opens bays capacity limits before drain → AllPairs SameAny before after → IfBoth (RanDrain s clock) drain ran
-      → Ends s clock (queued_parts after) ran end.drain → IsDrained s clock opens bays capacity limits after end
-  batch_served bays capacity limits before after drain ran end a p b x =
-      let t = stay capacity a.allots limits a.sink before after drain ran a.queued p b in
+  batch_served : (bays capacity : ℕ) (allots : List ℕ) (limits : Limits) (before after : List (AnyLane S R)) (drain ran : Option (QueueDrain S R K)) (end : SinkEnd S K)
+      → AreShared s clock opens bays capacity allots limits before drain → AllPairs SameAny before after → IfBoth (RanDrain s clock) drain ran
+      → Ends s clock (queued_parts after) ran end.drain → IsDrained s clock opens bays capacity allots limits after end
+  batch_served bays capacity allots limits before after drain ran end a p b x =
+      let t = stay capacity allots limits a.sink before after drain ran a.queued p b in
       let n = pairs_count SameAny before after p in
       let m : length before ≡ bays =
-      ap length a.queued.lanes_are ∙ (image_count queue_lane a.queued.queue ∙ (a.queued.new.count ∙ a.count)) in
-      some_drained bays capacity limits a.allots a.sink after ran end end.drain a.queued.drained refl a.count (n ∙ m)
+      ap length a.queued.lanes_are ∙ (image_count queue_lane a.queued.queue ∙ (a.queued.new.count ∙ a.allotted.count)) in
+      some_drained bays capacity allots limits a.sink after ran end end.drain a.queued.drained refl a.allotted (n ∙ m)
       (queued_after a.queued.queue after (subst (λ z. AllPairs SameAny z after) a.queued.lanes_are p))
       (subst (λ z. IfBoth (RanDrain s clock) z ran) a.queued.drain_is b) a.new t x
 
 module _ {S R K : Type 0} (s : sinks.Ghosts S) (clock : clocks.Ghosts K) (stay : StaysTogether S R K s clock) where
   pub can_all_end : CanAllEnd S R K s clock
-  can_all_end opens Off bays capacity limits before after drain ran a p b = none_ends s clock opens stay (queued_parts after) ran (none_ran s clock opens stay drain ran a.no_drain b)
-  can_all_end opens Batch bays capacity limits before after drain ran a p b =
-      (stay capacity a.allots limits a.sink before after drain ran a.queued p b).can_end
-  can_all_end opens Blocking bays capacity limits before after drain ran a p b = none_ends s clock opens stay (queued_parts after) ran (none_ran s clock opens stay drain ran a.no_drain b)
-  can_all_end opens Strict bays capacity limits before after drain ran a p b = none_ends s clock opens stay (queued_parts after) ran (none_ran s clock opens stay drain ran a.no_drain b)
+  can_all_end opens Off bays capacity allots limits before after drain ran a p b = none_ends s clock opens stay (queued_parts after) ran (none_ran s clock opens stay drain ran a.no_drain b)
+  can_all_end opens Batch bays capacity allots limits before after drain ran a p b =
+      (stay capacity allots limits a.sink before after drain ran a.queued p b).can_end
+  can_all_end opens Blocking bays capacity allots limits before after drain ran a p b = none_ends s clock opens stay (queued_parts after) ran (none_ran s clock opens stay drain ran a.no_drain b)
+  can_all_end opens Strict bays capacity allots limits before after drain ran a p b = none_ends s clock opens stay (queued_parts after) ran (none_ran s clock opens stay drain ran a.no_drain b)
 
   pub are_all_served : AreAllServed S R K s clock
-  are_all_served opens Off bays capacity limits before after drain ran end a p b o x =
+  are_all_served opens Off bays capacity allots limits before after drain ran end a p b o x =
       none_left s clock opens stay (queued_parts after) ran end.drain (none_ran s clock opens stay drain ran a.no_drain b) x
-  are_all_served opens Batch bays capacity limits before after drain ran end a p b o x =
-      batch_served s clock opens stay bays capacity limits before after drain ran end a p b x
-  are_all_served opens Blocking bays capacity limits before after drain ran end a p b o x = own_served s clock opens stay bays before after drain ran end a p b o x
-  are_all_served opens Strict bays capacity limits before after drain ran end a p b o x = own_served s clock opens stay bays before after drain ran end a p b o x
+  are_all_served opens Batch bays capacity allots limits before after drain ran end a p b o x =
+      batch_served s clock opens stay bays capacity allots limits before after drain ran end a p b x
+  are_all_served opens Blocking bays capacity allots limits before after drain ran end a p b o x = own_served s clock opens stay bays before after drain ran end a p b o x
+  are_all_served opens Strict bays capacity allots limits before after drain ran end a p b o x = own_served s clock opens stay bays before after drain ran end a p b o x

@@ -19,9 +19,8 @@ sink_calls opens bays allots Batch = allot_calls 0 allots ++ opens ∷ Clock ∷
 sink_calls opens bays allots Blocking = replicate bays opens
 sink_calls opens bays allots Strict = replicate bays opens
 
--- these calls were made, and no other
-pub record CalledFor (opens : PlantCall) (bays : ℕ) (mode : SinkMode) (before after : Option (List PlantCall)) : Type 0 where
-  pub allots : List ℕ
+-- these calls were made, with these allotments as answers in batch mode, and no other
+pub record CalledFor (opens : PlantCall) (bays : ℕ) (allots : List ℕ) (mode : SinkMode) (before after : Option (List PlantCall)) : Type 0 where
   pub count : length allots ≡ bays
   pub made : Joined before (sink_calls opens bays allots mode) after
 

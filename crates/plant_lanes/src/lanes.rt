@@ -3,8 +3,8 @@ ghost use Rattle.std.specs.Prelude.{◌≡◌, ◌≤◌, IfOk, OnErr, All, leng
 ghost use Rattle.front_plants.specs.Fresh.{IsNewSink, log_opens, hook_opens};
 ghost use Rattle.front_plants.specs.Plants.{HasCause};
 ghost use Rattle.front_plants.specs.declared.call.PlantCall.TheVariants as calls;
-ghost use Rattle.plant_lanes.specs.Calls.{CalledFor, CalledInPart, CallsPart, allot_calls};
-ghost use Rattle.plant_lanes.specs.Lanes.{LanesFor};
+ghost use Rattle.plant_lanes.specs.Calls.{CalledInPart, CallsPart, allot_calls};
+ghost use Rattle.plant_lanes.specs.Lanes.{AreAllotted, MadeFor};
 ghost use Rattle.plant_lanes.specs.Options.{AreFit};
 ghost use Rattle.shared_queue.specs.declared.making.TheConstants.{MOST_ALLOTTED};
 ghost use Rattle.truncate_backend.specs.Told.{Joined};
@@ -18,7 +18,7 @@ use std::alloc::Global;
 
 // The allotments of the bays.
 fn ask_allotments<P: Plant>(alloc: Global, plant: &mut P, bays: u16) -> Result<Vec<u64>, NoMemory>
-    ensures count { IfOk result (λ allots. length allots.items ≡ bays) }
+    ensures allotted { IfOk result (λ allots. AreAllotted P.opens.allots bays allots.items) }
     ensures most { IfOk result (λ allots. All (λ n. n ≤ MOST_ALLOTTED) allots.items) }
     ensures plant { ((P.tells plant.new).faults ≡ (P.tells plant.old).faults) × ((P.tells plant.new).due ≡ (P.tells plant.old).due) }
     ensures called { IfOk result (λ allots. Joined (P.tells plant.old).made (allot_calls 0 allots.items) (P.tells plant.new).made) }
@@ -92,10 +92,8 @@ pub fn log_lanes<P: Plant>(
     mode: SinkMode,
 ) -> Result<SinkLanes<P::W, P::Rt, P::K>, PlantFail>
     requires { AreFit options.now }
-    ensures lanes { IfOk result (λ made. LanesFor P.W.BatchSink P.K.Clock (log_opens P.opens) mode options.now.bays options.now.buffer
-        options.now.limits made.lanes.items made.drain) }
-    ensures called { IfOk result (λ made. CalledFor (calls.Log options.now.log_path) options.now.bays mode
-        (P.tells plant.old).made (P.tells plant.new).made) }
+    ensures made { IfOk result (λ made. MadeFor P.W.BatchSink P.K.Clock (log_opens P.opens) (calls.Log options.now.log_path) mode options.now.bays
+        options.now.buffer options.now.limits made.lanes.items made.drain (P.tells plant.old).made (P.tells plant.new).made) }
     ensures stopped { OnErr result (CalledInPart (calls.Log options.now.log_path) options.now.bays mode
         (P.tells plant.old).made (P.tells plant.new).made) }
     ensures cause { HasCause (P.tells plant.old).faults result (P.tells plant.new).faults }
@@ -126,10 +124,8 @@ pub fn hook_lanes<P: Plant>(
     mode: SinkMode,
 ) -> Result<SinkLanes<P::H, P::Rt, P::K>, PlantFail>
     requires { AreFit options.now }
-    ensures lanes { IfOk result (λ made. LanesFor P.H.BatchSink P.K.Clock (hook_opens P.opens options.now.hook_url) mode options.now.bays options.now.buffer
-        options.now.limits made.lanes.items made.drain) }
-    ensures called { IfOk result (λ made. CalledFor (calls.Hook options.now.hook_url) options.now.bays mode
-        (P.tells plant.old).made (P.tells plant.new).made) }
+    ensures made { IfOk result (λ made. MadeFor P.H.BatchSink P.K.Clock (hook_opens P.opens options.now.hook_url) (calls.Hook options.now.hook_url) mode
+        options.now.bays options.now.buffer options.now.limits made.lanes.items made.drain (P.tells plant.old).made (P.tells plant.new).made) }
     ensures stopped { OnErr result (CalledInPart (calls.Hook options.now.hook_url) options.now.bays mode
         (P.tells plant.old).made (P.tells plant.new).made) }
     ensures cause { HasCause (P.tells plant.old).faults result (P.tells plant.new).faults }
@@ -138,11 +134,11 @@ pub fn hook_lanes<P: Plant>(
     match mode {
         SinkMode::Off => Ok(off_lanes(alloc, options.bays)?),
         SinkMode::Batch => {
-            let allots = ask_allotments(alloc, plant, options.bays)?;
+            let allotments = ask_allotments(alloc, plant, options.bays)?;
             let sink = plant.hook(alloc, options.hook_url.as_str())?;
             let clock = plant.clock();
             let (buffer, limits) = (options.buffer, options.limits);
-            Ok(queued_lanes(*rt, alloc, buffer, allots, sink, clock, limits)?)
+            Ok(queued_lanes(*rt, alloc, buffer, allotments, sink, clock, limits)?)
         }
         SinkMode::Blocking | SinkMode::Strict => {
             let sinks = open_hooks(alloc, plant, options)?;

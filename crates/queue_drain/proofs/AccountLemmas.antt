@@ -1,10 +1,10 @@
 -- What a drainer has taken, through pumps and a flush.
-use Rattle.std.proofs.Common.{◌≡◌, ◌<◌, ◌≤◌, ◌+◌, ◌-◌, ◌^◌, min, true, ℕ, List, [], ◌∷◌, ◌++◌, take, length, length-append, append_assoc, append-nil, Option, Some, None, IfSome, All, refl, sym, ap, ◌∙◌, subst, arith, inl, inr, map, get_or, sum_by}
+use Rattle.std.proofs.Common.{◌≡◌, ◌<◌, ◌≤◌, ◌+◌, ◌-◌, ◌^◌, min, true, ℕ, zero, suc, List, [], ◌∷◌, ◌++◌, take, length, length-append, append_assoc, append-nil, Option, Some, None, IfSome, All, refl, sym, ap, ◌∙◌, subst, arith, inl, inr, map, get_or, sum_by}
 use Rattle.std.proofs.lemmas.List.Elements.{All-append, All-nil}
 use Rattle.batch_backend.specs.Batches.{Drained, Pending, WithinLimits, is_any}
 use Rattle.batch_backend.specs.Closes.{AllFull, FullButLast, IsSoon}
 use Rattle.batch_backend.specs.Flushes.{Pumps, FlushMoved}
-use Rattle.batch_backend.specs.Pumps.{Moved, PumpMoved}
+use Rattle.batch_backend.specs.Pumps.{CountsLoss, Moved, PumpMoved}
 use Rattle.batch_backend.specs.declared.limits.Limits.{Limits}
 use Rattle.batch_backend.specs.declared.pumped.Pumped.{Pumped}
 use Rattle.front_base.specs.Line.{Line}
@@ -31,6 +31,7 @@ accounts_none limits home taken waits since began s p q h = record {
   each = refl;
   written_is = omega arith;
   lost_is = omega arith;
+  cause = λ h. omega (arith, h);
   later = omega arith;
   full = λ soon. (tt, λ any. absurd (cc (ap is_any q ∙ refl, any)));
 }
@@ -59,6 +60,7 @@ record Sums (limits : Limits) (taken waits : List Line) (s : SinkTells) (written
   pub each : length (done_of tries) + unwritten ≡ length (lines_of tries)
   pub written_is : written ≡ min (length (done_of tries)) (2 ^ 64 - 1)
   pub lost_is : lost ≡ min unwritten (2 ^ 64 - 1)
+  pub cause : 0 < unwritten → 0 < s.faults + s.refusals
 
 abbrev state_of : Drained → List ℕ → List Line → ℕ → ℕ → SinkTells → ℕ → ℕ → DrainState
 state_of p home taken began last s written lost = record {
@@ -83,7 +85,13 @@ sums_of d a = record {
   each = a.each;
   written_is = a.written_is;
   lost_is = a.lost_is;
+  cause = a.cause;
 }
+
+-- what a sink counted stays, and what is lost more has its own cause
+cause_more : (u l : ℕ) (s t : SinkTells) → (0 < u → 0 < s.faults + s.refusals) → CountsLoss s l t → 0 < u + l → 0 < t.faults + t.refusals
+cause_more zero l s t h c n = c.cause (omega (arith, n))
+cause_more (suc u) l s t h c n = let some = h (omega arith) in omega (arith, some, c.faults, c.refusals)
 
 soon_before : (last now began wait : ℕ) → last ≤ now → now - began < wait → last - began < wait
 soon_before last now began wait h f = omega arith
@@ -114,6 +122,7 @@ module _ (lines : (these those : List Try) → lines_of (these ++ those) ≡ lin
         each = omega (arith, d, k, a.each, m.were_lost);
         written_is = omega (arith, d, a.written_is, m.were_written, g);
         lost_is = omega (arith, a.lost_is, h);
+        cause = cause_more a.unwritten l s t a.cause m.counted;
       }
 
   -- where little time has passed, what waits was taken since the start
@@ -141,6 +150,7 @@ module _ (lines : (these those : List Try) → lines_of (these ++ those) ≡ lin
         each = sums.each;
         written_is = sums.written_is;
         lost_is = sums.lost_is;
+        cause = sums.cause;
         later = (let c = a.later in omega arith);
         full = λ soon.
             let near : now - began < p.limits.wait = subst (λ (z : Limits). now - began < z.wait) m.moved.limits soon in
@@ -173,6 +183,7 @@ module _ (lines : (these those : List Try) → lines_of (these ++ those) ≡ lin
         each = sums.each;
         written_is = sums.written_is;
         lost_is = sums.lost_is;
+        cause = sums.cause;
         fulls_are = fs;
         full = λ soon.
             let near : now - began < p.limits.wait =

@@ -48,7 +48,7 @@ drain_state s d = record {
 }
 
 -- Since the start these tries were made, which are those of the sink where it tells them. Their lines, joined, and those that
--- still wait are what was taken; and so many of their lines were written, and so many not. Where less time than a line may wait has
+-- still wait are what was taken; and so many of their lines were written, and so many not, where the sink counted a fault or a refusal. Where less time than a line may wait has
 -- passed, each of these tries ended for its number or its bytes
 pub record Accounts (d : DrainState) : Type 0 where
   pub tries : List Try
@@ -59,6 +59,7 @@ pub record Accounts (d : DrainState) : Type 0 where
   pub each : length (done_of tries) + unwritten ≡ length (lines_of tries)
   pub written_is : d.written ≡ min (length (done_of tries)) (2 ^ 64 - 1)
   pub lost_is : d.lost ≡ min unwritten (2 ^ 64 - 1)
+  pub cause : 0 < unwritten → 0 < d.sink.faults + d.sink.refusals
   pub later : d.began ≤ d.last
   pub full : d.last - d.began < d.limits.wait → AllFull d.limits tries d.waits × (is_any d.waits ≡ true → d.began ≤ d.since)
 
@@ -86,7 +87,7 @@ pub record RanDrain {S R K : Type 0} (s : sinks.Ghosts S) (k : clocks.Ghosts K) 
   pub timed : IsTimed k d → IsTimed k e
 
 -- Each bay's accepted lines are its lines among those that the tries have, in order and each once, and a number that is no
--- bay has none. Where less time than a line may wait lies between the first and the last moment, each try but the last one ended for
+-- bay has none. A line stayed unwritten only where the sink counted a fault or a refusal. Where less time than a line may wait lies between the first and the last moment, each try but the last one ended for
 -- its number or its bytes
 pub record EndsDrain {R : Type 0} (limits : Limits) (lanes : List (QueueLane R)) (sink : SinkTells) (written lost fulls began ended : ℕ) : Type 0 where
   pub tries : List Try
@@ -97,5 +98,6 @@ pub record EndsDrain {R : Type 0} (limits : Limits) (lanes : List (QueueLane R))
   pub each : length (done_of tries) + unwritten ≡ length (lines_of tries)
   pub written_is : written ≡ min (length (done_of tries)) (2 ^ 64 - 1)
   pub lost_is : lost ≡ min unwritten (2 ^ 64 - 1)
+  pub cause : 0 < unwritten → 0 < sink.faults + sink.refusals
   pub fulls_are : fulls ≡ min (sum_by lane_fulls lanes) (2 ^ 64 - 1)
   pub full : ended - began < limits.wait → FullButLast limits tries

@@ -83,25 +83,25 @@ module _ {R L N W H T K Y D C : Type 0} (h : BayHandles R L N W H K Y D C) (set 
         keeps = keeps_put Webhook t.due b.m.lanes b.n.lanes notes k t.offered b.opens.bay_is b.opens.lines.1 accepts fills put none is queued;
       }
 
-  pub log_batches : (accepts : Accepts) (fills : Fills) (options : RunOptions) (bays : List (BayEnd R L K Y D)) (end : SinkEnd W K)
+  pub log_batches : (accepts : Accepts) (fills : Fills) (options : RunOptions) (allots : List ℕ) (bays : List (BayEnd R L K Y D)) (end : SinkEnd W K)
       → length bays ≡ options.bays → ((k : ℕ) → IfSome (slice_get bays k) (Served k))
-      → IsDrained h.log h.clock log_new options.bays options.buffer options.limits logs end → BatchesKeepAll h h.log set Log options bays end
-  log_batches accepts fills options bays end count served d =
-      batches_keep h h.log set Log options bays end logs count d (λ k. map_some (Served k)
-      (KeepsBatched h set Log options.buffer d.allots (of_bay k (lines_of d.tries)) k) (slice_get bays k)
-      (λ x b. log_keeps accepts fills options.buffer d.allots (of_bay k (lines_of d.tries)) k x b
-      (some_at (ToldQueued h.log options.buffer d.allots k (of_bay k (lines_of d.tries))) (slice_get logs k) b.log (d.accepted k) b.log_is)
+      → IsDrained h.log h.clock log_new options.bays options.buffer allots options.limits logs end → BatchesKeepAll h h.log set Log options allots bays end
+  log_batches accepts fills options allots bays end count served d =
+      batches_keep h h.log set Log options allots bays end logs count d (λ k. map_some (Served k)
+      (KeepsBatched h set Log options.buffer allots (of_bay k (lines_of d.tries)) k) (slice_get bays k)
+      (λ x b. log_keeps accepts fills options.buffer allots (of_bay k (lines_of d.tries)) k x b
+      (some_at (ToldQueued h.log options.buffer allots k (of_bay k (lines_of d.tries))) (slice_get logs k) b.log (d.accepted k) b.log_is)
       (some_at (λ l. any_queued l ≡ true) (slice_get logs k) b.log (d.queued k) b.log_is))
       (served k))
 
-  pub hook_batches : (accepts : Accepts) (fills : Fills) (options : RunOptions) (bays : List (BayEnd R L K Y D)) (end : SinkEnd H K)
+  pub hook_batches : (accepts : Accepts) (fills : Fills) (options : RunOptions) (allots : List ℕ) (bays : List (BayEnd R L K Y D)) (end : SinkEnd H K)
       → length bays ≡ options.bays → ((k : ℕ) → IfSome (slice_get bays k) (Served k))
-      → IsDrained h.hook h.clock hook_new options.bays options.buffer options.limits hooks end → BatchesKeepAll h h.hook set Webhook options bays end
-  hook_batches accepts fills options bays end count served d =
-      batches_keep h h.hook set Webhook options bays end hooks count d (λ k. map_some (Served k)
-      (KeepsBatched h set Webhook options.buffer d.allots (of_bay k (lines_of d.tries)) k) (slice_get bays k)
-      (λ x b. hook_keeps accepts fills options.buffer d.allots (of_bay k (lines_of d.tries)) k x b
-      (some_at (ToldQueued h.hook options.buffer d.allots k (of_bay k (lines_of d.tries))) (slice_get hooks k) b.hook (d.accepted k) b.hook_is)
+      → IsDrained h.hook h.clock hook_new options.bays options.buffer allots options.limits hooks end → BatchesKeepAll h h.hook set Webhook options allots bays end
+  hook_batches accepts fills options allots bays end count served d =
+      batches_keep h h.hook set Webhook options allots bays end hooks count d (λ k. map_some (Served k)
+      (KeepsBatched h set Webhook options.buffer allots (of_bay k (lines_of d.tries)) k) (slice_get bays k)
+      (λ x b. hook_keeps accepts fills options.buffer allots (of_bay k (lines_of d.tries)) k x b
+      (some_at (ToldQueued h.hook options.buffer allots k (of_bay k (lines_of d.tries))) (slice_get hooks k) b.hook (d.accepted k) b.hook_is)
       (some_at (λ l. any_queued l ≡ true) (slice_get hooks k) b.hook (d.queued k) b.hook_is))
       (served k))
 

@@ -1,5 +1,5 @@
 -- What a drainer's counts say.
-use Rattle.std.proofs.Common.{◌≡◌, ◌+◌, ◌≤◌, ◌<◌, ◌-◌, ◌^◌, min, ℕ, List, [], ◌∷◌, length, slice_get, Option, Some, None, IfSome, refl, sym, ap, ◌∙◌, subst, arith, sum_by}
+use Rattle.std.proofs.Common.{◌≡◌, ◌+◌, ◌≤◌, ◌<◌, ◌-◌, ◌^◌, min, ℕ, zero, suc, List, [], ◌∷◌, length, slice_get, Option, Some, None, IfSome, refl, sym, ap, ◌∙◌, subst, arith, sum_by}
 use Rattle.any_lane.specs.declared.lane.AnyLane.{AnyLane}
 use Rattle.audit_core.specs.declared.settings.Settings.{Settings}
 use Rattle.audit_core.specs.declared.sinks.Sink.{Sink}
@@ -55,26 +55,34 @@ wrote_all : (written done all held offered : ℕ) → written ≡ min done (2 ^ 
     → done ≤ all → all ≤ held → held ≤ offered → done ≡ all
 wrote_all written done all held offered w o l a b c = omega (arith, w, o, l, a, b, c)
 
+none_left : (done unwritten all : ℕ) → done + unwritten ≡ all → unwritten ≡ 0 → done ≡ all
+none_left done unwritten all e z = omega (arith, e, z)
+
+-- what has a cause that isn't there isn't there
+no_loss : (unwritten faults refusals : ℕ) → (0 < unwritten → 0 < faults + refusals) → faults ≡ 0 → refusals ≡ 0 → unwritten ≡ 0
+no_loss zero faults refusals h a b = refl
+no_loss (suc unwritten) faults refusals h a b = let some = h (omega arith) in absurd (omega (arith, some, a, b))
+
 held_all : (written done all held offered : ℕ) → written ≡ min done (2 ^ 64 - 1) → written ≡ offered → written < 2 ^ 64 - 1
     → done ≤ all → all ≤ held → offered ≤ held
 held_all written done all held offered w o l a b = omega (arith, w, o, l, a, b)
 
 module _ {R L N W H K Y D C S T : Type 0} (h : BayHandles R L N W H K Y D C) (s : sinks.Ghosts S) (set : Settings) (sink : Sink)
-    (options : RunOptions) (bays : List (BayEnd R L K Y D)) (end : SinkEnd S K) (lanes : List (AnyLane S T)) (count : length bays ≡ options.bays)
-    {k : clocks.Ghosts K} {opens : SinkOpens} (d : IsDrained s k opens options.bays options.buffer options.limits lanes end)
-    (each : (k : ℕ) → IfSome (slice_get bays k) (KeepsBatched h set sink options.buffer d.allots (of_bay k (lines_of d.tries)) k)) where
+    (options : RunOptions) (allots : List ℕ) (bays : List (BayEnd R L K Y D)) (end : SinkEnd S K) (lanes : List (AnyLane S T)) (count : length bays ≡ options.bays)
+    {k : clocks.Ghosts K} {opens : SinkOpens} (d : IsDrained s k opens options.bays options.buffer allots options.limits lanes end)
+    (each : (k : ℕ) → IfSome (slice_get bays k) (KeepsBatched h set sink options.buffer allots (of_bay k (lines_of d.tries)) k)) where
   abbrev held : ℕ → ℕ
   held k = length (of_bay k (lines_of d.tries))
 
   bay_few : (k : ℕ) → IfSome (slice_get bays k) (λ x. held k ≤ offered_to sink x)
   bay_few k =
-      map_some (KeepsBatched h set sink options.buffer d.allots (of_bay k (lines_of d.tries)) k) (λ x. held k ≤ offered_to sink x) (slice_get bays k)
+      map_some (KeepsBatched h set sink options.buffer allots (of_bay k (lines_of d.tries)) k) (λ x. held k ≤ offered_to sink x) (slice_get bays k)
       (λ x b. each_few (held k) (count_of is_full sink (offers_in b.told.exchanges)) _ (offered_to sink x) b.account b.offered) (each k)
 
   all_held : length (lines_of d.tries) ≤ total held bays
   all_held = shares bays (lines_of d.tries) (λ bay above. d.others bay (subst (λ n. n ≤ bay) count above))
 
-  bay_keeps : (k : ℕ) (x : BayEnd R L K Y D) → KeepsBatched h set sink options.buffer d.allots (of_bay k (lines_of d.tries)) k x
+  bay_keeps : (k : ℕ) (x : BayEnd R L K Y D) → KeepsBatched h set sink options.buffer allots (of_bay k (lines_of d.tries)) k x
       → held k ≡ offered_to sink x → KeptBay h set sink (of_bay k (lines_of d.tries)) k x
   bay_keeps k x b e = record {
     told = b.told;
@@ -88,10 +96,9 @@ module _ {R L N W H K Y D C S T : Type 0} (h : BayHandles R L N W H K Y D C) (s 
   written : done_of d.tries ≡ lines_of d.tries → AllWritten d.drain d.tries
   written e = all_written d.drain d.tries d.unwritten d.each d.written_is d.lost_is e
 
-  pub batches_keep : BatchesKeepAll h s set sink options bays end
+  pub batches_keep : BatchesKeepAll h s set sink options allots bays end
   batches_keep = record {
-    allots = d.allots;
-    allotted = d.allotted;
+    allotted = d.allotted.count;
     drain = d.drain;
     drain_is = d.drain_is;
     tries = d.tries;
@@ -101,10 +108,13 @@ module _ {R L N W H K Y D C S T : Type 0} (h : BayHandles R L N W H K Y D C) (s 
     done = λ answers. written (all_done d.tries answers);
     none_lost = λ none. written
         (as_many d.tries (same_length (length (done_of d.tries)) d.unwritten (length (lines_of d.tries)) d.each (sym d.lost_is ∙ none)));
+    no_fault = λ none few. written
+        (as_many d.tries (none_left (length (done_of d.tries)) d.unwritten (length (lines_of d.tries)) d.each
+        (no_loss d.unwritten _ _ d.cause none few)));
     as_many = λ offered below. (
       written (as_many d.tries (wrote_all d.drain.written (length (done_of d.tries)) (length (lines_of d.tries)) (total held bays)
           (sum_by (offered_to sink) bays) d.written_is offered below (few d.tries) all_held (total_most (offered_to sink) held bays bay_few))),
-      (λ k. both_some (KeepsBatched h set sink options.buffer d.allots (of_bay k (lines_of d.tries)) k) (λ x. held k ≡ offered_to sink x)
+      (λ k. both_some (KeepsBatched h set sink options.buffer allots (of_bay k (lines_of d.tries)) k) (λ x. held k ≡ offered_to sink x)
           (KeptBay h set sink (of_bay k (lines_of d.tries)) k) (slice_get bays k) (bay_keeps k) (each k)
           (all_of_each (offered_to sink) held bays bay_few
           (held_all d.drain.written (length (done_of d.tries)) (length (lines_of d.tries)) (total held bays) (sum_by (offered_to sink) bays)

@@ -91,10 +91,9 @@ pub record AllWritten {S K : Type 0} (drain : DrainEnd S K) (tries : List Try) :
   pub written_is : drain.written ≡ min (length (lines_of tries)) (2 ^ 64 - 1)
 
 -- Its one drainer made these tries, which account for each line that a bay owed. Where each try was Done, each of their lines was
--- written, and so where no line was counted as lost. Where it wrote as many lines as bays offered, each line that a bay owed was written
+-- written, and so where no line was counted as lost, or where the sink counted no fault and no refusal. Where it wrote as many lines as bays offered, each line that a bay owed was written
 pub record BatchesKeepAll {R L N W H K Y D C S : Type 0} (h : BayHandles R L N W H K Y D C) (s : sinks.Ghosts S) (set : Settings) (sink : Sink)
-    (options : RunOptions) (bays : List (BayEnd R L K Y D)) (end : SinkEnd S K) : Type 0 where
-  pub allots : List ℕ
+    (options : RunOptions) (allots : List ℕ) (bays : List (BayEnd R L K Y D)) (end : SinkEnd S K) : Type 0 where
   pub allotted : length allots ≡ options.bays
   pub drain : DrainEnd S K
   pub drain_is : end.drain ≡ Some drain
@@ -105,6 +104,7 @@ pub record BatchesKeepAll {R L N W H K Y D C S : Type 0} (h : BayHandles R L N W
   pub others : (bay : ℕ) → options.bays ≤ bay → of_bay bay (lines_of tries) ≡ []
   pub done : All (λ (t : Try). t.note.answer ≡ Done) tries → AllWritten drain tries
   pub none_lost : drain.lost ≡ 0 → AllWritten drain tries
+  pub no_fault : (s.tells drain.sink).faults ≡ 0 → (s.tells drain.sink).refusals ≡ 0 → AllWritten drain tries
   pub as_many : drain.written ≡ sum_by (offered_to sink) bays → drain.written < 2 ^ 64 - 1
       → AllWritten drain tries
       × ((bay : ℕ) → IfSome (slice_get bays bay) (KeptBay h set sink (of_bay bay (lines_of tries)) bay))

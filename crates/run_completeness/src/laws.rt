@@ -34,18 +34,18 @@ pub fn owed_lines_are_numbered()
 pub fn nothing_is_lost_in_batches<P: Plant, R: Routes>()
     ensures log { (set : Settings) (options : RunOptions) (before after : PlantTells P.D.C) (tables : List R)
         (ended : Ended R P.L P.W P.H P.K P.Y P.D)
-        → RunServed (bay_handles R.Routes P.L.Dial P.W.BatchSink P.H.BatchSink P.K.Clock P.Y.Diary P.D.Door
-        P.D.C.Source P.D.C.ByteSink P.D.C.Conn.own) P.Rt set options P.opens before after tables ended
+        (served : RunServed (bay_handles R.Routes P.L.Dial P.W.BatchSink P.H.BatchSink P.K.Clock P.Y.Diary P.D.Door
+        P.D.C.Source P.D.C.ByteSink P.D.C.Conn.own) P.Rt set options P.opens before after tables ended)
         → set.log ≡ Batch
         → BatchesKeepAll (bay_handles R.Routes P.L.Dial P.W.BatchSink P.H.BatchSink P.K.Clock P.Y.Diary P.D.Door
-        P.D.C.Source P.D.C.ByteSink P.D.C.Conn.own) P.W.BatchSink set Log options ended.bays.items ended.log }
+        P.D.C.Source P.D.C.ByteSink P.D.C.Conn.own) P.W.BatchSink set Log options served.log_allots ended.bays.items ended.log }
     ensures hook { (set : Settings) (options : RunOptions) (before after : PlantTells P.D.C) (tables : List R)
         (ended : Ended R P.L P.W P.H P.K P.Y P.D)
-        → RunServed (bay_handles R.Routes P.L.Dial P.W.BatchSink P.H.BatchSink P.K.Clock P.Y.Diary P.D.Door
-        P.D.C.Source P.D.C.ByteSink P.D.C.Conn.own) P.Rt set options P.opens before after tables ended
+        (served : RunServed (bay_handles R.Routes P.L.Dial P.W.BatchSink P.H.BatchSink P.K.Clock P.Y.Diary P.D.Door
+        P.D.C.Source P.D.C.ByteSink P.D.C.Conn.own) P.Rt set options P.opens before after tables ended)
         → set.hook ≡ Batch
         → BatchesKeepAll (bay_handles R.Routes P.L.Dial P.W.BatchSink P.H.BatchSink P.K.Clock P.Y.Diary P.D.Door
-        P.D.C.Source P.D.C.ByteSink P.D.C.Conn.own) P.H.BatchSink set Webhook options ended.bays.items ended.hook }
+        P.D.C.Source P.D.C.ByteSink P.D.C.Conn.own) P.H.BatchSink set Webhook options served.hook_allots ended.bays.items ended.hook }
 {
     each_lane_gets_its_lines();
     refusals_are_counted();

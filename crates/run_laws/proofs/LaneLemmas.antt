@@ -113,20 +113,20 @@ module _ {R L N W H T K Y D C : Type 0} (h : BayHandles R L N W H K Y D C) (set 
   map_some P Q None f p = tt
   map_some P Q (Some x) f p = f x p
 
-  pub log_batches : (accepts : Accepts) (fills : Fills) (options : RunOptions) (bays : List (BayEnd R L K Y D)) (end : SinkEnd W K)
+  pub log_batches : (accepts : Accepts) (fills : Fills) (options : RunOptions) (allots : List ℕ) (bays : List (BayEnd R L K Y D)) (end : SinkEnd W K)
       → ((k : ℕ) → IfSome (slice_get bays k) (BayServed h set log_new hook_new boot due tables logs hooks k))
-      → IsDrained h.log h.clock log_new options.bays options.buffer options.limits logs end → BatchesTell h h.log log_new set Log options bays end
-  log_batches accepts fills options bays end served d = record {
-    allots = d.allots;
+      → IsDrained h.log h.clock log_new options.bays options.buffer allots options.limits logs end → BatchesTell h h.log log_new set Log options allots bays end
+  log_batches accepts fills options allots bays end served d = record {
+    allotted = d.allotted;
     drain = d.drain;
     drain_is = d.drain_is;
     tries = d.tries;
     told = d.told;
     within = d.within;
     each = λ k. map_some (BayServed h set log_new hook_new boot due tables logs hooks k)
-        (BatchedLines h set Log options.buffer d.allots (of_bay k (lines_of d.tries)) k) (slice_get bays k)
-        (λ x b. log_batched accepts fills options.buffer d.allots (of_bay k (lines_of d.tries)) k x b
-        (some_at (ToldQueued h.log options.buffer d.allots k (of_bay k (lines_of d.tries))) (slice_get logs k) b.log (d.accepted k) b.log_is))
+        (BatchedLines h set Log options.buffer allots (of_bay k (lines_of d.tries)) k) (slice_get bays k)
+        (λ x b. log_batched accepts fills options.buffer allots (of_bay k (lines_of d.tries)) k x b
+        (some_at (ToldQueued h.log options.buffer allots k (of_bay k (lines_of d.tries))) (slice_get logs k) b.log (d.accepted k) b.log_is))
         (served k);
     others = d.others;
     sent = d.sent;
@@ -134,20 +134,20 @@ module _ {R L N W H T K Y D C : Type 0} (h : BayHandles R L N W H K Y D C) (set 
     timed = d.timed;
   }
 
-  pub hook_batches : (accepts : Accepts) (fills : Fills) (options : RunOptions) (bays : List (BayEnd R L K Y D)) (end : SinkEnd H K)
+  pub hook_batches : (accepts : Accepts) (fills : Fills) (options : RunOptions) (allots : List ℕ) (bays : List (BayEnd R L K Y D)) (end : SinkEnd H K)
       → ((k : ℕ) → IfSome (slice_get bays k) (BayServed h set log_new hook_new boot due tables logs hooks k))
-      → IsDrained h.hook h.clock hook_new options.bays options.buffer options.limits hooks end → BatchesTell h h.hook hook_new set Webhook options bays end
-  hook_batches accepts fills options bays end served d = record {
-    allots = d.allots;
+      → IsDrained h.hook h.clock hook_new options.bays options.buffer allots options.limits hooks end → BatchesTell h h.hook hook_new set Webhook options allots bays end
+  hook_batches accepts fills options allots bays end served d = record {
+    allotted = d.allotted;
     drain = d.drain;
     drain_is = d.drain_is;
     tries = d.tries;
     told = d.told;
     within = d.within;
     each = λ k. map_some (BayServed h set log_new hook_new boot due tables logs hooks k)
-        (BatchedLines h set Webhook options.buffer d.allots (of_bay k (lines_of d.tries)) k) (slice_get bays k)
-        (λ x b. hook_batched accepts fills options.buffer d.allots (of_bay k (lines_of d.tries)) k x b
-        (some_at (ToldQueued h.hook options.buffer d.allots k (of_bay k (lines_of d.tries))) (slice_get hooks k) b.hook (d.accepted k) b.hook_is))
+        (BatchedLines h set Webhook options.buffer allots (of_bay k (lines_of d.tries)) k) (slice_get bays k)
+        (λ x b. hook_batched accepts fills options.buffer allots (of_bay k (lines_of d.tries)) k x b
+        (some_at (ToldQueued h.hook options.buffer allots k (of_bay k (lines_of d.tries))) (slice_get hooks k) b.hook (d.accepted k) b.hook_is))
         (served k);
     others = d.others;
     sent = d.sent;

@@ -9,6 +9,7 @@ use Rattle.event_offers.specs.Taken.{is_taken, is_tried, lines_for}
 use Rattle.front_base.specs.Line.{Line}
 use Rattle.batch_backend.specs.Closes.{FullButLast}
 use Rattle.front_plants.specs.Fresh.{SinkOpens, SentAll}
+use Rattle.plant_lanes.specs.Lanes.{AreAllotted}
 use Rattle.plant_lanes.specs.declared.options.RunOptions.{RunOptions}
 use Rattle.queue_drain.specs.Drains.{EndsTimed}
 use Rattle.queue_drain.specs.declared.drain_end.DrainEnd.{DrainEnd}
@@ -41,12 +42,12 @@ pub record BatchedLines {R L N W H K Y D C : Type 0} (h : BayHandles R L N W H K
   pub full : 0 < count_of is_full sink (offers_in told.exchanges)
       → (length put ≡ get_or allots bay 0) ⊎ (capacity + get_or allots bay 0 ≤ length put + sum allots)
 
--- Its one drainer made these tries, each within the limits. Their lines, joined, have of each bay what was accepted of it, once and in
+-- The bays of its queue have these allotments. Its one drainer made these tries, each within the limits. Their lines, joined, have of each bay what was accepted of it, once and in
 -- order, and no line of anybody else. What the sink's port was given are the bytes that the tries sent. Where less time than a line may
 -- wait lies between the first and the last moment of the drainer, each try but the last one ended for its number or its bytes
 pub record BatchesTell {R L N W H K Y D C S : Type 0} (h : BayHandles R L N W H K Y D C) (s : sinks.Ghosts S) (opens : SinkOpens) (set : Settings) (sink : Sink)
-    (options : RunOptions) (bays : List (BayEnd R L K Y D)) (end : SinkEnd S K) : Type 0 where
-  pub allots : List ℕ
+    (options : RunOptions) (allots : List ℕ) (bays : List (BayEnd R L K Y D)) (end : SinkEnd S K) : Type 0 where
+  pub allotted : AreAllotted opens.allots options.bays allots
   pub drain : DrainEnd S K
   pub drain_is : end.drain ≡ Some drain
   pub tries : List Try

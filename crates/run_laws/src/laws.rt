@@ -21,18 +21,18 @@ use plant_lanes::new_sinks_send_their_tries;
 pub fn accepted_lines_are_batched<P: Plant, R: Routes>()
     ensures log { (set : Settings) (options : RunOptions) (before after : PlantTells P.D.C) (tables : List R)
         (ended : Ended R P.L P.W P.H P.K P.Y P.D)
-        → RunServed (bay_handles R.Routes P.L.Dial P.W.BatchSink P.H.BatchSink P.K.Clock P.Y.Diary P.D.Door
-        P.D.C.Source P.D.C.ByteSink P.D.C.Conn.own) P.Rt set options P.opens before after tables ended
+        (served : RunServed (bay_handles R.Routes P.L.Dial P.W.BatchSink P.H.BatchSink P.K.Clock P.Y.Diary P.D.Door
+        P.D.C.Source P.D.C.ByteSink P.D.C.Conn.own) P.Rt set options P.opens before after tables ended)
         → set.log ≡ Batch
         → BatchesTell (bay_handles R.Routes P.L.Dial P.W.BatchSink P.H.BatchSink P.K.Clock P.Y.Diary P.D.Door
-        P.D.C.Source P.D.C.ByteSink P.D.C.Conn.own) P.W.BatchSink (log_opens P.opens) set Log options ended.bays.items ended.log }
+        P.D.C.Source P.D.C.ByteSink P.D.C.Conn.own) P.W.BatchSink (log_opens P.opens) set Log options served.log_allots ended.bays.items ended.log }
     ensures hook { (set : Settings) (options : RunOptions) (before after : PlantTells P.D.C) (tables : List R)
         (ended : Ended R P.L P.W P.H P.K P.Y P.D)
-        → RunServed (bay_handles R.Routes P.L.Dial P.W.BatchSink P.H.BatchSink P.K.Clock P.Y.Diary P.D.Door
-        P.D.C.Source P.D.C.ByteSink P.D.C.Conn.own) P.Rt set options P.opens before after tables ended
+        (served : RunServed (bay_handles R.Routes P.L.Dial P.W.BatchSink P.H.BatchSink P.K.Clock P.Y.Diary P.D.Door
+        P.D.C.Source P.D.C.ByteSink P.D.C.Conn.own) P.Rt set options P.opens before after tables ended)
         → set.hook ≡ Batch
         → BatchesTell (bay_handles R.Routes P.L.Dial P.W.BatchSink P.H.BatchSink P.K.Clock P.Y.Diary P.D.Door
-        P.D.C.Source P.D.C.ByteSink P.D.C.Conn.own) P.H.BatchSink (hook_opens P.opens options.hook_url) set Webhook options ended.bays.items ended.hook }
+        P.D.C.Source P.D.C.ByteSink P.D.C.Conn.own) P.H.BatchSink (hook_opens P.opens options.hook_url) set Webhook options served.hook_allots ended.bays.items ended.hook }
 {
     each_lane_gets_its_lines();
     refusals_are_counted();

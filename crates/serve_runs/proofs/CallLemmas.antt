@@ -53,27 +53,27 @@ module _ (law : PartLaws) (set : Settings) (options : RunOptions) where
       (law.more a b c (Boot boot ∷ []) (log_calls q.allots ++ (hook_calls no_allots ++ last_calls)) p
       (law.less b c (log_calls q.allots) (hook_calls no_allots ++ last_calls) q.part))
 
-  pub hook_part : (boot : ℕ) (a b c d : Option (List PlantCall)) → Joined a (Boot boot ∷ []) b
-      → CalledFor (Log options.log_path) options.bays set.log b c
+  pub hook_part : (boot : ℕ) (logs : List ℕ) (a b c d : Option (List PlantCall)) → Joined a (Boot boot ∷ []) b
+      → CalledFor (Log options.log_path) options.bays logs set.log b c
       → CalledInPart (Hook options.hook_url) options.bays set.hook c d → RunCallsPart set options a d
-  hook_part boot a b c d p q r =
-      part_by boot q.allots r.allots a d q.count r.count
-      (law.more a b d (Boot boot ∷ []) (log_calls q.allots ++ (hook_calls r.allots ++ last_calls)) p
-      (law.more b c d (log_calls q.allots) (hook_calls r.allots ++ last_calls) q.made
+  hook_part boot logs a b c d p q r =
+      part_by boot logs r.allots a d q.count r.count
+      (law.more a b d (Boot boot ∷ []) (log_calls logs ++ (hook_calls r.allots ++ last_calls)) p
+      (law.more b c d (log_calls logs) (hook_calls r.allots ++ last_calls) q.made
       (law.less c d (hook_calls r.allots) last_calls r.part)))
 
-  pub bays_part : (boot : ℕ) (a b c d e : Option (List PlantCall)) → Joined a (Boot boot ∷ []) b
-      → CalledFor (Log options.log_path) options.bays set.log b c
-      → CalledFor (Hook options.hook_url) options.bays set.hook c d
+  pub bays_part : (boot : ℕ) (logs hooks : List ℕ) (a b c d e : Option (List PlantCall)) → Joined a (Boot boot ∷ []) b
+      → CalledFor (Log options.log_path) options.bays logs set.log b c
+      → CalledFor (Hook options.hook_url) options.bays hooks set.hook c d
       → CallsPart last_calls d e → RunCallsPart set options a e
-  bays_part boot a b c d e p q r s =
-      part_by boot q.allots r.allots a e q.count r.count
-      (law.more a b e (Boot boot ∷ []) (log_calls q.allots ++ (hook_calls r.allots ++ last_calls)) p
-      (law.more b c e (log_calls q.allots) (hook_calls r.allots ++ last_calls) q.made
-      (law.more c d e (hook_calls r.allots) last_calls r.made s)))
+  bays_part boot logs hooks a b c d e p q r s =
+      part_by boot logs hooks a e q.count r.count
+      (law.more a b e (Boot boot ∷ []) (log_calls logs ++ (hook_calls hooks ++ last_calls)) p
+      (law.more b c e (log_calls logs) (hook_calls hooks ++ last_calls) q.made
+      (law.more c d e (hook_calls hooks) last_calls r.made s)))
 
-  pub all_calls : (boot : ℕ) (a b : Option (List PlantCall)) → RunCalls set options boot a b → RunCallsPart set options a b
-  all_calls boot a b c = part_by boot c.log_allots c.hook_allots a b c.allotted.0 c.allotted.1 (law.whole a b _ c.made)
+  pub all_calls : (boot : ℕ) (logs hooks : List ℕ) (a b : Option (List PlantCall)) → RunCalls set options boot logs hooks a b → RunCallsPart set options a b
+  all_calls boot logs hooks a b c = part_by boot logs hooks a b c.allotted.0 c.allotted.1 (law.whole a b _ c.made)
 
 pub on_err : {A E : Type 0} (r : Result A E) (P : Type 0) → P → OnErr r P
 on_err (Ok x) P p = tt

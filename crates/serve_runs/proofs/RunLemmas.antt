@@ -74,28 +74,28 @@ own_strict R [] i k = tt
 own_strict R (s ∷ own) zero k = λ e. ((λ b q. absurd cc), refl)
 own_strict R (s ∷ own) (suc i) k = own_strict R own i k
 
-pub lanes_take : {S R K : Type 0} (s : sinks.Ghosts S) (clock : clocks.Ghosts K) (opens : SinkOpens) (mode : SinkMode) (bays capacity : ℕ) (limits : Limits) (lanes : List (AnyLane S R))
-    (drain : Option (QueueDrain S R K)) → LanesFor s clock opens mode bays capacity limits lanes drain → (k : ℕ) → IfSome (slice_get lanes k) (TakesLines k mode)
-lanes_take s clock opens Off bays capacity limits lanes drain h k = off_at (slice_get lanes k) k
-lanes_take {S = S} s clock opens Batch bays capacity limits lanes drain h k =
+pub lanes_take : {S R K : Type 0} (s : sinks.Ghosts S) (clock : clocks.Ghosts K) (opens : SinkOpens) (mode : SinkMode) (bays capacity : ℕ) (allots : List ℕ) (limits : Limits) (lanes : List (AnyLane S R))
+    (drain : Option (QueueDrain S R K)) → LanesFor s clock opens mode bays capacity allots limits lanes drain → (k : ℕ) → IfSome (slice_get lanes k) (TakesLines k mode)
+lanes_take s clock opens Off bays capacity allots limits lanes drain h k = off_at (slice_get lanes k) k
+lanes_take {S = S} s clock opens Batch bays capacity allots limits lanes drain h k =
     subst (λ z. IfSome (slice_get z k) (TakesLines k Batch)) (sym h.queued.lanes_are)
     (queue_at S h.queued.outlet h.queued.queue k k (h.queued.new.lanes_are k))
-lanes_take {R = R} s clock opens Blocking bays capacity limits lanes drain h k =
+lanes_take {R = R} s clock opens Blocking bays capacity allots limits lanes drain h k =
     subst (λ z. IfSome (slice_get z k) (TakesLines k Blocking)) (sym h.lanes_are) (own_blocking R h.own k k)
-lanes_take {R = R} s clock opens Strict bays capacity limits lanes drain h k =
+lanes_take {R = R} s clock opens Strict bays capacity allots limits lanes drain h k =
     subst (λ z. IfSome (slice_get z k) (TakesLines k Strict)) (sym h.lanes_are) (own_strict R h.own k k)
 
 pub image_count : {A B : Type 0} (f : A → B) (ys : List A) → length (map f ys) ≡ length ys
 image_count f [] = refl
 image_count f (y ∷ ys) = ap suc (image_count f ys)
 
-pub lanes_count : {S R K : Type 0} (s : sinks.Ghosts S) (clock : clocks.Ghosts K) (opens : SinkOpens) (mode : SinkMode) (bays capacity : ℕ) (limits : Limits) (lanes : List (AnyLane S R))
-    (drain : Option (QueueDrain S R K)) → LanesFor s clock opens mode bays capacity limits lanes drain → length lanes ≡ bays
-lanes_count s clock opens Off bays capacity limits lanes drain h = h.count
-lanes_count s clock opens Batch bays capacity limits lanes drain h =
-    ap length h.queued.lanes_are ∙ (image_count queue_lane h.queued.queue ∙ (h.queued.new.count ∙ h.count))
-lanes_count s clock opens Blocking bays capacity limits lanes drain h = ap length h.lanes_are ∙ (image_count own_lane h.own ∙ h.count)
-lanes_count s clock opens Strict bays capacity limits lanes drain h = ap length h.lanes_are ∙ (image_count own_lane h.own ∙ h.count)
+pub lanes_count : {S R K : Type 0} (s : sinks.Ghosts S) (clock : clocks.Ghosts K) (opens : SinkOpens) (mode : SinkMode) (bays capacity : ℕ) (allots : List ℕ) (limits : Limits) (lanes : List (AnyLane S R))
+    (drain : Option (QueueDrain S R K)) → LanesFor s clock opens mode bays capacity allots limits lanes drain → length lanes ≡ bays
+lanes_count s clock opens Off bays capacity allots limits lanes drain h = h.count
+lanes_count s clock opens Batch bays capacity allots limits lanes drain h =
+    ap length h.queued.lanes_are ∙ (image_count queue_lane h.queued.queue ∙ (h.queued.new.count ∙ h.allotted.count))
+lanes_count s clock opens Blocking bays capacity allots limits lanes drain h = ap length h.lanes_are ∙ (image_count own_lane h.own ∙ h.count)
+lanes_count s clock opens Strict bays capacity allots limits lanes drain h = ap length h.lanes_are ∙ (image_count own_lane h.own ∙ h.count)
 
 -- ---- to which lanes nothing was offered
 
@@ -143,16 +143,16 @@ owns_fresh R s opens [] k h = tt
 owns_fresh R s opens (x ∷ own) zero h = own_fresh R s opens x (All-head (λ z. IsNewSink opens (s.tells z)) x own h)
 owns_fresh R s opens (x ∷ own) (suc k) h = owns_fresh R s opens own k (All-tail (λ z. IsNewSink opens (s.tells z)) x own h)
 
-pub lanes_fresh : {S R K : Type 0} (s : sinks.Ghosts S) (clock : clocks.Ghosts K) (opens : SinkOpens) (mode : SinkMode) (bays capacity : ℕ) (limits : Limits) (lanes : List (AnyLane S R))
-    (drain : Option (QueueDrain S R K)) → LanesFor s clock opens mode bays capacity limits lanes drain
+pub lanes_fresh : {S R K : Type 0} (s : sinks.Ghosts S) (clock : clocks.Ghosts K) (opens : SinkOpens) (mode : SinkMode) (bays capacity : ℕ) (allots : List ℕ) (limits : Limits) (lanes : List (AnyLane S R))
+    (drain : Option (QueueDrain S R K)) → LanesFor s clock opens mode bays capacity allots limits lanes drain
     → (k : ℕ) → IfSome (slice_get lanes k) (λ lane. IsUnoffered opens (any_tells s lane))
-lanes_fresh s clock opens Off bays capacity limits lanes drain h k = all_off_fresh s opens lanes k h.off
-lanes_fresh s clock opens Batch bays capacity limits lanes drain h k =
+lanes_fresh s clock opens Off bays capacity allots limits lanes drain h k = all_off_fresh s opens lanes k h.off
+lanes_fresh s clock opens Batch bays capacity allots limits lanes drain h k =
     subst (λ z. IfSome (slice_get z k) (Unoffered s opens)) (sym h.queued.lanes_are)
     (queues_fresh s opens h.queued.outlet h.queued.queue k k (h.queued.new.lanes_are k))
-lanes_fresh {R = R} s clock opens Blocking bays capacity limits lanes drain h k =
+lanes_fresh {R = R} s clock opens Blocking bays capacity allots limits lanes drain h k =
     subst (λ z. IfSome (slice_get z k) (Unoffered s opens)) (sym h.lanes_are) (owns_fresh R s opens h.own k h.new)
-lanes_fresh {R = R} s clock opens Strict bays capacity limits lanes drain h k =
+lanes_fresh {R = R} s clock opens Strict bays capacity allots limits lanes drain h k =
     subst (λ z. IfSome (slice_get z k) (Unoffered s opens)) (sym h.lanes_are) (owns_fresh R s opens h.own k h.new)
 
 -- ---- what bays did
@@ -265,9 +265,9 @@ module _ {R L N W H T K Y D C : Type 0} (h : BayHandles R L N W H K Y D C) where
       (made.each k)
       (subst (λ l. IfSome o (λ a. slice_get l k ≡ Some (routes_of a))) made.routes (at_image routes_of xs k))
       (of_image log_lane (λ l. IsUnoffered (log_opens opens) (any_tells h.log l)) xs k
-      (lanes_fresh h.log h.clock (log_opens opens) set.log options.bays options.buffer options.limits (map log_lane xs) m.log made.log k))
+      (lanes_fresh h.log h.clock (log_opens opens) set.log options.bays options.buffer made.log_allots options.limits (map log_lane xs) m.log made.log k))
       (of_image hook_lane (λ l. IsUnoffered (hook_opens opens options.hook_url) (any_tells h.hook l)) xs k
-      (lanes_fresh h.hook h.clock (hook_opens opens options.hook_url) set.hook options.bays options.buffer options.limits (map hook_lane xs) m.hook made.hook k))
+      (lanes_fresh h.hook h.clock (hook_opens opens options.hook_url) set.hook options.bays options.buffer made.hook_allots options.limits (map hook_lane xs) m.hook made.hook k))
 
   bay_served : (set : Settings) (log_new hook_new : SinkOpens) (boot : ℕ) (due : ℕ → Option (List C)) (tables : List R) (logs : List (AnyLane W T)) (hooks : List (AnyLane H T))
       (k : ℕ) (a b : BayRole R L W H T K Y D) → NewAt set log_new hook_new boot due tables k a → RanBay h a b
@@ -310,11 +310,11 @@ module _ {R L N W H T K Y D C : Type 0} (h : BayHandles R L N W H K Y D C) where
 
   pub run_served : (set : Settings) (options : RunOptions) (opens : Openings) (before after : PlantTells C) (tables : List R)
       (m n : Roles (BayRole R L W H T K Y D) (QueueDrain W T K) (QueueDrain H T K)) (ended : Ended R L W H K Y D)
-      → AreMade h set options opens before after tables m → after.faults ≡ before.faults
+      → (made : AreMade h set options opens before after tables m) → after.faults ≡ before.faults
       → RanAll (RanBay h) (RanDrain h.log h.clock) (RanDrain h.hook h.clock) m n
       → ended.bays.items ≡ map bay_end n.bays.items
-      → SinkServed h.log h.clock (log_opens opens) set.log options.bays options.buffer options.limits (map log_lane n.bays.items) ended.log
-      → SinkServed h.hook h.clock (hook_opens opens options.hook_url) set.hook options.bays options.buffer options.limits (map hook_lane n.bays.items) ended.hook
+      → SinkServed h.log h.clock (log_opens opens) set.log options.bays options.buffer made.log_allots options.limits (map log_lane n.bays.items) ended.log
+      → SinkServed h.hook h.clock (hook_opens opens options.hook_url) set.hook options.bays options.buffer made.hook_allots options.limits (map hook_lane n.bays.items) ended.hook
       → ended.status ≡ status_of (stops_of ended.bays.items)
       → RunServed h T set options opens before after tables ended
   run_served set options opens before after tables m n ended made faults ran e log hook status =
@@ -322,6 +322,8 @@ module _ {R L N W H T K Y D C : Type 0} (h : BayHandles R L N W H K Y D C) where
       let hooks = map hook_lane n.bays.items in
       record {
         boot = made.boot;
+        log_allots = made.log_allots;
+        hook_allots = made.hook_allots;
         called = made.called;
         faults = faults;
         logs = logs;

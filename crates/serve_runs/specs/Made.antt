@@ -18,10 +18,8 @@ use Rattle.serve_roles.specs.declared.bay_role.BayRole.{BayRole}
 use Rattle.truncate_backend.specs.Told.{Joined}
 
 -- All calls that a run makes of its plant: the word that audit IDs begin with; for the log and for the webhook what their modes ask
--- for; and for each bay its dial, its door at the address of the words, its clock and its diary
-pub record RunCalls (set : Settings) (options : RunOptions) (boot : ℕ) (before after : Option (List PlantCall)) : Type 0 where
-  pub log_allots : List ℕ
-  pub hook_allots : List ℕ
+-- for, with these allotments as answers; and for each bay its dial, its door at the address of the words, its clock and its diary
+pub record RunCalls (set : Settings) (options : RunOptions) (boot : ℕ) (log_allots hook_allots : List ℕ) (before after : Option (List PlantCall)) : Type 0 where
   pub allotted : (length log_allots ≡ options.bays) × (length hook_allots ≡ options.bays)
   pub made : Joined before
       (Boot boot ∷ (sink_calls (Log options.log_path) options.bays log_allots set.log
@@ -43,9 +41,11 @@ pub record RunCallsPart (set : Settings) (options : RunOptions) (before after : 
 pub record AreMade {R L N W H T K Y D C : Type 0} (h : BayHandles R L N W H K Y D C) (set : Settings) (options : RunOptions)
     (opens : Openings) (before after : PlantTells C) (tables : List R) (roles : Roles (BayRole R L W H T K Y D) (QueueDrain W T K) (QueueDrain H T K)) : Type 0 where
   pub boot : ℕ
-  pub called : RunCalls set options boot before.made after.made
+  pub log_allots : List ℕ
+  pub hook_allots : List ℕ
+  pub called : RunCalls set options boot log_allots hook_allots before.made after.made
   pub count : length roles.bays.items ≡ options.bays
   pub routes : map routes_of roles.bays.items ≡ tables
   pub each : (bay : ℕ) → IfSome (slice_get roles.bays.items bay) (λ role. IsNewBay h set boot (before.due bay) bay role)
-  pub log : LanesFor h.log h.clock (log_opens opens) set.log options.bays options.buffer options.limits (map log_lane roles.bays.items) roles.log
-  pub hook : LanesFor h.hook h.clock (hook_opens opens options.hook_url) set.hook options.bays options.buffer options.limits (map hook_lane roles.bays.items) roles.hook
+  pub log : LanesFor h.log h.clock (log_opens opens) set.log options.bays options.buffer log_allots options.limits (map log_lane roles.bays.items) roles.log
+  pub hook : LanesFor h.hook h.clock (hook_opens opens options.hook_url) set.hook options.bays options.buffer hook_allots options.limits (map hook_lane roles.bays.items) roles.hook

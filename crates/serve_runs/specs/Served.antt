@@ -86,12 +86,15 @@ pub record BayServed {R L N W H T K Y D C : Type 0} (h : BayHandles R L N W H K 
 pub record RunServed {R L N W H K Y D C : Type 0} (h : BayHandles R L N W H K Y D C) (T : Type 0) (set : Settings) (options : RunOptions)
     (opens : Openings) (before after : PlantTells C) (tables : List R) (ended : Ended R L W H K Y D) : Type 0 where
   pub boot : ℕ
-  pub called : RunCalls set options boot before.made after.made
+  -- what the plant allotted each bay in the queue of a sink in batch mode
+  pub log_allots : List ℕ
+  pub hook_allots : List ℕ
+  pub called : RunCalls set options boot log_allots hook_allots before.made after.made
   pub faults : after.faults ≡ before.faults
   pub logs : List (AnyLane W T)
   pub hooks : List (AnyLane H T)
   pub count : length ended.bays.items ≡ options.bays
   pub each : (bay : ℕ) → IfSome (slice_get ended.bays.items bay) (BayServed h set (log_opens opens) (hook_opens opens options.hook_url) boot before.due tables logs hooks bay)
-  pub log : SinkServed h.log h.clock (log_opens opens) set.log options.bays options.buffer options.limits logs ended.log
-  pub hook : SinkServed h.hook h.clock (hook_opens opens options.hook_url) set.hook options.bays options.buffer options.limits hooks ended.hook
+  pub log : SinkServed h.log h.clock (log_opens opens) set.log options.bays options.buffer log_allots options.limits logs ended.log
+  pub hook : SinkServed h.hook h.clock (hook_opens opens options.hook_url) set.hook options.bays options.buffer hook_allots options.limits hooks ended.hook
   pub status_is : ended.status ≡ status_of (stops_of ended.bays.items)

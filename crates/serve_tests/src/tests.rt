@@ -1,9 +1,15 @@
+ghost use Rattle.std.specs.Prelude.{◌≡◌, ◌≤◌, true};
+ghost use Rattle.front_base.specs.declared.address.Address.{Address};
+ghost use Rattle.front_base.specs.declared.line.TheConstants.{MOST_LINE_BYTES};
+ghost use Rattle.plant_lanes.specs.Options.{AreFit};
+ghost use Rattle.proxy_runs.specs.Setup.{options_of};
+
 use crate::counted::{Counted, figures_of};
 use crate::play::{Peers, play};
 use crate::setting::configured;
 use apiservice_table::RouteTable;
 use audit_core::Settings;
-use front_base::Address;
+use front_base::{Address, MOST_LINE_BYTES};
 use proxy_runs::{can_run, settings_of};
 use route_history::NewRoutes;
 use serve_config::ServeConfig;
@@ -30,6 +36,17 @@ fn open_gate(rt: &HostRuntime) -> Result<Arc<TcpGate>, Fail> {
     Ok(Arc::new(alloc, gate)?)
 }
 
+// Whether a run may have these numbers.
+fn can_serve(words: &ServeWords, settings: &Settings) -> bool
+    ensures options { (listen : Address) → result ≡ true → AreFit (options_of words.now listen) }
+    ensures max { result ≡ true → settings.now.max_event ≤ MOST_LINE_BYTES }
+{
+    if !can_run(words) {
+        return false;
+    }
+    settings.max_event <= MOST_LINE_BYTES
+}
+
 // What is left of a configuration, in parts that go different ways.
 fn parts_of(config: ServeConfig) -> (ServeWords, Settings, RouteTable) {
     let ServeConfig { words, loaded } = config;
@@ -48,7 +65,7 @@ fn bays_and_the_drainer_work_at_once(rt: HostRuntime) -> Result<(), Fail> {
     let mut plant = TcpPlant::new(&rt, &gate)?;
     let (words, settings, table) = parts_of(configured(alloc, hook, backend)?);
     let routes = NewRoutes::new(alloc, table)?;
-    if !can_run(&words) {
+    if !can_serve(&words, &settings) {
         return Err(Fail::from("numbers of a run"));
     }
     let player = thread::spawn(&rt, move || {

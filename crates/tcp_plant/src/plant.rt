@@ -1,6 +1,7 @@
 ghost use Rattle.std.specs.Prelude.{◌≡◌, None, Some, IfOk};
 ghost use Rattle.truncate_backend.specs.Told.{Rises};
 ghost use Rattle.front_plants.specs.declared.call.PlantFail.TheVariants.{Port};
+ghost use Rattle.front_plants.specs.declared.plant.TheConstants.{MOST_ALLOTTED};
 ghost use Rattle.tcp_plant.specs.Handles.{plant_tells};
 
 use crate::clock::SystemClock;
@@ -96,7 +97,7 @@ impl<
 
     ghost tells = { plant_tells };
 
-    ghost opens = { record { log = None; hook = Some None } };
+    ghost opens = { record { log = None; hook = Some None; allots = λ bay. Some MOST_ALLOTTED } };
 
     fn boot(&mut self) -> u64 {
         self.boot

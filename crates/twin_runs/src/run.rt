@@ -20,7 +20,8 @@ type Log = LogSink<MemBytes, MemNotes>;
 type Hook = WebhookSink<MemDial, MemNotes>;
 
 // What is run, over files of this folder's `data`.
-const WORDS: &str = "serve --bays=1 --token-auth-file=tokens.csv --audit-policy-file=policy.json --apiservices=services.json \
+const WORDS: &str =
+    "serve --bays=1 --token-auth-file=tokens.csv --audit-policy-file=policy.json --apiservices=services.json \
 --endpoints=endpoints.csv --audit-log-path=log --audit-webhook-url=http://127.0.0.1:9400/ --batch-max-size=2";
 
 const LISTEN: Address = Address {
@@ -96,8 +97,6 @@ pub fn run_world<R: Threads + Wait + Copy + Send + Sync + Drop>(
     }
     let (settings, table) = settings_of(&words, loaded);
     let routes = vec![in alloc; TableRoutes::new(alloc, table).ok()?].ok()?;
-    let ended = run_configured(
-        threads, alloc, &words, settings, LISTEN, routes, &mut plant,
-    );
+    let ended = run_configured(threads, alloc, &words, settings, LISTEN, routes, &mut plant);
     sent_of(alloc, ended)
 }

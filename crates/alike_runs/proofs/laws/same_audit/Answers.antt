@@ -10,7 +10,7 @@ returns-clause-log g c set options one other runs mode opened alike cut =
     g.P.D.C.Source g.P.D.C.ByteSink g.P.D.C.Conn in
     same_drains h set g.P.W.BatchSink (log_opens g.P.Plant.opens) Log options one.bays.items other.bays.items one.log other.log
     c.alike_exchanges_owe_alike.ensures.offered c.alike_exchanges_owe_alike.ensures.offers c.cut_alike_sent_alike.ensures opened runs.ran.count alike
-    c.parts_make_lines.ensures
+    c.parts_make_lines.ensures runs.ran.log_allots runs.also.log_allots
     (c.accepted_lines_are_batched.ensures.log set options runs.before runs.after runs.tables one runs.ran mode)
     (c.accepted_lines_are_batched.ensures.log set options runs.begun runs.done runs.others other runs.also mode)
     cut
@@ -21,7 +21,7 @@ returns-clause-hook g c set options one other runs mode opened alike cut =
     g.P.D.C.Source g.P.D.C.ByteSink g.P.D.C.Conn in
     same_drains h set g.P.H.BatchSink (hook_opens g.P.Plant.opens options.hook_url) Webhook options one.bays.items other.bays.items one.hook other.hook
     c.alike_exchanges_owe_alike.ensures.offered c.alike_exchanges_owe_alike.ensures.offers c.cut_alike_sent_alike.ensures opened runs.ran.count alike
-    c.parts_make_lines.ensures
+    c.parts_make_lines.ensures runs.ran.hook_allots runs.also.hook_allots
     (c.accepted_lines_are_batched.ensures.hook set options runs.before runs.after runs.tables one runs.ran mode)
     (c.accepted_lines_are_batched.ensures.hook set options runs.begun runs.done runs.others other runs.also mode)
     cut

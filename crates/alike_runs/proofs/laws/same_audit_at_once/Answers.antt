@@ -1,4 +1,4 @@
-use Rattle.std.proofs.Common.{◌≡◌, ◌⊎◌, inl, inr, subst, List}
+use Rattle.std.proofs.Common.{ℕ, ◌≡◌, ◌⊎◌, inl, inr, subst, List}
 use Rattle.any_lane.specs.declared.lane.AnyLane.{AnyLane}
 use Rattle.audit_core.specs.declared.sinks.Sink.TheVariants.{Log, Webhook}
 use Rattle.audit_core.specs.declared.sinks.SinkMode.{SinkMode}
@@ -13,11 +13,11 @@ use Rattle.serve_roles.specs.Doors.{bay_handles}
 use Rattle.sink_lanes.specs.declared.ending.SinkEnd.{SinkEnd}
 use Rattle.truncate_backend.specs.declared.sink.BatchSink as sinks
 
-are_own : {S T K : Type 0} (s : sinks.Ghosts S) (k : clocks.Ghosts K) (opens : SinkOpens) (mode : SinkMode) (options : RunOptions) (lanes : List (AnyLane S T)) (end : SinkEnd S K)
-    → (mode ≡ Blocking) ⊎ (mode ≡ Strict) → SinkServed s k opens mode options.bays options.buffer options.limits lanes end
+are_own : {S T K : Type 0} (s : sinks.Ghosts S) (k : clocks.Ghosts K) (opens : SinkOpens) (mode : SinkMode) (options : RunOptions) (allots : List ℕ) (lanes : List (AnyLane S T)) (end : SinkEnd S K)
+    → (mode ≡ Blocking) ⊎ (mode ≡ Strict) → SinkServed s k opens mode options.bays options.buffer allots options.limits lanes end
     → IsOwn options.bays lanes end
-are_own s k opens mode options lanes end (inl e) h = subst (λ m. SinkServed s k opens m options.bays options.buffer options.limits lanes end) e h
-are_own s k opens mode options lanes end (inr e) h = subst (λ m. SinkServed s k opens m options.bays options.buffer options.limits lanes end) e h
+are_own s k opens mode options allots lanes end (inl e) h = subst (λ m. SinkServed s k opens m options.bays options.buffer allots options.limits lanes end) e h
+are_own s k opens mode options allots lanes end (inr e) h = subst (λ m. SinkServed s k opens m options.bays options.buffer allots options.limits lanes end) e h
 
 pub returns-clause-log : goal.returns-clause-log
 returns-clause-log g c set options one other runs mode opened alike cut =
@@ -25,8 +25,8 @@ returns-clause-log g c set options one other runs mode opened alike cut =
     g.P.D.C.Source g.P.D.C.ByteSink g.P.D.C.Conn in
     same_own h set g.P.W.BatchSink (log_opens g.P.Plant.opens) Log options one.bays.items other.bays.items one.log other.log
     c.alike_exchanges_owe_alike.ensures.offered c.alike_exchanges_owe_alike.ensures.offers c.cut_alike_sent_alike.ensures opened runs.ran.count alike
-    (are_own g.P.W.BatchSink g.P.K.Clock (log_opens g.P.Plant.opens) set.log options runs.ran.logs one.log mode runs.ran.log).count
-    (are_own g.P.W.BatchSink g.P.K.Clock (log_opens g.P.Plant.opens) set.log options runs.also.logs other.log mode runs.also.log).count
+    (are_own g.P.W.BatchSink g.P.K.Clock (log_opens g.P.Plant.opens) set.log options runs.ran.log_allots runs.ran.logs one.log mode runs.ran.log).count
+    (are_own g.P.W.BatchSink g.P.K.Clock (log_opens g.P.Plant.opens) set.log options runs.also.log_allots runs.also.logs other.log mode runs.also.log).count
     (c.tried_lines_are_those_offered.ensures.log set options runs.before runs.after runs.tables one runs.ran mode)
     (c.tried_lines_are_those_offered.ensures.log set options runs.begun runs.done runs.others other runs.also mode)
     cut
@@ -37,8 +37,8 @@ returns-clause-hook g c set options one other runs mode opened alike cut =
     g.P.D.C.Source g.P.D.C.ByteSink g.P.D.C.Conn in
     same_own h set g.P.H.BatchSink (hook_opens g.P.Plant.opens options.hook_url) Webhook options one.bays.items other.bays.items one.hook other.hook
     c.alike_exchanges_owe_alike.ensures.offered c.alike_exchanges_owe_alike.ensures.offers c.cut_alike_sent_alike.ensures opened runs.ran.count alike
-    (are_own g.P.H.BatchSink g.P.K.Clock (hook_opens g.P.Plant.opens options.hook_url) set.hook options runs.ran.hooks one.hook mode runs.ran.hook).count
-    (are_own g.P.H.BatchSink g.P.K.Clock (hook_opens g.P.Plant.opens options.hook_url) set.hook options runs.also.hooks other.hook mode runs.also.hook).count
+    (are_own g.P.H.BatchSink g.P.K.Clock (hook_opens g.P.Plant.opens options.hook_url) set.hook options runs.ran.hook_allots runs.ran.hooks one.hook mode runs.ran.hook).count
+    (are_own g.P.H.BatchSink g.P.K.Clock (hook_opens g.P.Plant.opens options.hook_url) set.hook options runs.also.hook_allots runs.also.hooks other.hook mode runs.also.hook).count
     (c.tried_lines_are_those_offered.ensures.hook set options runs.before runs.after runs.tables one runs.ran mode)
     (c.tried_lines_are_those_offered.ensures.hook set options runs.begun runs.done runs.others other runs.also mode)
     cut

@@ -1,4 +1,4 @@
-use Rattle.std.proofs.Common.{◌≡◌, ◌≤◌, length, All}
+use Rattle.std.proofs.Common.{◌≡◌, ◌≤◌, ℕ, length, slice_get, IfSome, All}
 use Rattle.std.specs.Prelude.{vec_capacity}
 use Rattle.shared_queue.specs.declared.making.TheConstants.{MOST_ALLOTTED}
 use Rattle.plant_lanes.specs.Calls.{allot_calls}
@@ -11,6 +11,7 @@ invariant-loop-bay g l = record {
   room : l.bays ≤ vec_capacity l.allots;
   most : All (λ n. n ≤ MOST_ALLOTTED) l.allots.items;
   faults : (g.P.Plant.tells l.plant).faults ≡ (g.P.Plant.tells l.initial.plant).faults;
+  fixed : (bay : ℕ) → IfSome (slice_get l.allots.items bay) (λ allotment. IfSome (g.P.Plant.opens.allots bay) (λ own. allotment ≡ own));
   made : Joined (g.P.Plant.tells l.initial.plant).made (allot_calls 0 l.allots.items) (g.P.Plant.tells l.plant).made;
   due : (g.P.Plant.tells l.plant).due ≡ (g.P.Plant.tells l.initial.plant).due;
 }

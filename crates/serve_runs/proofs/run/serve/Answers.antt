@@ -56,7 +56,7 @@ end_lanes-log-requires-clause-queue g c =
     let logs = c.end_bays-ends.result.logs.items in
     let pairs = subst (λ (z : List (AnyLane _ _)). AllPairs SameAny (map log_lane m.bays.items) z) (sym c.end_bays-ends.ensures.logs)
     (same_logs h m.bays.items n.bays.items ran.bays) in
-    c.lanes_are_served.ensures.can_end (log_opens g.P.Plant.opens) c.args.settings.log o.bays o.buffer o.limits (map log_lane m.bays.items) logs m.log n.log made.log pairs ran.log
+    c.lanes_are_served.ensures.can_end (log_opens g.P.Plant.opens) c.args.settings.log o.bays o.buffer made.log_allots o.limits (map log_lane m.bays.items) logs m.log n.log made.log pairs ran.log
 
 pub end_lanes-hook-requires-clause-queue : goal.end_lanes-hook-requires-clause-queue
 end_lanes-hook-requires-clause-queue g c =
@@ -70,7 +70,7 @@ end_lanes-hook-requires-clause-queue g c =
     let hooks = c.end_bays-ends.result.hooks.items in
     let pairs = subst (λ (z : List (AnyLane _ _)). AllPairs SameAny (map hook_lane m.bays.items) z) (sym c.end_bays-ends.ensures.hooks)
     (same_hooks h m.bays.items n.bays.items ran.bays) in
-    c.lanes_are_served-2.ensures.can_end (hook_opens g.P.Plant.opens o.hook_url) c.args.settings.hook o.bays o.buffer o.limits (map hook_lane m.bays.items) hooks m.hook n.hook made.hook pairs ran.hook
+    c.lanes_are_served-2.ensures.can_end (hook_opens g.P.Plant.opens o.hook_url) c.args.settings.hook o.bays o.buffer made.hook_allots o.limits (map hook_lane m.bays.items) hooks m.hook n.hook made.hook pairs ran.hook
 
 pub returns-clause-served : goal.returns-clause-served
 returns-clause-served g c =
@@ -89,13 +89,13 @@ returns-clause-served g c =
     (same_logs h m.bays.items n.bays.items ran.bays) in
     let hook_pairs = subst (λ (z : List (AnyLane _ _)). AllPairs SameAny (map hook_lane m.bays.items) z) (sym parts.hooks)
     (same_hooks h m.bays.items n.bays.items ran.bays) in
-    let log = c.lanes_are_served.ensures.served (log_opens g.P.Plant.opens) set.log o.bays o.buffer o.limits (map log_lane m.bays.items) logs m.log n.log c.end_lanes-log.result
+    let log = c.lanes_are_served.ensures.served (log_opens g.P.Plant.opens) set.log o.bays o.buffer made.log_allots o.limits (map log_lane m.bays.items) logs m.log n.log c.end_lanes-log.result
     made.log log_pairs ran.log c.end_lanes-log.ensures.own c.end_lanes-log.ensures.queue in
-    let hook = c.lanes_are_served-2.ensures.served (hook_opens g.P.Plant.opens o.hook_url) set.hook o.bays o.buffer o.limits (map hook_lane m.bays.items) hooks m.hook n.hook c.end_lanes-hook.result
+    let hook = c.lanes_are_served-2.ensures.served (hook_opens g.P.Plant.opens o.hook_url) set.hook o.bays o.buffer made.hook_allots o.limits (map hook_lane m.bays.items) hooks m.hook n.hook c.end_lanes-hook.result
     made.hook hook_pairs ran.hook c.end_lanes-hook.ensures.own c.end_lanes-hook.ensures.queue in
     run_served h set o g.P.Plant.opens (g.P.Plant.tells c.args.plant.now) (g.P.Plant.tells c.make_roles.new.plant) c.args.routes.items m n _ made c.in_ok-roles.ensures.cause ran parts.ends
-    (subst (λ z. SinkServed g.P.W.BatchSink g.P.K.Clock (log_opens g.P.Plant.opens) set.log o.bays o.buffer o.limits z c.end_lanes-log.result) parts.logs log)
-    (subst (λ z. SinkServed g.P.H.BatchSink g.P.K.Clock (hook_opens g.P.Plant.opens o.hook_url) set.hook o.bays o.buffer o.limits z c.end_lanes-hook.result) parts.hooks hook)
+    (subst (λ z. SinkServed g.P.W.BatchSink g.P.K.Clock (log_opens g.P.Plant.opens) set.log o.bays o.buffer made.log_allots o.limits z c.end_lanes-log.result) parts.logs log)
+    (subst (λ z. SinkServed g.P.H.BatchSink g.P.K.Clock (hook_opens g.P.Plant.opens o.hook_url) set.hook o.bays o.buffer made.hook_allots o.limits z c.end_lanes-hook.result) parts.hooks hook)
     (c.status_of.ensures ∙ ap (λ q. status_of (stops_of q)) c.as_slice.ensures.value)
 
 pub returns-in_err-room-clause-stopped : goal.returns-in_err-room-clause-stopped
@@ -121,4 +121,4 @@ returns-in_err-ran-clause-stopped g c =
     let says = c.calls_in_part.ensures in
     let law : PartLaws = record { none = says.none; whole = says.whole; less = says.less; more = says.more } in
     let made = c.in_ok-roles.ensures.made in
-    on_err _ _ (all_calls law c.args.settings c.args.options.now made.boot _ _ made.called)
+    on_err _ _ (all_calls law c.args.settings c.args.options.now made.boot made.log_allots made.hook_allots _ _ made.called)
