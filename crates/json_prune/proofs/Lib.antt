@@ -1,0 +1,13 @@
+pub mod EditLemmas
+pub mod HalfLemmas
+pub mod KeptLemmas
+pub mod MemberLemmas
+pub mod MendLemmas
+pub mod NameLemmas
+pub mod OrderLemmas
+pub mod PieceLemmas
+pub mod PruneLemmas
+pub mod ScanLemmas
+pub mod StepLemmas
+pub mod TokenLemmas
+pub mod WalkLemmas

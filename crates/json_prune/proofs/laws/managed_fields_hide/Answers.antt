@@ -1,0 +1,5 @@
+use Rattle.json_prune.proofs.EditLemmas.{no_trace, own_hide, items_hide}
+use Rattle.json_prune.proofs.laws.managed_fields_hide.Goals as goal
+
+pub returns : goal.returns
+returns c = record { own = own_hide; items = items_hide; path = no_trace }

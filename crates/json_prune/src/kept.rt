@@ -1,0 +1,59 @@
+ghost use Rattle.std.specs.Prelude.{true, IfOk, IfErr};
+ghost use Rattle.json_span.specs.Fault.{IsRefusal};
+ghost use Rattle.json_prune.specs.Kept.{LeavesOut, LeavesManaged, Keeps};
+ghost use Rattle.json_prune.specs.Names.{names};
+
+use crate::mending::mend;
+use crate::names::none;
+use crate::pruning::pruned;
+use json_span::{JsonError, compact};
+use std::alloc::Global;
+
+// Where the objects of a list have their managed fields. An object has its own at what the path ends with, from `OWN` on.
+const MANAGED: &str = "items/*/metadata/managedFields";
+
+const OWN: usize = 8;
+
+/// The tokens of a JSON text joined, without the members at the path. The path's names, the outermost first, are separated
+/// by `/`, and each is compared as the text spells it; `*` before another name leads to all items of an array. The empty
+/// path drops none.
+pub fn without(alloc: Global, text: &[u8], path: &str) -> Result<Vec<u8>, JsonError>
+    ensures ok { IfOk result (λ left. LeavesOut (names path.now) left.items text.now) }
+    ensures err { IfErr result (λ error. IsRefusal text.now error) }
+{
+    let whole = compact(alloc, text)?;
+    let path = path.as_bytes();
+    if path.is_empty() {
+        return Ok(whole);
+    }
+    Ok(pruned(alloc, &whole, path, 0, none(path))?)
+}
+
+fn without_managed(alloc: Global, text: &[u8]) -> Result<Vec<u8>, JsonError>
+    ensures ok { IfOk result (λ left. LeavesManaged true left.items text.now) }
+    ensures err { IfErr result (λ error. IsRefusal text.now error) }
+{
+    let whole = compact(alloc, text)?;
+    Ok(pruned(alloc, &whole, MANAGED.as_bytes(), OWN, 0)?)
+}
+
+fn left(alloc: Global, text: &[u8], omit: bool) -> Result<Vec<u8>, JsonError>
+    ensures ok { IfOk result (λ left. LeavesManaged omit left.items text.now) }
+    ensures err { IfErr result (λ error. IsRefusal text.now error) }
+{
+    if omit {
+        return without_managed(alloc, text);
+    }
+    compact(alloc, text)
+}
+
+/// What an event records of a body: the tokens of the JSON text joined, with `\ufffd` for each escape of half a surrogate
+/// pair, and where `omit` says so without managed fields.
+pub fn keep(alloc: Global, text: &[u8], omit: bool) -> Result<Vec<u8>, JsonError>
+    ensures ok { IfOk result (λ kept. Keeps omit kept.items text.now) }
+    ensures err { IfErr result (λ error. IsRefusal text.now error) }
+{
+    let mut kept = left(alloc, text, omit)?;
+    mend(&mut kept);
+    Ok(kept)
+}
