@@ -4,9 +4,9 @@ use Rattle.std.specs.Prelude.{ℕ, ◌+◌, ◌==◌, ◌&&◌, ◌||◌, not, B
 use Rattle.std.specs.List.{list_any, starts_with}
 use Rattle.std.specs.Str.{bytes_eq}
 use Rattle.serde_json.specs.Data.{Data, Items, no_items, item}
-use Rattle.serde_json.specs.Find.{as_str}
+use Rattle.serde_json.specs.Find.{as_bool, as_str}
 use Rattle.json_value.specs.Head.{head_fault}
-use Rattle.json_value.specs.Members.{present, text_in, is_text, is_object, list_or, bool_or}
+use Rattle.json_value.specs.Members.{present, text_in, is_text, is_object, list_or}
 use Rattle.json_value.specs.Read.{value_of}
 use Rattle.json_value.specs.Results.{◌>>=◌, faultless, found_or}
 use Rattle.front_base.specs.Level.{level_of as level_named}
@@ -17,8 +17,11 @@ use Rattle.policy_rules.specs.Matching.{is_empty, is_about_resources, front}
 use Rattle.policy_rules.specs.Policy.{nothing}
 use Rattle.policy_rules.specs.declared.fault.PolicyFault.{PolicyFault}
 use Rattle.policy_rules.specs.declared.fault.PolicyFault.TheVariants.{NotJson, NoRules, BadField, BothKinds, BadUrl, NamesWithoutResources}
+use Rattle.policy_rules.specs.declared.omit.Omissions.{Omissions}
 use Rattle.policy_rules.specs.declared.omit.Omit.{Omit}
 use Rattle.policy_rules.specs.declared.policy.Policy.{Policy}
+use Rattle.policy_rules.specs.declared.reading.Subjects.{Subjects}
+use Rattle.policy_rules.specs.declared.reading.Targets.{Targets}
 use Rattle.policy_rules.specs.declared.rule.GroupResources.{GroupResources}
 use Rattle.policy_rules.specs.declared.rule.Rule.{Rule}
 
@@ -70,12 +73,19 @@ omit_of rule ds = if are_stages ds then Ok (omit_by ds) else Err (BadField rule 
 abbrev pub omit_in : Option ℕ → Option Data → Result Omit PolicyFault
 omit_in rule found = list_or (BadField rule (codes "omitStages")) (Ok nothing) (omit_of rule) found
 
--- what both a policy and a rule may leave out; absent is false
-unfoldable pub omissions_of : Option ℕ → Data → Result Omit PolicyFault
+-- ---- managed fields
+
+-- true or false; absent is not given
+abbrev pub managed_in : Option ℕ → Option Data → Result (Option Bool) PolicyFault
+managed_in rule None = Ok None
+managed_in rule (Some d) = found_or (BadField rule (codes "omitManagedFields")) (as_bool d) >>= (λ b. Ok (Some b))
+
+-- what both a policy and a rule may leave out
+unfoldable pub omissions_of : Option ℕ → Data → Result Omissions PolicyFault
 omissions_of rule d = do
-  omit ← omit_in rule (present (codes "omitStages") d)
-  managed ← bool_or (BadField rule (codes "omitManagedFields")) false (present (codes "omitManagedFields") d)
-  Ok omit
+  stages ← omit_in rule (present (codes "omitStages") d)
+  managed ← managed_in rule (present (codes "omitManagedFields") d)
+  Ok (record { stages = stages; managed = managed })
 
 -- ---- levels
 
@@ -127,39 +137,59 @@ abbrev pub has_lone_names : List GroupResources → Bool
 has_lone_names elements = list_any (λ e. not (is_empty e.resource_names) && is_empty e.resources) elements
 
 -- what the members say together
-unfoldable pub fit_together : ℕ → Rule → Result Rule PolicyFault
+unfoldable pub fit_together : ℕ → Rule → Result (Unit {0}) PolicyFault
 fit_together place rule =
     if not (is_empty rule.non_resource_urls) && is_about_resources rule then
     Err (BothKinds place)
     else if has_bad_url rule.non_resource_urls then Err (BadUrl place)
     else if has_lone_names rule.resources then Err (NamesWithoutResources place)
-    else Ok rule
+    else Ok tt
+
+-- who asks, and how
+unfoldable pub subjects_of : ℕ → Data → Result Subjects PolicyFault
+subjects_of place d = do
+  users ← texts_in (Some place) (codes "users") (present (codes "users") d)
+  user_groups ← texts_in (Some place) (codes "userGroups") (present (codes "userGroups") d)
+  verbs ← texts_in (Some place) (codes "verbs") (present (codes "verbs") d)
+  Ok (record { users = users; user_groups = user_groups; verbs = verbs })
+
+-- what is asked for
+unfoldable pub targets_of : ℕ → Data → Result Targets PolicyFault
+targets_of place d = do
+  resources ← elements_in place (present (codes "resources") d)
+  namespaces ← texts_in (Some place) (codes "namespaces") (present (codes "namespaces") d)
+  urls ← texts_in (Some place) (codes "nonResourceURLs") (present (codes "nonResourceURLs") d)
+  Ok (record { resources = resources; namespaces = namespaces; non_resource_urls = urls })
+
+abbrev pub rule_with : Level → Subjects → Targets → Omissions → Rule
+rule_with level subjects targets omissions = record {
+  level = level;
+  users = subjects.users;
+  user_groups = subjects.user_groups;
+  verbs = subjects.verbs;
+  resources = targets.resources;
+  namespaces = targets.namespaces;
+  non_resource_urls = targets.non_resource_urls;
+  omit = omissions.stages;
+  omit_managed = omissions.managed;
+}
 
 unfoldable pub rule_members : ℕ → Data → Result Rule PolicyFault
 rule_members place d = do
   level ← level_of place d
-  users ← texts_in (Some place) (codes "users") (present (codes "users") d)
-  user_groups ← texts_in (Some place) (codes "userGroups") (present (codes "userGroups") d)
-  verbs ← texts_in (Some place) (codes "verbs") (present (codes "verbs") d)
-  resources ← elements_in place (present (codes "resources") d)
-  namespaces ← texts_in (Some place) (codes "namespaces") (present (codes "namespaces") d)
-  urls ← texts_in (Some place) (codes "nonResourceURLs") (present (codes "nonResourceURLs") d)
-  omit ← omissions_of (Some place) d
-  Ok (record {
-    level = level;
-    users = users;
-    user_groups = user_groups;
-    verbs = verbs;
-    resources = resources;
-    namespaces = namespaces;
-    non_resource_urls = urls;
-    omit = omit;
-  })
+  subjects ← subjects_of place d
+  targets ← targets_of place d
+  omissions ← omissions_of (Some place) d
+  Ok (rule_with level subjects targets omissions)
+
+unfoldable pub checked_rule : ℕ → Data → Result Rule PolicyFault
+checked_rule place d = do
+  rule ← rule_members place d
+  fits ← fit_together place rule
+  Ok rule
 
 unfoldable pub rule_of : ℕ → Data → Result Rule PolicyFault
-rule_of place d =
-    if is_object d then rule_members place d >>= fit_together place
-    else Err (BadField (Some place) (codes "rules"))
+rule_of place d = if is_object d then checked_rule place d else Err (BadField (Some place) (codes "rules"))
 
 -- ---- the policy
 
@@ -184,6 +214,6 @@ unfoldable pub read_policy : List ℕ → Result Policy PolicyFault
 read_policy bytes = do
   d ← found_or NotJson (value_of bytes)
   head ← head_of d
-  omit ← omissions_of None d
+  omissions ← omissions_of None d
   rules ← rules_in (present (codes "rules") d)
-  Ok (record { omit = omit; rules = rules })
+  Ok (record { omit = omissions.stages; omit_managed = omissions.managed; rules = rules })

@@ -1,29 +1,39 @@
-ghost use Rattle.std.specs.Prelude.{◌≡◌, ◌↔◌, ℕ, List, ◌∷◌, ◌++◌, true, false, length, codes};
-ghost use Rattle.std.specs.List.{list_any};
+ghost use Rattle.std.specs.Prelude.{◌≡◌, ◌↔◌, ℕ, Bool, List, ◌++◌, true, false, codes, unwrap_or};
 ghost use Rattle.front_base.specs.declared.info.Info.{Info};
 ghost use Rattle.front_base.specs.declared.user.User.{User};
 ghost use Rattle.policy_rules.specs.About.{HasResource, IsAbout, NamesPath, NamesResource};
 ghost use Rattle.policy_rules.specs.Matching.{element_matches, is_empty, is_resource, is_url, matches};
-ghost use Rattle.policy_rules.specs.Policy.{first, by_rule, by_none};
-ghost use Rattle.policy_rules.specs.declared.omit.Omit.{Omit};
+ghost use Rattle.policy_rules.specs.Policy.{IsFirstMatch, NoneMatches, first, by_rule, by_none};
 ghost use Rattle.policy_rules.specs.declared.policy.Policy.{Policy};
 ghost use Rattle.policy_rules.specs.declared.rule.GroupResources.{GroupResources};
 ghost use Rattle.policy_rules.specs.declared.rule.Rule.{Rule};
 
 /// The first rule that matches decides: no rule before it does, and those after it don't count.
 pub fn first_match_decides()
-    ensures { (omit : Omit) → (before : List Rule) → (rule : Rule) → (after : List Rule) → (user : User) → (info : Info)
-        → list_any (λ r. matches r user info) before ≡ false
-        → matches rule user info ≡ true
-        → first (record { omit = omit; rules = before ++ rule ∷ after }) user info
-        ≡ by_rule (length before) omit rule }
+    ensures { (place : ℕ) → (rule : Rule) → (policy : Policy) → (user : User) → (info : Info)
+        → IsFirstMatch place rule policy user info
+        → first policy user info ≡ by_rule place policy rule }
 {}
 
 /// A request that no rule matches isn't recorded.
 pub fn no_match_records_nothing()
-    ensures { (omit : Omit) → (rules : List Rule) → (user : User) → (info : Info)
-        → list_any (λ r. matches r user info) rules ≡ false
-        → first (record { omit = omit; rules = rules }) user info ≡ by_none omit }
+    ensures { (policy : Policy) → (user : User) → (info : Info)
+        → NoneMatches policy.rules user info
+        → first policy user info ≡ by_none policy }
+{}
+
+/// Managed fields are left out as the first rule that matches says where it gives a value, else as the policy says, else
+/// not at all.
+pub fn rules_decide_on_managed_fields()
+    ensures rule { (place : ℕ) → (rule : Rule) → (policy : Policy) → (user : User) → (info : Info)
+        → IsFirstMatch place rule policy user info → (value : Bool) → rule.omit_managed ≡ Some value
+        → (first policy user info).omit_managed ≡ value }
+    ensures policy { (place : ℕ) → (rule : Rule) → (policy : Policy) → (user : User) → (info : Info)
+        → IsFirstMatch place rule policy user info → rule.omit_managed ≡ None
+        → (first policy user info).omit_managed ≡ unwrap_or policy.omit_managed false }
+    ensures no_rule { (policy : Policy) → (user : User) → (info : Info)
+        → NoneMatches policy.rules user info
+        → (first policy user info).omit_managed ≡ unwrap_or policy.omit_managed false }
 {}
 
 /// Stages that the policy leaves out are left out whatever the request.

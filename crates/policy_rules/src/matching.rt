@@ -33,9 +33,9 @@ fn admits_one(texts: &Texts, others: &Texts) -> bool
 fn is_slash_and(text: &[u8], back: &[u8]) -> bool
     ensures { result ≡ bytes_eq text.now (47 ∷ back.now) }
 {
-    match text {
-        [first, rest @ ..] => *first == b'/' && rest == back,
-        [] => false,
+    match text.strip_prefix(b"/".as_slice()) {
+        Some(rest) => rest == back,
+        None => false,
     }
 }
 

@@ -1,13 +1,12 @@
 // The members of a policy and of a rule, one check each.
-ghost use Rattle.std.specs.Prelude.{◌≡◌, Some, false, option_map};
+ghost use Rattle.std.specs.Prelude.{◌≡◌, Some, option_map};
 ghost use Rattle.serde_json.specs.View.{view, items_view};
 ghost use Rattle.front_base.specs.Stage.{stage_name};
-ghost use Rattle.json_value.specs.Members.{bool_or};
 ghost use Rattle.policy_rules.specs.Fault.{Gives};
 ghost use Rattle.policy_rules.specs.Reading as spec;
 
 use crate::fault::{PolicyFault, bad_field};
-use crate::omit::Omit;
+use crate::omit::{Omissions, Omit};
 use front_base::{Level, Stage, Text, Texts};
 use json_value::{is_text, present, text_in};
 use serde_json::Value;
@@ -114,36 +113,33 @@ fn omit_in(alloc: Global, rule: Option<u32>, found: Option<&Value>) -> Result<Om
     }
 }
 
-fn bool_in(
+// Whether managed fields are left out, where that is given.
+fn managed_in(
     alloc: Global,
     rule: Option<u32>,
-    name: &str,
     found: Option<&Value>,
-) -> Result<bool, PolicyFault>
-    ensures { Gives (λ b. b) result (bool_or
-        (PolicyFault.BadField rule name.now) false (option_map (λ v. view v.now) found.entry)) }
+) -> Result<Option<bool>, PolicyFault>
+    ensures { Gives (λ b. b) result (spec.managed_in rule (option_map (λ v. view v.now) found.entry)) }
 {
     match found {
-        None => Ok(false),
-        Some(Value::Bool(truth)) => Ok(*truth),
-        Some(_) => Err(bad_field(alloc, rule, name)),
+        None => Ok(None),
+        Some(Value::Bool(truth)) => Ok(Some(*truth)),
+        Some(_) => Err(bad_field(alloc, rule, "omitManagedFields")),
     }
 }
 
 // What both a policy and a rule may leave out.
 #[tactic(auto, unfolding(crate::specs::Reading::omissions_of))]
-pub fn omissions_of(alloc: Global, rule: Option<u32>, value: &Value) -> Result<Omit, PolicyFault>
+pub fn omissions_of(
+    alloc: Global,
+    rule: Option<u32>,
+    value: &Value,
+) -> Result<Omissions, PolicyFault>
     ensures { Gives (λ o. o) result (spec.omissions_of rule (view value.now)) }
 {
-    let omit = omit_in(alloc, rule, present(value, "omitStages"))?;
-    // no decision says anything of managed fields yet
-    bool_in(
-        alloc,
-        rule,
-        "omitManagedFields",
-        present(value, "omitManagedFields"),
-    )?;
-    Ok(omit)
+    let stages = omit_in(alloc, rule, present(value, "omitStages"))?;
+    let managed = managed_in(alloc, rule, present(value, "omitManagedFields"))?;
+    Ok(Omissions { stages, managed })
 }
 
 fn level_in(found: Option<&Value>) -> Option<Level>

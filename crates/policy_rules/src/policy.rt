@@ -43,6 +43,8 @@ impl Rules {
 pub struct Policy {
     /// Left out whatever the rule.
     pub omit: Omit,
+    /// `omitManagedFields`, where the policy gives it: for rules that don't.
+    pub omit_managed: Option<bool>,
     pub rules: Rules,
 }
 
@@ -66,9 +68,11 @@ impl Policy {
             namespaces: no_texts(alloc),
             non_resource_urls: no_texts(alloc),
             omit: Omit::NOTHING,
+            omit_managed: None,
         };
         Ok(Policy {
             omit: Omit::NOTHING,
+            omit_managed: None,
             rules: Rules::new(vec![in alloc; rule]?),
         })
     }

@@ -79,7 +79,11 @@ pub fn read_policy(alloc: Global, bytes: &[u8]) -> Result<Policy, PolicyFault>
 {
     let value = read_value(alloc, bytes)?;
     check_head(alloc, &value)?;
-    let omit = omissions_of(alloc, None, &value)?;
+    let omissions = omissions_of(alloc, None, &value)?;
     let rules = rules_in(alloc, present(&value, "rules"))?;
-    Ok(Policy { omit, rules })
+    Ok(Policy {
+        omit: omissions.stages,
+        omit_managed: omissions.managed,
+        rules,
+    })
 }

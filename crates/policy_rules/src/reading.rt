@@ -6,8 +6,9 @@ ghost use Rattle.policy_rules.specs.Reading as spec;
 
 use crate::fault::{PolicyFault, bad_field};
 use crate::members::{level_of, omissions_of, text_of, texts_in};
+use crate::omit::Omissions;
 use crate::rule::{GroupResources, Resources, Rule};
-use front_base::{Text, Texts};
+use front_base::{Level, Text, Texts};
 use json_value::present;
 use serde_json::Value;
 use std::alloc::Global;
@@ -102,8 +103,8 @@ fn has_lone_names(elements: &[GroupResources]) -> bool
 
 // What the members say together.
 #[tactic(auto, unfolding(crate::specs::Reading::fit_together))]
-fn fit_together(place: u32, rule: Rule) -> Result<Rule, PolicyFault>
-    ensures { Gives (λ r. r) result (spec.fit_together place rule) }
+fn fit_together(place: u32, rule: &Rule) -> Result<(), PolicyFault>
+    ensures { Gives (λ u. u) result (spec.fit_together place rule.now) }
 {
     let has_urls = !rule.non_resource_urls.as_slice().is_empty();
     if has_urls && rule.is_about_resources() {
@@ -115,36 +116,84 @@ fn fit_together(place: u32, rule: Rule) -> Result<Rule, PolicyFault>
     if has_lone_names(rule.resources.as_slice()) {
         return Err(PolicyFault::NamesWithoutResources { rule: place });
     }
-    Ok(rule)
+    Ok(())
+}
+
+// Who asks, and how.
+#[derive(Drop)]
+struct Subjects {
+    users: Texts,
+    user_groups: Texts,
+    verbs: Texts,
+}
+
+// What is asked for.
+#[derive(Drop)]
+struct Targets {
+    resources: Resources,
+    namespaces: Texts,
+    non_resource_urls: Texts,
+}
+
+#[tactic(auto, unfolding(crate::specs::Reading::subjects_of))]
+fn subjects_of(alloc: Global, place: u32, value: &Value) -> Result<Subjects, PolicyFault>
+    ensures { Gives (λ s. s) result (spec.subjects_of place (view value.now)) }
+{
+    let rule = Some(place);
+    let users = texts_in(alloc, rule, "users", present(value, "users"))?;
+    let user_groups = texts_in(alloc, rule, "userGroups", present(value, "userGroups"))?;
+    let verbs = texts_in(alloc, rule, "verbs", present(value, "verbs"))?;
+    Ok(Subjects {
+        users,
+        user_groups,
+        verbs,
+    })
+}
+
+#[tactic(auto, unfolding(crate::specs::Reading::targets_of))]
+fn targets_of(alloc: Global, place: u32, value: &Value) -> Result<Targets, PolicyFault>
+    ensures { Gives (λ t. t) result (spec.targets_of place (view value.now)) }
+{
+    let rule = Some(place);
+    let resources = elements_in(alloc, place, present(value, "resources"))?;
+    let namespaces = texts_in(alloc, rule, "namespaces", present(value, "namespaces"))?;
+    let urls = present(value, "nonResourceURLs");
+    let non_resource_urls = texts_in(alloc, rule, "nonResourceURLs", urls)?;
+    Ok(Targets {
+        resources,
+        namespaces,
+        non_resource_urls,
+    })
+}
+
+fn rule_with(level: Level, subjects: Subjects, targets: Targets, omissions: Omissions) -> Rule
+    ensures { result ≡ spec.rule_with level subjects targets omissions }
+{
+    Rule {
+        level,
+        users: subjects.users,
+        user_groups: subjects.user_groups,
+        verbs: subjects.verbs,
+        resources: targets.resources,
+        namespaces: targets.namespaces,
+        non_resource_urls: targets.non_resource_urls,
+        omit: omissions.stages,
+        omit_managed: omissions.managed,
+    }
 }
 
 #[tactic(auto, unfolding(crate::specs::Reading::rule_members))]
 fn rule_members(alloc: Global, place: u32, value: &Value) -> Result<Rule, PolicyFault>
     ensures { Gives (λ r. r) result (spec.rule_members place (view value.now)) }
 {
-    let rule = Some(place);
     let level = level_of(alloc, place, value)?;
-    let users = texts_in(alloc, rule, "users", present(value, "users"))?;
-    let user_groups = texts_in(alloc, rule, "userGroups", present(value, "userGroups"))?;
-    let verbs = texts_in(alloc, rule, "verbs", present(value, "verbs"))?;
-    let resources = elements_in(alloc, place, present(value, "resources"))?;
-    let namespaces = texts_in(alloc, rule, "namespaces", present(value, "namespaces"))?;
-    let urls = present(value, "nonResourceURLs");
-    let non_resource_urls = texts_in(alloc, rule, "nonResourceURLs", urls)?;
-    let omit = omissions_of(alloc, rule, value)?;
-    Ok(Rule {
-        level,
-        users,
-        user_groups,
-        verbs,
-        resources,
-        namespaces,
-        non_resource_urls,
-        omit,
-    })
+    let subjects = subjects_of(alloc, place, value)?;
+    let targets = targets_of(alloc, place, value)?;
+    let omissions = omissions_of(alloc, Some(place), value)?;
+    Ok(rule_with(level, subjects, targets, omissions))
 }
 
-#[tactic(auto, unfolding(crate::specs::Reading::rule_of))]
+#[tactic(auto, unfolding(crate::specs::Reading::rule_of, crate::specs::Reading::checked_rule))]
 pub fn rule_of(alloc: Global, place: u32, value: &Value) -> Result<Rule, PolicyFault>
     ensures { Gives (λ r. r) result (spec.rule_of place (view value.now)) }
 {
@@ -152,5 +201,6 @@ pub fn rule_of(alloc: Global, place: u32, value: &Value) -> Result<Rule, PolicyF
         return Err(bad_field(alloc, Some(place), "rules"));
     }
     let rule = rule_members(alloc, place, value)?;
-    fit_together(place, rule)
+    fit_together(place, &rule)?;
+    Ok(rule)
 }

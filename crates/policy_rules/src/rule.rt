@@ -56,4 +56,6 @@ pub struct Rule {
     /// `/healthz`, `/api*` for all paths that begin so, or `*`.
     pub non_resource_urls: Texts,
     pub omit: Omit,
+    /// `omitManagedFields`, where the rule gives it.
+    pub omit_managed: Option<bool>,
 }

@@ -15,7 +15,7 @@ loop-rule-init c = record { counted = refl; rest = refl }
 
 pub returns-then-matches : goal.returns-then-matches
 returns-then-matches c =
-    let omit = c.args.policy.now.omit in
+    let policy = c.args.policy.now in
     let rules = c.args.policy.now.rules in
     let user = c.args.user.now in
     let info = c.args.info.now in
@@ -24,15 +24,15 @@ returns-then-matches c =
     let is = rw c.as_slice-rule-items.ensures.value at c.rule-item.is in
     let lt = rw c.as_slice-rule-items.ensures.value at c.loop-rule-test.true in
     let rest = drop (i + 1) rules in
-    let at : by_rule i omit x ≡ first c.args.policy.now user info =
-    sym (first_here omit user info i x rest (sym c.matches.ensures ∙ c.if-matches.true))
-    ∙ ap (λ rs. first_from i omit rs user info) (sym (here rules i x lt is))
+    let at : by_rule i policy x ≡ first policy user info =
+    sym (first_here policy user info i x rest (sym c.matches.ensures ∙ c.if-matches.true))
+    ∙ ap (λ rs. first_from i policy rs user info) (sym (here rules i x lt is))
     ∙ c.loop-rule.invariant.rest in
-    rw (c.loop-rule.invariant.counted, c.union.ensures) at
+    rw (c.loop-rule.invariant.counted, c.union.ensures, c.omits_managed.ensures) at
 
 pub loop-rule-preserved : goal.loop-rule-preserved
 loop-rule-preserved c =
-    let omit = c.args.policy.now.omit in
+    let policy = c.args.policy.now in
     let rules = c.args.policy.now.rules in
     let user = c.args.user.now in
     let info = c.args.info.now in
@@ -43,19 +43,19 @@ loop-rule-preserved c =
     record {
       counted = ap (λ n. n + 1) c.loop-rule.invariant.counted;
       rest =
-          sym (first_more omit user info i x (drop (i + 1) rules) (sym c.matches.ensures ∙ c.if-matches.false))
-          ∙ ap (λ rs. first_from i omit rs user info) (sym (here rules i x lt is))
+          sym (first_more policy user info i x (drop (i + 1) rules) (sym c.matches.ensures ∙ c.if-matches.false))
+          ∙ ap (λ rs. first_from i policy rs user info) (sym (here rules i x lt is))
           ∙ c.loop-rule.invariant.rest;
     }
 
 pub returns : goal.returns
 returns c =
-    let omit = c.args.policy.now.omit in
+    let policy = c.args.policy.now in
     let rules = c.args.policy.now.rules in
     let user = c.args.user.now in
     let info = c.args.info.now in
     let i = c.loop-rule.rule-index in
     let end = rw c.as_slice-rule-items.ensures.value at c.loop-rule-test.false in
-    sym (first_none omit user info i)
-    ∙ ap (λ rs. first_from i omit rs user info) (sym (drop_all i rules end))
-    ∙ c.loop-rule.invariant.rest
+    rw c.omits_managed-of_policy.ensures (sym (first_none policy user info i)
+    ∙ ap (λ rs. first_from i policy rs user info) (sym (drop_all i rules end))
+    ∙ c.loop-rule.invariant.rest)

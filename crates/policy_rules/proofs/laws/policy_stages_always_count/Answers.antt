@@ -8,9 +8,9 @@ pub returns : goal.returns
 unfolding first
 returns c = record {
   received = λ policy user info own.
-      stays policy.omit user info (λ (o : Omit). o.received) own (λ b. or_first _ _ own) 0 policy.rules;
+      stays policy user info (λ (o : Omit). o.received) own (λ b. or_first _ _ own) 0 policy.rules;
   started = λ policy user info own.
-      stays policy.omit user info (λ (o : Omit). o.started) own (λ b. or_first _ _ own) 0 policy.rules;
+      stays policy user info (λ (o : Omit). o.started) own (λ b. or_first _ _ own) 0 policy.rules;
   complete = λ policy user info own.
-      stays policy.omit user info (λ (o : Omit). o.complete) own (λ b. or_first _ _ own) 0 policy.rules;
+      stays policy user info (λ (o : Omit). o.complete) own (λ b. or_first _ _ own) 0 policy.rules;
 }
