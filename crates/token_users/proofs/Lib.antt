@@ -1,4 +1,7 @@
+mod ActLemmas
+mod CarriedLemmas
 mod FileLemmas
 mod PlaceLemmas
 mod RecordLemmas
 mod RowLemmas
+mod UserLemmas

@@ -1,21 +1,20 @@
 -- The records of a token file (Kubernetes, "Authenticating": static token file).
-use Rattle.std.specs.Prelude.{◌≡◌, ℕ, ◌+◌, ◌==◌, ◌&&◌, List, [], ◌∷◌, length, Bool, not, Option, Some, None, option_and_then, Result, Ok, Err, nat_le, nat_lt, filter, map, if◌then◌else◌}
+use Rattle.std.specs.Prelude.{ℕ, ◌+◌, ◌==◌, List, [], ◌∷◌, length, Bool, not, Option, Some, None, option_and_then, Result, Ok, Err, nat_lt, filter, map, if◌then◌else◌}
 use Rattle.std.specs.Borrow.{Bor}
-use Rattle.std.specs.List.{list_all, slice_split}
+use Rattle.std.specs.List.{list_any, slice_split}
 use Rattle.std.specs.Str.{is_utf8}
 use Rattle.csv.specs.Reading.{default_config, records, strip_bom}
 use Rattle.csv.specs.Records.{field_at}
-use Rattle.json_value.specs.Results.{◌>>=◌, found_or}
-use Rattle.token_users.specs.declared.fault.BadRecord.TheVariants.{FewFields, NotUtf8, Control}
-use Rattle.token_users.specs.declared.fault.Field.{Field}
+use Rattle.json_value.specs.Results.{◌>>=◌, faultless, found_or}
+use Rattle.front_base.specs.declared.user.User.{User}
+use Rattle.token_users.specs.Carried.{has_blank_ends, is_plain}
+use Rattle.token_users.specs.declared.fault.BadRecord.{BadRecord}
+use Rattle.token_users.specs.declared.fault.BadRecord.TheVariants.{FewFields, NotUtf8, EmptyUser, Control, BlankEnds}
 use Rattle.token_users.specs.declared.fault.Field.TheVariants as field
 use Rattle.token_users.specs.declared.fault.TokenFault.{TokenFault}
 use Rattle.token_users.specs.declared.fault.TokenFault.TheVariants.{BadRow}
 use Rattle.token_users.specs.declared.record.Record.{Record}
-
--- no byte is a control character of ASCII
-abbrev pub is_plain : List ℕ → Bool
-is_plain = list_all (λ b. nat_le 32 b && not (b == 127))
+use Rattle.token_users.specs.declared.record.Row.{Row}
 
 abbrev pub is_some_text : List ℕ → Bool
 is_some_text text = not (length text == 0)
@@ -42,21 +41,65 @@ groups_at fields = if nat_lt (length fields) 4 then Some [] else text_at fields 
 abbrev pub all_fields : ℕ → List (List ℕ) → Result (Unit {0}) TokenFault
 all_fields number fields = if nat_lt (length fields) 3 then Err (BadRow number FewFields) else Ok tt
 
-abbrev pub plain : ℕ → Field → List ℕ → Result (Unit {0}) TokenFault
-plain number field text = if is_plain text then Ok tt else Err (BadRow number (Control field))
+-- the fields of a row that count
+pub record RowTexts : Type 0 where
+  pub token : List ℕ
+  pub user : List ℕ
+  pub uid : List ℕ
+  pub groups : List ℕ
 
--- what the fields of the row with this number say: token, user, uid and groups; fields after the fourth say nothing. The
--- first check that fails says why the row is refused
-unfoldable pub record_of : ℕ → List (List ℕ) → Result Record TokenFault
-record_of number fields = do
+-- the texts of borrowed fields
+abbrev pub texts_in : Row → RowTexts
+texts_in row = record { token = row.token.now; user = row.user.now; uid = row.uid.now; groups = row.groups.now }
+
+-- the fields of the row with this number, all text: token, user, uid and groups; fields after the fourth say nothing
+unfoldable pub row_of : ℕ → List (List ℕ) → Result RowTexts TokenFault
+row_of number fields = do
   enough ← all_fields number fields
   token ← found_or (BadRow number (NotUtf8 field.Token)) (text_at fields 0)
-  name ← found_or (BadRow number (NotUtf8 field.User)) (text_at fields 1)
+  user ← found_or (BadRow number (NotUtf8 field.User)) (text_at fields 1)
   uid ← found_or (BadRow number (NotUtf8 field.Uid)) (text_at fields 2)
   groups ← found_or (BadRow number (NotUtf8 field.Groups)) (groups_at fields)
-  plain_name ← plain number field.User name
-  plain_groups ← plain number field.Groups groups
-  Ok (record { token = token; user = record { name = name; uid = uid; groups = groups_in groups } })
+  Ok (record { token = token; user = user; uid = uid; groups = groups })
+
+-- why no header can carry the name of a user
+abbrev pub user_fault : List ℕ → Option BadRecord
+user_fault name =
+    if length name == 0 then Some EmptyUser
+    else if not (is_plain name) then Some (Control field.User)
+    else if has_blank_ends name then Some (BlankEnds field.User)
+    else None
+
+abbrev pub has_blank_group : List ℕ → Bool
+has_blank_group groups = list_any has_blank_ends (comma_parts groups)
+
+-- why no header can carry one of the groups
+abbrev pub groups_fault : List ℕ → Option BadRecord
+groups_fault groups =
+    if not (is_plain groups) then Some (Control field.Groups)
+    else if has_blank_group groups then Some (BlankEnds field.Groups)
+    else None
+
+abbrev pub earlier_or : Option BadRecord → Option BadRecord → Option BadRecord
+earlier_or None later = later
+earlier_or (Some why) later = Some why
+
+-- the first fault of the user, and then of the groups
+abbrev pub row_fault : RowTexts → Option BadRecord
+row_fault row = earlier_or (user_fault row.user) (groups_fault row.groups)
+
+abbrev pub user_in : RowTexts → User
+user_in row = record { name = row.user; uid = row.uid; groups = groups_in row.groups }
+
+abbrev pub record_in : RowTexts → Record
+record_in row = record { token = row.token; user = user_in row }
+
+-- what the row with this number says. The first check that fails says why it is refused
+unfoldable pub record_of : ℕ → List (List ℕ) → Result Record TokenFault
+record_of number fields = do
+  row ← row_of number fields
+  fine ← faultless (BadRow number) (row_fault row)
+  Ok (record_in row)
 
 -- a record without a token is none
 abbrev pub with_record : Record → List Record → List Record

@@ -1,3 +1,5 @@
+pub mod Act
+pub mod Carried
 pub mod Fault
 pub mod File
 pub mod Places

@@ -20,8 +20,12 @@ pub enum BadRecord {
     FewFields,
     /// The field isn't UTF-8.
     NotUtf8(Field),
+    /// The user is empty.
+    EmptyUser,
     /// The field, which is the user or the groups, has a control character of ASCII.
     Control(Field),
+    /// The user, or one of the groups, begins or ends with a space or a tab.
+    BlankEnds(Field),
 }
 
 /// Why a token file isn't read.

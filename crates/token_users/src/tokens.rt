@@ -41,6 +41,13 @@ impl Tokens {
         Ok(Tokens { records, places })
     }
 
+    /// The records of the file, in its order.
+    pub fn records(&self) -> &[Record]
+        ensures { result.now ≡ self.now }
+    {
+        self.records.as_slice()
+    }
+
     /// The user of a token, with the groups that the file gives.
     pub fn user(&self, token: &[u8]) -> Option<&User>
         ensures { option_map (λ u. u.now) result ≡ spec.last_user token.now self.now }

@@ -7,7 +7,7 @@ use crate::asker::Who;
 use front_base::{NoMemory, Text, Texts, User};
 use std::alloc::Global;
 
-const AUTHENTICATED: &str = "system:authenticated";
+pub const AUTHENTICATED: &str = "system:authenticated";
 
 const UNAUTHENTICATED: &str = "system:unauthenticated";
 
