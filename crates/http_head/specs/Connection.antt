@@ -31,6 +31,10 @@ is_element name part = is_name_and_blanks name (drop (blank_len part) part)
 abbrev pub has_element : List ℕ → List ℕ → Bool
 has_element name value = list_any (is_element name) (slice_split (λ b. b == 44) value)
 
+-- each of them has it
+abbrev pub has_only : List ℕ → List ℕ → Bool
+has_only name value = list_all (is_element name) (slice_split (λ b. b == 44) value)
+
 -- a Connection header names that option
 abbrev pub has_option : List ℕ → List Header → Bool
 has_option name headers =

@@ -51,6 +51,16 @@ fn has_element(value: &[u8], name: &str) -> bool
         .any(|part| is_element(part, name))
 }
 
+/// Whether each element of a header's value has that name. Elements stand between commas, blanks round them don't count,
+/// and ASCII case is ignored (RFC 9110, section 5.6.1). An empty element has no name.
+pub fn has_only(value: &[u8], name: &str) -> bool
+    ensures { result ≡ spec.has_only name.now value.now }
+{
+    value
+        .split(|byte| *byte == b',')
+        .all(|part| is_element(part, name))
+}
+
 /// Whether a Connection header names that option (RFC 9110, section 7.6.1). Options stand between commas, blanks round
 /// them don't count, and ASCII case is ignored.
 pub fn has_option(headers: &Headers, name: &str) -> bool

@@ -27,7 +27,7 @@ pub use block::{
     heads_end_after_an_empty_line, searches_go_on,
 };
 pub use body::Framing;
-pub use connection::{asks_to_close, has_option};
+pub use connection::{asks_to_close, has_only, has_option};
 pub use header::{Header, Headers};
 pub use reply::{
     ReplyHead, one_reply, read_reply, read_reply_on, read_status, reply_of,
