@@ -33,14 +33,14 @@ fn service_of(alloc: Global, named: &str) -> ServiceRef {
 }
 
 fn address_of(alloc: Global, endpoints: &Endpoints, named: &str) -> Option<Address> {
-    if named.is_empty() {
-        endpoints.of(None)
-    } else {
-        endpoints.of(Some(&service_of(alloc, named)))
+    match named {
+        "" => endpoints.of(None),
+        "others" => endpoints.others(),
+        _ => endpoints.of(Some(&service_of(alloc, named))),
     }
 }
 
-/// Where a service is reached, or the delegate where the row names none.
+/// Where a service is reached, or where the other paths go, or the delegate where the row names neither.
 pub fn show_address(rt: &HostRuntime, row: &str) -> io::Result<()> {
     let (source, named) = fields(row);
     match endpoints_of(rt, source) {

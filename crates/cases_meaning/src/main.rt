@@ -1,4 +1,4 @@
-//! Cases of Kubernetes' rules: what a request asks for, who asks, at which level a policy records a request, and where a
+//! Cases of Kubernetes' rules: what a request asks for, who asks and as whom, at which level a policy records a request, and where a
 //! service is reached. Each row of a file of `data` is printed with the whole answer.
 //!
 //! Expected values are worked out by hand: from kube-apiserver's `RequestInfoFactory`, from Kubernetes' pages on the static
@@ -7,6 +7,7 @@
 //! Where a row takes a file, its field is the name of one in `data` (`.csv`, `.json`), its bytes, or `-`, which is empty.
 #![tactic(auto)]
 
+mod acting;
 mod endpoints;
 mod policies;
 mod requests;
@@ -21,6 +22,7 @@ const MATTERS: &str = "\
 requests.txt
 recorded.txt
 tokens.txt
+acting.txt
 policies.txt
 decisions.txt
 endpoints.txt
@@ -31,6 +33,7 @@ fn show(rt: &HostRuntime, matter: &str, row: &str) -> io::Result<()> {
         "requests.txt" => requests::show_asked(rt, row),
         "recorded.txt" => requests::show_recorded(rt, row),
         "tokens.txt" => tokens::show_asker(rt, row),
+        "acting.txt" => acting::show_act(rt, row),
         "policies.txt" => policies::show_policy(rt, row),
         "decisions.txt" => policies::show_decision(rt, row),
         _ => endpoints::show_address(rt, row),

@@ -6,7 +6,8 @@ use std::alloc::Global;
 use std::io;
 use token_users::{TokenFault, Tokens, read_tokens, user_of, who};
 
-fn tokens_of(alloc: Global, file: &[u8]) -> Result<Tokens, TokenFault> {
+/// The tokens of a file.
+pub fn tokens_of(alloc: Global, file: &[u8]) -> Result<Tokens, TokenFault> {
     if file.len() as u64 > MOST_FILE_BYTES {
         return Err(TokenFault::NoMemory);
     }
@@ -25,8 +26,8 @@ fn header_of(alloc: Global, line: &str) -> Header {
     }
 }
 
-// A head with these header lines.
-fn head_of(alloc: Global, lines: &str) -> Head {
+/// A head with these header lines.
+pub fn head_of(alloc: Global, lines: &str) -> Head {
     let mut headers = Vec::new(alloc);
     for line in lines.split(" | ") {
         let _ = headers.push(header_of(alloc, line));

@@ -1,13 +1,13 @@
 -- What passes of a client's headers, and what is written beside them.
 use Rattle.std.proofs.Common.{◌≡◌, ◌<◌, lit<, zero, suc, ℕ, Bool, true, false, not, ◌&&◌, ◌||◌, cond, List, [], ◌∷◌, ◌++◌, length, take, map, Option, Some, None, refl, sym, ap, ◌∙◌, arith, append-nil, codes, decimal, All}
 use Rattle.std.specs.List.{filter, flat_map}
-use Rattle.std.specs.Str.{bytes_eq, str_to_ascii_lowercase, str_eq_ignore_ascii_case}
+use Rattle.std.specs.Str.{str_to_ascii_lowercase}
 use Rattle.std.specs.Char.{to_ascii_lowercase}
 use Rattle.std.proofs.lemmas.Slice.Eq.{bytes_eq-Decides}
 use Rattle.std.proofs.lemmas.List.{take-map, map-append}
 use Rattle.std.proofs.Math.Seq.{take-append_seam}
 use Rattle.std.proofs.lemmas.Grind.{flat_map-append}
-use Rattle.std.proofs.lemmas.List.Elements.{All-cons, All-nil, All-append}
+use Rattle.std.proofs.lemmas.List.Elements.{All-cons, All-nil, All-append, All-map, All-weaker}
 use Rattle.front_base.specs.AuditId.{AuditId, audit_id_text}
 use Rattle.front_base.specs.declared.user.User.{User}
 use Rattle.http_head.specs.Framing.{values_named}
@@ -15,8 +15,10 @@ use Rattle.http_head.specs.Connection.{has_option}
 use Rattle.http_head.specs.Name.{is_named, name_begins}
 use Rattle.http_head.specs.Written.{named}
 use Rattle.http_head.specs.declared.header.Header.{Header}
+use Rattle.forward_link.specs.Dashed.{dashed, dashed_names}
 use Rattle.forward_link.specs.Hop.{is_hop, is_one_of, hop_names}
-use Rattle.forward_link.specs.Forwarded.{passes, passing, own_names, is_identity, own_headers, length_header}
+use Rattle.forward_link.specs.Forwarded.{passes, passing, own_names, own_headers, length_header}
+use Rattle.forward_link.proofs.DashedLemmas.{begins_not}
 
 -- ---- names
 
@@ -53,10 +55,15 @@ parts false false false true e = absurd (cc e)
 
 -- the four reasons for which a header doesn't pass
 pub passes_parts : (headers : List Header) (h : Header) → passes headers h ≡ true
-    → (is_hop headers h ≡ false) × (is_one_of own_names h ≡ false) × (name_begins (codes "x-remote-") h.name ≡ false)
-    × (name_begins (codes "impersonate-") h.name ≡ false)
+    → (is_hop headers h ≡ false) × (is_one_of own_names h ≡ false) × (name_begins (codes "x-remote-") (dashed h.name) ≡ false)
+    × (name_begins (codes "impersonate-") (dashed h.name) ≡ false)
 passes_parts headers h e =
-    parts (is_hop headers h) (is_one_of own_names h) (name_begins (codes "x-remote-") h.name) (name_begins (codes "impersonate-") h.name) e
+    parts (is_hop headers h) (is_one_of own_names h) (name_begins (codes "x-remote-") (dashed h.name))
+    (name_begins (codes "impersonate-") (dashed h.name)) e
+
+-- it is no X-Remote- header either as its name stands
+remote_not : (headers : List Header) (h : Header) → passes headers h ≡ true → name_begins (codes "x-remote-") h.name ≡ false
+remote_not headers h e = begins_not (codes "x-remote-") h.name refl (passes_parts headers h e).2
 
 -- ---- the values of some headers
 
@@ -144,7 +151,7 @@ user_cases name id (Some n) = refl
 pub one_user : (headers : List Header) (user : User) (id : AuditId) (size : Option ℕ)
     → values_named (codes "X-Remote-User") (passing headers ++ own_headers user id size) ≡ user.name ∷ []
 one_user headers user id size =
-    written is_user headers user id size (λ h e. not_named (codes "x-remote-") (codes "user") h.name (passes_parts headers h e).2) (λ g. refl)
+    written is_user headers user id size (λ h e. not_named (codes "x-remote-") (codes "user") h.name (remote_not headers h e)) (λ g. refl)
     ∙ user_cases user.name id size
 
 abbrev is_group : Header → Bool
@@ -157,7 +164,7 @@ group_cases id (Some n) = refl
 pub all_groups : (headers : List Header) (user : User) (id : AuditId) (size : Option ℕ)
     → values_named (codes "X-Remote-Group") (passing headers ++ own_headers user id size) ≡ user.groups
 all_groups headers user id size =
-    no_passing is_group headers (own_headers user id size) (λ h e. not_named (codes "x-remote-") (codes "group") h.name (passes_parts headers h e).2)
+    no_passing is_group headers (own_headers user id size) (λ h e. not_named (codes "x-remote-") (codes "group") h.name (remote_not headers h e))
     ∙ every_group is_group user.groups (after_groups id size) (λ g. refl) ∙ ap (λ l. user.groups ++ l) (group_cases id size) ∙ append-nil user.groups
 
 abbrev is_remote : Header → Bool
@@ -170,7 +177,7 @@ remote_cases id (Some n) = refl
 pub nobody_else : (headers : List Header) (user : User) (id : AuditId) (size : Option ℕ)
     → by is_remote (passing headers ++ own_headers user id size) ≡ user.name ∷ user.groups
 nobody_else headers user id size =
-    no_passing is_remote headers (own_headers user id size) (λ h e. (passes_parts headers h e).2)
+    no_passing is_remote headers (own_headers user id size) (remote_not headers)
     ∙ ap (λ l. user.name ∷ l)
     (every_group is_remote user.groups (after_groups id size) (λ g. refl) ∙ ap (λ l. user.groups ++ l) (remote_cases id size) ∙ append-nil user.groups)
 
@@ -257,6 +264,54 @@ no_coding headers user id size =
     (λ h e. hop_not 4 headers h (lit< tt) e) (λ g. refl)
     ∙ coding_cases user.name id size
 
+-- ---- the values that a reader sees to whom `_` is `-`
+
+abbrev as_dashed : Header → Header
+as_dashed h = named (dashed h.name) h.value
+
+by-dashed : (q : Header → Bool) (hs : List Header) → by q (dashed_names hs) ≡ by (λ h. q (as_dashed h)) hs
+by-dashed q [] = refl
+by-dashed q (h ∷ hs) = ap (λ l. cond (q (as_dashed h)) (h.value ∷ []) [] ++ l) (by-dashed q hs)
+
+dashed_user_cases : (name : List ℕ) (id : AuditId) (size : Option ℕ)
+    → by (λ h. is_user (as_dashed h)) (named user_name name ∷ after_groups id size) ≡ name ∷ []
+dashed_user_cases name id None = refl
+dashed_user_cases name id (Some n) = refl
+
+pub one_dashed_user : (headers : List Header) (user : User) (id : AuditId) (size : Option ℕ)
+    → values_named (codes "X-Remote-User") (dashed_names (passing headers ++ own_headers user id size)) ≡ user.name ∷ []
+one_dashed_user headers user id size =
+    by-dashed is_user (passing headers ++ own_headers user id size)
+    ∙ written (λ h. is_user (as_dashed h)) headers user id size
+    (λ h e. not_named (codes "x-remote-") (codes "user") (dashed h.name) (passes_parts headers h e).2) (λ g. refl)
+    ∙ dashed_user_cases user.name id size
+
+dashed_group_cases : (id : AuditId) (size : Option ℕ) → by (λ h. is_group (as_dashed h)) (after_groups id size) ≡ []
+dashed_group_cases id None = refl
+dashed_group_cases id (Some n) = refl
+
+pub all_dashed_groups : (headers : List Header) (user : User) (id : AuditId) (size : Option ℕ)
+    → values_named (codes "X-Remote-Group") (dashed_names (passing headers ++ own_headers user id size)) ≡ user.groups
+all_dashed_groups headers user id size =
+    by-dashed is_group (passing headers ++ own_headers user id size)
+    ∙ no_passing (λ h. is_group (as_dashed h)) headers (own_headers user id size)
+    (λ h e. not_named (codes "x-remote-") (codes "group") (dashed h.name) (passes_parts headers h e).2)
+    ∙ every_group (λ h. is_group (as_dashed h)) user.groups (after_groups id size) (λ g. refl)
+    ∙ ap (λ l. user.groups ++ l) (dashed_group_cases id size) ∙ append-nil user.groups
+
+dashed_remote_cases : (id : AuditId) (size : Option ℕ) → by (λ h. is_remote (as_dashed h)) (after_groups id size) ≡ []
+dashed_remote_cases id None = refl
+dashed_remote_cases id (Some n) = refl
+
+pub nobody_else_dashed : (headers : List Header) (user : User) (id : AuditId) (size : Option ℕ)
+    → by is_remote (dashed_names (passing headers ++ own_headers user id size)) ≡ user.name ∷ user.groups
+nobody_else_dashed headers user id size =
+    by-dashed is_remote (passing headers ++ own_headers user id size)
+    ∙ no_passing (λ h. is_remote (as_dashed h)) headers (own_headers user id size) (λ h e. (passes_parts headers h e).2)
+    ∙ ap (λ l. user.name ∷ l)
+    (every_group (λ h. is_remote (as_dashed h)) user.groups (after_groups id size) (λ g. refl)
+    ∙ ap (λ l. user.groups ++ l) (dashed_remote_cases id size) ∙ append-nil user.groups)
+
 -- ---- all headers
 
 all_step : (P : Header → Type 0) (h : Header) (ks : List Header) (t : Bool) → (t ≡ true → P h) → All P ks → All P (cond t (h ∷ ks) ks)
@@ -267,8 +322,9 @@ pub all_kept : (P : Header → Type 0) (p : Header → Bool) (hs : List Header) 
 all_kept P p [] f = All-nil P
 all_kept P p (h ∷ hs) f = all_step P h (filter p hs) (p h) (f h) (all_kept P p hs f)
 
+-- also to a reader to whom `_` is `-`
 abbrev ActsForNobody : Header → Type 0
-ActsForNobody h = name_begins (codes "Impersonate-") h.name ≡ false
+ActsForNobody h = name_begins (codes "Impersonate-") (dashed h.name) ≡ false
 
 groups_act : (groups : List (List ℕ)) → All ActsForNobody (map (named (codes "X-Remote-Group")) groups)
 groups_act [] = All-nil ActsForNobody
@@ -286,13 +342,27 @@ after_act id (Some n) =
     All-cons ActsForNobody a (y ∷ z ∷ []) refl
     (All-cons ActsForNobody y (z ∷ []) refl (All-cons ActsForNobody z [] refl (All-nil ActsForNobody)))
 
-pub nobody_acts : (headers : List Header) (user : User) (host : List ℕ) (id : AuditId) (size : Option ℕ) → All ActsForNobody (named (codes "Host") host ∷ (passing headers ++ own_headers user id size))
-nobody_acts headers user host id size =
+all_act : (headers : List Header) (user : User) (host : List ℕ) (id : AuditId) (size : Option ℕ)
+    → All ActsForNobody (named (codes "Host") host ∷ (passing headers ++ own_headers user id size))
+all_act headers user host id size =
     All-cons ActsForNobody (named (codes "Host") host) (passing headers ++ own_headers user id size) refl
     (All-append ActsForNobody (passing headers) (own_headers user id size)
     (all_kept ActsForNobody (passes headers) headers (λ h e. (passes_parts headers h e).3))
     (All-cons ActsForNobody (named (codes "X-Remote-User") user.name) (map (named (codes "X-Remote-Group")) user.groups ++ after_groups id size) refl
     (All-append ActsForNobody (map (named (codes "X-Remote-Group")) user.groups) (after_groups id size) (groups_act user.groups) (after_act id size))))
+
+pub nobody_acts : (headers : List Header) (user : User) (host : List ℕ) (id : AuditId) (size : Option ℕ)
+    → All (λ (h : Header). name_begins (codes "Impersonate-") h.name ≡ false) (named (codes "Host") host ∷ (passing headers ++ own_headers user id size))
+nobody_acts headers user host id size =
+    All-weaker ActsForNobody (λ (h : Header). name_begins (codes "Impersonate-") h.name ≡ false) (λ h e. begins_not (codes "Impersonate-") h.name refl e)
+    (named (codes "Host") host ∷ (passing headers ++ own_headers user id size)) (all_act headers user host id size)
+
+pub nobody_acts_dashed : (headers : List Header) (user : User) (host : List ℕ) (id : AuditId) (size : Option ℕ)
+    → All (λ (h : Header). name_begins (codes "Impersonate-") h.name ≡ false)
+    (dashed_names (named (codes "Host") host ∷ (passing headers ++ own_headers user id size)))
+nobody_acts_dashed headers user host id size =
+    All-map (λ (h : Header). name_begins (codes "Impersonate-") h.name ≡ false) as_dashed
+    (named (codes "Host") host ∷ (passing headers ++ own_headers user id size)) (all_act headers user host id size)
 
 pub no_hops : (headers : List Header) → All (λ h. is_hop headers h ≡ false) (passing headers)
 no_hops headers = all_kept (λ h. is_hop headers h ≡ false) (passes headers) headers (λ h e. (passes_parts headers h e).0)

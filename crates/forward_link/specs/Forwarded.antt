@@ -9,6 +9,7 @@ use Rattle.http_head.specs.Name.{name_begins}
 use Rattle.http_head.specs.Written.{named, request_text}
 use Rattle.http_head.specs.declared.header.Header.{Header}
 use Rattle.http_head.specs.declared.request.Head.{Head}
+pub use Rattle.forward_link.specs.Dashed.{dash, dashed, dashed_names}
 pub use Rattle.forward_link.specs.Hop.{is_hop, is_one_of}
 use Rattle.forward_link.specs.declared.target.Target.{Target}
 use Rattle.forward_link.specs.declared.target.Target.TheVariants.{Service, Delegate}
@@ -19,9 +20,10 @@ abbrev pub own_names : List (List ℕ)
 own_names =
     codes "host" ∷ codes "content-length" ∷ codes "expect" ∷ codes "authorization" ∷ codes "audit-id" ∷ []
 
--- it says who asks, or for whom, which only the server here says
+-- it says who asks, or for whom, which only the server here says; also to those who read `_` as `-`
 abbrev pub is_identity : Header → Bool
-is_identity header = name_begins (codes "x-remote-") header.name || name_begins (codes "impersonate-") header.name
+is_identity header =
+    name_begins (codes "x-remote-") (dashed header.name) || name_begins (codes "impersonate-") (dashed header.name)
 
 -- a header of the client's passes
 abbrev pub passes : List Header → Header → Bool

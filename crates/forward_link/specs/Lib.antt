@@ -1,8 +1,10 @@
 pub mod Client
+pub mod Dashed
 pub mod Exchange
 pub mod Forwarded
 pub mod Hop
 pub mod Kinds
+pub mod Legal
 pub mod Reading
 pub mod Says
 pub mod Target

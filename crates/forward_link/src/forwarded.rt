@@ -1,5 +1,6 @@
 // The head of a request as a backend gets it.
 ghost use Rattle.std.specs.Prelude.{◌≡◌, ◌++◌, [], ◌∷◌, codes, filter, map, take, IfOk, OnOk, string_bytes};
+ghost use Rattle.http_head.specs.Name.{name_begins};
 ghost use Rattle.http_head.specs.Written.{header_lines, named};
 ghost use Rattle.forward_link.specs.Hop.{is_one_of};
 ghost use Rattle.forward_link.specs.Forwarded as spec;
@@ -21,12 +22,34 @@ fn is_own(header: &Header) -> bool
         || header.is_named("audit-id")
 }
 
+fn dash(byte: u8) -> u8
+    ensures { result ≡ spec.dash byte }
+{
+    if byte == b'_' { b'-' } else { byte }
+}
+
+// Whether the name begins so with `-` for each `_`. ASCII case is ignored.
+fn begins_dashed(name: &[u8], prefix: &[u8]) -> bool
+    ensures { result ≡ name_begins prefix.now (spec.dashed name.now) }
+{
+    if name.len() < prefix.len() {
+        return false;
+    }
+    for i in 0..prefix.len() {
+        if !dash(name[i]).eq_ignore_ascii_case(&prefix[i]) {
+            return false;
+        }
+    }
+    true
+}
+
 // Whether it says who asks or for whom, which only the server here says (Kubernetes, "Configure the Aggregation Layer", and
-// "User impersonation").
+// "User impersonation"). To a backend that is a gateway, `X_Remote_User` is the same name (RFC 3875, section 4.1.18).
 fn is_identity(header: &Header) -> bool
     ensures { result ≡ spec.is_identity header.now }
 {
-    header.name_begins("x-remote-") || header.name_begins("impersonate-")
+    let name = header.name.as_str().as_bytes();
+    begins_dashed(name, b"x-remote-") || begins_dashed(name, b"impersonate-")
 }
 
 fn passes(headers: &Headers, header: &Header) -> bool

@@ -23,15 +23,19 @@ pub fn record_reason(why: BadRecord) -> &'static str {
     match why {
         BadRecord::FewFields => "fewer than 3 columns",
         BadRecord::NotUtf8(field) => not_utf8(field),
+        BadRecord::EmptyUser => "the user is empty",
         BadRecord::Control(Field::Groups) => "the groups have a control character",
         BadRecord::Control(_) => "the user has a control character",
+        BadRecord::BlankEnds(Field::Groups) => "a group begins or ends with a space or a tab",
+        BadRecord::BlankEnds(_) => "the user begins or ends with a space or a tab",
     }
 }
 
 pub fn endpoint_reason(why: BadEndpoint) -> &'static str {
     match why {
         BadEndpoint::Fields => "not 2 columns",
-        BadEndpoint::Key => "the key is neither \"local\" nor NAMESPACE/NAME:PORT of a service",
+        BadEndpoint::Key =>
+            "the key is not \"local\", \"others\" or NAMESPACE/NAME:PORT of a service",
         BadEndpoint::Address => "the address is not A.B.C.D:PORT or localhost:PORT",
     }
 }

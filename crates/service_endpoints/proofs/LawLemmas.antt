@@ -12,7 +12,7 @@ use Rattle.front_base.specs.Cut.{cut_at}
 use Rattle.front_base.specs.Number.{number_of, has_leading_zero, plain_number_of}
 use Rattle.apiservice_rows.specs.Object.{is_name_byte, are_name_bytes, is_service_name, is_group}
 use Rattle.apiservice_rows.specs.declared.service.ServiceRef.{ServiceRef}
-use Rattle.service_endpoints.specs.Key.{IsService, delegate_key, is_key, is_port, is_service_key, service_key}
+use Rattle.service_endpoints.specs.Key.{IsService, delegate_key, is_key, is_port, is_service_key, others_key, service_key}
 use Rattle.service_endpoints.proofs.KeyLemmas.{both, own}
 
 -- ---- a text in two parts
@@ -83,6 +83,13 @@ keys_are_distinct s t hs ht e =
 pub no_delegate : (s : ServiceRef) → IsService s → service_key s ≡ delegate_key → ⊥
 unfolding cut_at
 no_delegate s h e = cc (sym (key_parts s h) ∙ ap (cut_at 47) e)
+
+pub no_others : (s : ServiceRef) → IsService s → service_key s ≡ others_key → ⊥
+unfolding cut_at
+no_others s h e = cc (sym (key_parts s h) ∙ ap (cut_at 47) e)
+
+pub delegate_apart : delegate_key ≡ others_key → ⊥
+delegate_apart e = cc e
 
 -- ---- and the key is taken
 

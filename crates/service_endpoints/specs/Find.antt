@@ -1,10 +1,10 @@
--- Where a service, or the delegate, is reached.
+-- Where a service, the delegate, or what serves the other paths is reached.
 use Rattle.std.specs.Prelude.{◌≡◌, ◌≤◌, ℕ, suc, List, [], ◌∷◌, length, Option, Some, None, option_map, bytes_eq, if◌then◌else◌, String}
 use Rattle.std.specs.BTreeMap.{BTreeMap, get_by_text}
 use Rattle.std.specs.List.{AllByRecursion}
 use Rattle.front_base.specs.declared.address.Address.{Address}
 use Rattle.apiservice_rows.specs.declared.service.ServiceRef.{ServiceRef}
-use Rattle.service_endpoints.specs.Key.{key_of}
+use Rattle.service_endpoints.specs.Key.{key_of, others_key}
 use Rattle.service_endpoints.specs.declared.endpoint.Endpoint.{Endpoint}
 use Rattle.service_endpoints.specs.declared.key.TheConstants.{MOST_KEY_BYTES}
 
@@ -21,6 +21,10 @@ last_address key (first ∷ others) =
 -- where a service is reached, or without one the delegate
 abbrev pub endpoint_of : List Endpoint → Option ServiceRef → Option Address
 endpoint_of records service = last_address (key_of service) records
+
+-- where paths go that nothing else serves
+abbrev pub others_of : List Endpoint → Option Address
+others_of records = last_address others_key records
 
 -- ---- how the code finds it
 

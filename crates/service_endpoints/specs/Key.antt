@@ -10,6 +10,10 @@ use Rattle.apiservice_rows.specs.declared.service.ServiceRef.{ServiceRef}
 abbrev pub delegate_key : List ℕ
 delegate_key = codes "local"
 
+-- the key of where paths go that nothing else serves
+abbrev pub others_key : List ℕ
+others_key = codes "others"
+
 -- the key of a service: its namespace, a slash, its name, a colon and its port in decimal
 abbrev pub service_key : ServiceRef → List ℕ
 service_key s = s.namespace ++ 47 ∷ (s.name ++ 58 ∷ decimal s.port)
@@ -37,7 +41,7 @@ unfoldable pub is_service_key : List ℕ → Bool
 is_service_key text = are_parts is_service_name is_name_and_port (cut_at 47 text)
 
 abbrev pub is_key : List ℕ → Bool
-is_key text = bytes_eq text delegate_key || is_service_key text
+is_key text = bytes_eq text delegate_key || bytes_eq text others_key || is_service_key text
 
 -- a service as an APIService may name it
 pub record IsService (s : ServiceRef) : Type 0 where

@@ -11,10 +11,10 @@ use csv::ByteRecord;
 use front_base::{Address, Text, read_address};
 use std::alloc::Global;
 
-/// The address at which a service, or the delegate, is reached.
+/// The address at which a service, the delegate, or what serves the other paths is reached.
 #[derive(Debug, Drop)]
 pub struct Endpoint {
-    /// `namespace/name:port`, or `local` for the delegate.
+    /// `namespace/name:port`, `local` for the delegate, or `others` for paths that nothing else serves.
     pub key: Text,
     pub address: Address,
 }

@@ -3,14 +3,14 @@ ghost use Rattle.service_endpoints.specs.Find as spec;
 ghost use Rattle.service_endpoints.specs.Find.{AreShort};
 
 use crate::endpoint::Endpoint;
-use crate::key::{DELEGATE, service_key};
+use crate::key::{DELEGATE, OTHERS, service_key};
 use apiservice_rows::ServiceRef;
 use front_base::{Address, NoMemory};
 use std::alloc::Global;
 use std::collections::BTreeMap;
 use std::marker::Model;
 
-/// Where services and the delegate are reached. Contracts see the list of a file's endpoints; of those with one key the
+/// Where services, the delegate, and what serves the other paths are reached. Contracts see the list of a file's endpoints; of those with one key the
 /// last counts.
 #[derive(Drop)]
 pub struct Endpoints {
@@ -84,5 +84,13 @@ impl Endpoints {
             Some(service) => self.of_service(service),
             None => self.at(DELEGATE),
         }
+    }
+
+    /// Where paths go that nothing else serves, as `/version`, `/openapi` and `/metrics` of an API server. None where the file
+    /// has no such endpoint.
+    pub fn others(&self) -> Option<Address>
+        ensures { result ≡ spec.others_of self.now }
+    {
+        self.at(OTHERS)
     }
 }

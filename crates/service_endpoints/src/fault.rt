@@ -9,7 +9,7 @@ use std::alloc::AllocFailed;
 pub enum BadEndpoint {
     /// It has fewer than two fields, or more.
     Fields,
-    /// The first field is neither `local` nor `namespace/name:port`.
+    /// The first field is not `local`, `others` or `namespace/name:port`.
     Key,
     /// The second field is no address.
     Address,

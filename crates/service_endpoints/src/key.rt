@@ -14,6 +14,9 @@ pub const MOST_KEY_BYTES: usize = 513;
 // The key of the delegate, which answers for the rows that have no service.
 pub const DELEGATE: &str = "local";
 
+// The key of where paths go that nothing else serves.
+pub const OTHERS: &str = "others";
+
 fn is_name_and_port(text: &str) -> bool
     ensures { result ≡ spec.is_name_and_port text.now }
 {
@@ -34,12 +37,12 @@ fn is_service_key(text: &str) -> bool
     }
 }
 
-// Whether a text is a service's key or the delegate's.
+// Whether a text is a service's key, the delegate's, or that of the other paths.
 pub fn is_key(text: &str) -> bool
     ensures value { result ≡ spec.is_key text.now }
     ensures short { result ≡ true → length text.now ≤ MOST_KEY_BYTES }
 {
-    text == DELEGATE || is_service_key(text)
+    text == DELEGATE || text == OTHERS || is_service_key(text)
 }
 
 // The key of a service, where it has room. The key of an endpoint always has.

@@ -1,9 +1,9 @@
 //! Where the services of APIs are reached: the endpoints file, which stands in for a look-up of their names.
 //!
 //! The main contracts are those of `read_endpoints`, which gives the endpoints of a file exactly, or the first row that
-//! is refused and why, and of `Endpoints::of`, which gives the address of the last row that has a service's key, or the
-//! delegate's. Contracts see `Endpoints` as the list of the file's rows; the code finds a key by one look-up in an
-//! ordered map, and takes no memory for it.
+//! is refused and why, and of `Endpoints::of` and `Endpoints::others`, which give the address of the last row that has a
+//! service's key or the delegate's, or the key of the paths that nothing else serves. Contracts see `Endpoints` as the
+//! list of the file's rows; the code finds a key by one look-up in an ordered map, and takes no memory for it.
 //!
 //! Nothing is promised about what answers at an address, nor about how long a look-up takes.
 #![tactic(auto)]

@@ -48,7 +48,7 @@ fn records_of(alloc: Global, rows: &[ByteRecord]) -> Result<Vec<Endpoint>, Endpo
 }
 
 /// The endpoints of a file, or its first row that is none, and why. The file is CSV of two fields: a key, which is
-/// `namespace/name:port` or `local`, and an address. Rows are read without headers.
+/// `namespace/name:port`, `local` or `others`, and an address. Rows are read without headers.
 pub fn read_endpoints(alloc: Global, bytes: &[u8]) -> Result<Endpoints, EndpointFault>
     requires { length bytes.now ≤ MOST_FILE_BYTES }
     ensures { Gives (λ e. e) result (spec.file_records bytes.now) }

@@ -33,7 +33,7 @@ const SERVICES: &str =
 {\"spec\":{\"insecureSkipTLSVerify\":true,\"caBundel\":\"\"},\"data\":1}]}";
 
 const ENDPOINTS: &str =
-    "local,127.0.0.1:1\na/b:1,127.0.0.1:2\nlocal,127.0.0.1:3\na/b:2,127.0.0.1:4\nlocal,127.0.0.1:5\n";
+    "local,127.0.0.1:1\na/b:1,127.0.0.1:2\nlocal,127.0.0.1:3\nothers,127.0.0.1:6\na/b:2,127.0.0.1:4\nlocal,127.0.0.1:5\n";
 
 #[test]
 fn what_is_not_read(rt: HostRuntime) {

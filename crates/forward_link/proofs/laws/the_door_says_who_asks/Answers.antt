@@ -1,5 +1,5 @@
 use Rattle.forward_link.specs.Forwarded.{host_of}
-use Rattle.forward_link.proofs.LawLemmas.{one_user, all_groups, nobody_else, no_credentials, nobody_acts, no_hops}
+use Rattle.forward_link.proofs.LawLemmas.{one_user, all_groups, nobody_else, no_credentials, nobody_acts, no_hops, one_dashed_user, all_dashed_groups, nobody_else_dashed, nobody_acts_dashed}
 use Rattle.forward_link.proofs.laws.the_door_says_who_asks.Goals as goal
 
 pub returns-clause-user : goal.returns-clause-user
@@ -19,3 +19,15 @@ returns-clause-acting c = λ head user target id size. nobody_acts head.headers 
 
 pub returns-clause-hops : goal.returns-clause-hops
 returns-clause-hops c = λ head user target id size. no_hops head.headers
+
+pub returns-clause-dashed_user : goal.returns-clause-dashed_user
+returns-clause-dashed_user c = λ head user target id size. one_dashed_user head.headers user id size
+
+pub returns-clause-dashed_groups : goal.returns-clause-dashed_groups
+returns-clause-dashed_groups c = λ head user target id size. all_dashed_groups head.headers user id size
+
+pub returns-clause-dashed_else : goal.returns-clause-dashed_else
+returns-clause-dashed_else c = λ head user target id size. nobody_else_dashed head.headers user id size
+
+pub returns-clause-dashed_acting : goal.returns-clause-dashed_acting
+returns-clause-dashed_acting c = λ head user target id size. nobody_acts_dashed head.headers user (host_of target) id size
