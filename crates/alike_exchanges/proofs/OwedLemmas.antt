@@ -89,12 +89,13 @@ record Keeps (l : Level) (f : Facts) : Type 0 where
   pub target : (view l f).target ≡ f.target
   pub info : (view l f).info ≡ f.info
   pub user : (view l f).user ≡ f.user
+  pub acting : (view l f).acting ≡ f.acting
 
 keeps : (l : Level) (f : Facts) → l ≢ level.None → Keeps l f
 keeps level.None f other = absurd (other refl)
-keeps level.Metadata f other = record { status = refl; target = refl; info = refl; user = refl }
-keeps level.Request f other = record { status = refl; target = refl; info = refl; user = refl }
-keeps level.RequestResponse f other = record { status = refl; target = refl; info = refl; user = refl }
+keeps level.Metadata f other = record { status = refl; target = refl; info = refl; user = refl; acting = refl }
+keeps level.Request f other = record { status = refl; target = refl; info = refl; user = refl; acting = refl }
+keeps level.RequestResponse f other = record { status = refl; target = refl; info = refl; user = refl; acting = refl }
 
 module _ (x y : Exchange) (a : AlikeExchanges x y) (other : x.decision.level ≢ level.None) where
   own : Keeps x.decision.level x.facts
@@ -114,3 +115,6 @@ module _ (x y : Exchange) (a : AlikeExchanges x y) (other : x.decision.level ≢
 
   pub user_is_seen : x.facts.user ≡ y.facts.user
   user_is_seen = sym own.user ∙ (ap (λ (v : Facts). v.user) (a.view other) ∙ its.user)
+
+  pub acting_is_seen : x.facts.acting ≡ y.facts.acting
+  acting_is_seen = sym own.acting ∙ (ap (λ (v : Facts). v.acting) (a.view other) ∙ its.acting)

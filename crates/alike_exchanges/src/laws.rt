@@ -31,12 +31,14 @@ pub fn what_exchanges_are_alike()
         → y.facts ≡ with_bodies request reply x.facts → y.offers ≡ x.offers → AlikeExchanges x y }
 {}
 
-/// Which exchanges don't look alike: two whose status, target, object or user differs, at any level but None.
+/// Which exchanges don't look alike: two whose status, target, object, user or acting user differs, at any
+/// level but None.
 pub fn what_exchanges_are_not_alike()
     ensures status { (x y : Exchange) → x.decision.level ≢ level.None → x.facts.status ≢ y.facts.status → AlikeExchanges x y → ⊥ }
     ensures target { (x y : Exchange) → x.decision.level ≢ level.None → x.facts.target ≢ y.facts.target → AlikeExchanges x y → ⊥ }
     ensures info { (x y : Exchange) → x.decision.level ≢ level.None → x.facts.info ≢ y.facts.info → AlikeExchanges x y → ⊥ }
     ensures user { (x y : Exchange) → x.decision.level ≢ level.None → x.facts.user ≢ y.facts.user → AlikeExchanges x y → ⊥ }
+    ensures acting { (x y : Exchange) → x.decision.level ≢ level.None → x.facts.acting ≢ y.facts.acting → AlikeExchanges x y → ⊥ }
 {}
 
 /// Lines of the same bays in the same order are the same where each bay has the same lines.

@@ -1,2 +1,3 @@
+mod ManagedLemmas
 mod RequestLemmas
 mod SeenLemmas

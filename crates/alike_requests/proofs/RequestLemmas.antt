@@ -5,10 +5,11 @@ use Rattle.alike_requests.specs.Alike.{AlikeSeen, SettledAlike}
 use Rattle.alike_requests.specs.Seen.{IsNoted, IsSettled, Seen, Settled, seen_of}
 use Rattle.apiservice_rows.specs.Row.{Row}
 use Rattle.audit_core.specs.Answer.{link_status, status_of}
-use Rattle.audit_core.specs.Errand.{errand_in, info_in, user_in}
-use Rattle.audit_core.specs.Exchange.{IsKeptIf, agent_in, decision_in, facts_by}
+use Rattle.audit_core.specs.Errand.{act_in, acting_in, attributes_in, errand_in, info_in, user_in}
+use Rattle.audit_core.specs.Exchange.{KeepsRequest, agent_in, decision_in, facts_by}
 use Rattle.audit_core.specs.Routing.{routed_by}
 use Rattle.audit_core.specs.declared.answered.Answered.{Answered}
+use Rattle.audit_core.specs.declared.attributes.Attributes.{Attributes}
 use Rattle.audit_core.specs.declared.link_note.LinkNote.{LinkNote}
 use Rattle.audit_core.specs.declared.offers.OfferNote.{OfferNote}
 use Rattle.audit_core.specs.declared.errand.Errand.{Errand}
@@ -30,28 +31,29 @@ use Rattle.policy_rules.specs.declared.decision.Decision.{Decision}
 use Rattle.session_core.specs.Bays.{BayState}
 use Rattle.session_core.specs.Exchange.{AnsweredBy, ExchangedTo, answered_of, errand_after, routed_of}
 use Rattle.stage_event.specs.Due.{request_due, reply_due}
-use Rattle.stage_event.specs.Kept.{IsKept}
+use Rattle.stage_event.specs.Kept.{IsKeptAs}
 use Rattle.stage_event.specs.Views.{view, shown_if}
 use Rattle.stage_event.specs.declared.facts.Facts.{Facts}
 use Rattle.stage_event.specs.declared.facts.Kept.{Kept}
+use Rattle.stage_event.specs.declared.show.Show.{Show}
 use Rattle.stream_relay.specs.declared.stream.Relayed.{Relayed}
 use Rattle.stream_relay.specs.declared.stream.Relayed.TheVariants as relayed
 
 -- the law that is called
 abbrev pub OneKept : Type 0
-OneKept = (body : List ℕ) (these those : Kept) → IsKept body these → IsKept body those → these ≡ those
+OneKept = (show : Show) (body : List ℕ) (these those : Kept) → IsKeptAs show body these → IsKeptAs show body those → these ≡ those
 
 -- ---- what the contract says of the facts of a request that was answered
 
 record Noted (set : Settings) (stamp : Stamp) (r : Request) (handling : Handling) (link : LinkNote) (x : Answered) : Type 0 where
   pub status_is : x.facts.status ≡ status_of handling link
   pub decision_is : x.decision ≡ decision_in set r
-  pub request_is : IsKeptIf (request_due (decision_in set r).level (info_in r)) r.body x.facts.request
-  pub facts_are : x.facts ≡ facts_by stamp r (info_in r) (user_in set r) x.facts.status x.facts.request x.facts.reply
+  pub request_is : KeepsRequest (decision_in set r) (attributes_in set r) r x.facts.request
+  pub facts_are : x.facts ≡ facts_by stamp r (attributes_in set r) x.facts.status x.facts.request x.facts.reply
 
-own_status : (stamp : Stamp) (r : Request) (i : Info) (u : User) (status : ℕ) (facts : Facts) → facts ≡ facts_by stamp r i u status facts.request facts.reply
-    → facts ≡ facts_by stamp r i u facts.status facts.request facts.reply
-own_status stamp r i u status facts e = e ∙ ap (λ n. facts_by stamp r i u n facts.request facts.reply) (sym (ap (λ (f : Facts). f.status) e))
+own_status : (stamp : Stamp) (r : Request) (a : Attributes) (status : ℕ) (facts : Facts) → facts ≡ facts_by stamp r a status facts.request facts.reply
+    → facts ≡ facts_by stamp r a facts.status facts.request facts.reply
+own_status stamp r a status facts e = e ∙ ap (λ n. facts_by stamp r a n facts.request facts.reply) (sym (ap (λ (f : Facts). f.status) e))
 
 noted : (set : Settings) (stamp : Stamp) (r : Request) (handling : Handling) (came : Came) (end : Relayed) (x : Answered)
     → AnsweredBy set stamp r handling came end x → Noted set stamp r handling (link_of came) x
@@ -59,60 +61,61 @@ noted set stamp r handling (once reached) relayed.Done x h = record {
   status_is = ap (λ (f : Facts). f.status) h.facts_are.facts_are;
   decision_is = h.decision_is;
   request_is = h.facts_are.request_is;
-  facts_are = own_status stamp r (info_in r) (user_in set r) _ x.facts h.facts_are.facts_are;
+  facts_are = own_status stamp r (attributes_in set r) _ x.facts h.facts_are.facts_are;
 }
 noted set stamp r handling (once reached) relayed.BackendCut x h = record {
   status_is = ap (λ (f : Facts). f.status) h.facts_are.facts_are;
   decision_is = h.decision_is;
   request_is = h.facts_are.request_is;
-  facts_are = own_status stamp r (info_in r) (user_in set r) _ x.facts h.facts_are.facts_are;
+  facts_are = own_status stamp r (attributes_in set r) _ x.facts h.facts_are.facts_are;
 }
 noted set stamp r handling (once reached) relayed.StreamSpent x h = record {
   status_is = ap (λ (f : Facts). f.status) h.facts_are.facts_are;
   decision_is = h.decision_is;
   request_is = h.facts_are.request_is;
-  facts_are = own_status stamp r (info_in r) (user_in set r) _ x.facts h.facts_are.facts_are;
+  facts_are = own_status stamp r (attributes_in set r) _ x.facts h.facts_are.facts_are;
 }
 noted set stamp r handling (once reached) relayed.WriteFault x h = record {
   status_is = ap (λ (f : Facts). f.status) h.facts_are.facts_are;
   decision_is = h.decision_is;
   request_is = h.facts_are.request_is;
-  facts_are = own_status stamp r (info_in r) (user_in set r) _ x.facts h.facts_are.facts_are;
+  facts_are = own_status stamp r (attributes_in set r) _ x.facts h.facts_are.facts_are;
 }
 noted set stamp r handling (streamed head frame after) relayed.Done x h = record {
   status_is = ap (λ (f : Facts). f.status) h.facts_are.facts_are;
   decision_is = h.decision_is;
   request_is = h.facts_are.request_is;
-  facts_are = own_status stamp r (info_in r) (user_in set r) _ x.facts h.facts_are.facts_are;
+  facts_are = own_status stamp r (attributes_in set r) _ x.facts h.facts_are.facts_are;
 }
 noted set stamp r handling (streamed head frame after) relayed.BackendCut x h = record {
   status_is = ap (λ (f : Facts). f.status) h.facts_are;
   decision_is = h.decision_is;
   request_is = h.request_is;
-  facts_are = own_status stamp r (info_in r) (user_in set r) _ x.facts h.facts_are;
+  facts_are = own_status stamp r (attributes_in set r) _ x.facts h.facts_are;
 }
 noted set stamp r handling (streamed head frame after) relayed.StreamSpent x h = record {
   status_is = ap (λ (f : Facts). f.status) h.facts_are;
   decision_is = h.decision_is;
   request_is = h.request_is;
-  facts_are = own_status stamp r (info_in r) (user_in set r) _ x.facts h.facts_are;
+  facts_are = own_status stamp r (attributes_in set r) _ x.facts h.facts_are;
 }
 noted set stamp r handling (streamed head frame after) relayed.WriteFault x h = record {
   status_is = ap (λ (f : Facts). f.status) h.facts_are;
   decision_is = h.decision_is;
   request_is = h.request_is;
-  facts_are = own_status stamp r (info_in r) (user_in set r) _ x.facts h.facts_are;
+  facts_are = own_status stamp r (attributes_in set r) _ x.facts h.facts_are;
 }
 
 -- ---- what a level records
 
 -- the facts, part by part
-parts_of : Stamp → List ℕ → Info → User → List ℕ → ℕ → Kept → Kept → Facts
-parts_of stamp target info user agent status request reply = record {
+parts_of : Stamp → List ℕ → Attributes → List ℕ → ℕ → Kept → Kept → Facts
+parts_of stamp target a agent status request reply = record {
   id = stamp.id;
   target = target;
-  info = info;
-  user = user;
+  info = a.info;
+  user = a.user;
+  acting = a.acting;
   peer = stamp.peer;
   agent = agent;
   status = status;
@@ -124,35 +127,45 @@ parts_of stamp target info user agent status request reply = record {
 }
 
 -- with bodies as they are shown
-shown_of : Stamp → List ℕ → Info → User → List ℕ → ℕ → Kept → Kept → Facts
-shown_of stamp target info user agent status request reply =
-    record (parts_of stamp target info user agent status request reply) { started = if is_long_running info then stamp.started else 0 }
+shown_of : Stamp → List ℕ → Attributes → List ℕ → ℕ → Kept → Kept → Facts
+shown_of stamp target a agent status request reply =
+    record (parts_of stamp target a agent status request reply) { started = if is_long_running a.info then stamp.started else 0 }
 
-view_is : (l : Level) (stamp : Stamp) (target : List ℕ) (info : Info) (user : User) (agent : List ℕ) (status : ℕ) (request reply : Kept) → l ≢ level.None
-    → view l (parts_of stamp target info user agent status request reply)
-    ≡ shown_of stamp target info user agent status (shown_if (request_due l info) request) (shown_if (reply_due l info) reply)
+view_is : (l : Level) (stamp : Stamp) (target : List ℕ) (a : Attributes) (agent : List ℕ) (status : ℕ) (request reply : Kept) → l ≢ level.None
+    → view l (parts_of stamp target a agent status request reply)
+    ≡ shown_of stamp target a agent status (shown_if (request_due l a.info) request) (shown_if (reply_due l a.info) reply)
 unfolding parts_of shown_of
-view_is level.None stamp target info user agent status request reply n = absurd (n refl)
-view_is level.Metadata stamp target info user agent status request reply n = refl
-view_is level.Request stamp target info user agent status request reply n = refl
-view_is level.RequestResponse stamp target info user agent status request reply n = refl
+view_is level.None stamp target a agent status request reply n = absurd (n refl)
+view_is level.Metadata stamp target a agent status request reply n = refl
+view_is level.Request stamp target a agent status request reply n = refl
+view_is level.RequestResponse stamp target a agent status request reply n = refl
 
-by_parts : (stamp : Stamp) (r : Request) (info : Info) (user : User) (status : ℕ) (request reply : Kept)
-    → facts_by stamp r info user status request reply ≡ parts_of stamp r.head.target info user (agent_in r.head.headers) status request reply
+by_parts : (stamp : Stamp) (r : Request) (a : Attributes) (status : ℕ) (request reply : Kept)
+    → facts_by stamp r a status request reply ≡ parts_of stamp r.head.target a (agent_in r.head.headers) status request reply
 unfolding parts_of
-by_parts stamp r info user status request reply = refl
+by_parts stamp r a status request reply = refl
 
-same_seen : (l : Level) (stamp other : Stamp) (target aim : List ℕ) (info intent : Info) (user owner : User) (agent client : List ℕ) (status code : ℕ)
-    (request ask reply answer : Kept) → l ≢ level.None → stamp ≡ other → target ≡ aim → info ≡ intent → user ≡ owner → agent ≡ client → status ≡ code
-    → shown_if (request_due l info) request ≡ shown_if (request_due l info) ask → shown_if (reply_due l info) reply ≡ shown_if (reply_due l info) answer
-    → view l (parts_of stamp target info user agent status request reply) ≡ view l (parts_of other aim intent owner client code ask answer)
-same_seen l stamp other target aim info intent user owner agent client status code request ask reply answer n e1 e2 e3 e4 e5 e6 e7 e8 =
-    view_is l stamp target info user agent status request reply n
-    ∙ (ap₂ (λ k j. shown_of stamp target info user agent status k j) e7 e8
-    ∙ (sym (view_is l stamp target info user agent status ask answer n)
-    ∙ (ap₂ (λ st t. view l (parts_of st t info user agent status ask answer)) e1 e2
-    ∙ (ap₂ (λ i u. view l (parts_of other aim i u agent status ask answer)) e3 e4
-    ∙ ap₂ (λ a c. view l (parts_of other aim intent owner a c ask answer)) e5 e6))))
+same_seen : (l : Level) (stamp other : Stamp) (target aim : List ℕ) (a b : Attributes) (agent client : List ℕ) (status code : ℕ)
+    (request ask reply answer : Kept) → l ≢ level.None → stamp ≡ other → target ≡ aim → a ≡ b → agent ≡ client → status ≡ code
+    → shown_if (request_due l a.info) request ≡ shown_if (request_due l a.info) ask
+    → shown_if (reply_due l a.info) reply ≡ shown_if (reply_due l a.info) answer
+    → view l (parts_of stamp target a agent status request reply) ≡ view l (parts_of other aim b client code ask answer)
+same_seen l stamp other target aim a b agent client status code request ask reply answer n e1 e2 e3 e4 e5 e6 e7 =
+    view_is l stamp target a agent status request reply n
+    ∙ (ap₂ (λ k j. shown_of stamp target a agent status k j) e6 e7
+    ∙ (sym (view_is l stamp target a agent status ask answer n)
+    ∙ (ap₂ (λ st t. view l (parts_of st t a agent status ask answer)) e1 e2
+    ∙ (ap (λ x. view l (parts_of other aim x agent status ask answer)) e3
+    ∙ ap₂ (λ x c. view l (parts_of other aim b x c ask answer)) e4 e5))))
+
+attributes_by : Info → User → Option User → Attributes
+attributes_by info user acting = record { info = info; user = user; acting = acting }
+
+same_attributes : (set : Settings) (r s : Request) → info_in r ≡ info_in s → user_in set r ≡ user_in set s → acting_in set r ≡ acting_in set s
+    → attributes_in set r ≡ attributes_in set s
+unfolding attributes_by
+same_attributes set r s i u a =
+    ap₂ (λ x y. attributes_by x y (acting_in set r)) i u ∙ ap (attributes_by (info_in s) (user_in set s)) a
 
 -- ---- of a request that was answered
 
@@ -173,12 +186,6 @@ one_noted set peer r m text n end h =
     }
 
 -- ---- two requests
-
--- a body of which the same is kept is shown alike
-same_kept : OneKept → (b : Bool) (body other : List ℕ) (k j : Kept) → IsKeptIf b body k → IsKeptIf b other j
-    → (b ≡ true → (kept : Kept) → IsKept body kept → IsKept other kept) → shown_if b k ≡ shown_if b j
-same_kept one false body other k j h g e = refl
-same_kept one true body other k j h g e = ap (shown_if true) (one other k j (e refl k h) g)
 
 by_link : (handling : Handling) (note link : LinkNote) → link_status note ≡ link_status link → status_of handling note ≡ status_of handling link
 by_link (Refused code) note link e = refl
@@ -207,24 +214,20 @@ record ShownAlike (set : Settings) (s t : Seen) : Type 0 where
       ≡ shown_if (request_due (decision_in set s.request).level (info_in s.request)) t.exchange.facts.request
 
 answered_alike : OneKept → (set : Settings) (s t : Seen) (o p : Option Settled) → IfSome o (IsSettled set s) → IfSome p (IsSettled set t)
-    → s.exchange.offers ≡ t.exchange.offers → decision_in set s.request ≡ decision_in set t.request → info_in s.request ≡ info_in t.request
-    → SettledAlike set s t o p → ShownAlike set s t
+    → s.exchange.offers ≡ t.exchange.offers → SettledAlike set s t o p → ShownAlike set s t
 unfolding status_by
-answered_alike one set s t None None h g o d i a = record { status = a.status; body = a.body }
-answered_alike one set s t None (Some other) h g o d i a = record { status = a.status; body = a.body }
-answered_alike one set s t (Some by) None h g o d i a = record { status = a.status; body = a.body }
-answered_alike one set s t (Some by) (Some other) h g o d i a =
-    let due : request_due (decision_in set s.request).level (info_in s.request) ≡ request_due (decision_in set t.request).level (info_in t.request) =
-    ap₂ (λ (own : Decision) info. request_due own.level info) d i in
+answered_alike one set s t None None h g o a = record { status = a.status; body = a.body }
+answered_alike one set s t None (Some other) h g o a = record { status = a.status; body = a.body }
+answered_alike one set s t (Some by) None h g o a = record { status = a.status; body = a.body }
+answered_alike one set s t (Some by) (Some other) h g o a =
     record {
       status =
           h.status_is
           ∙ (same_status set by.rows other.rows s.exchange.offers t.exchange.offers (errand_in set s.request) (errand_in set t.request) by.link other.link
           a.wanted a.rows o a.link
           ∙ sym g.status_is);
-      body = same_kept one (request_due (decision_in set s.request).level (info_in s.request)) s.request.body t.request.body
-          s.exchange.facts.request t.exchange.facts.request h.request_is
-          (subst (λ z. IsKeptIf z t.request.body t.exchange.facts.request) (sym due) g.request_is) a.body;
+      body = ap (shown_if (request_due (decision_in set s.request).level (info_in s.request)))
+          (one _ t.request.body s.exchange.facts.request t.exchange.facts.request (a.body s.exchange.facts.request h.request_is) g.request_is);
     }
 
 pub one_alike : OneKept → (set : Settings) (s t : Seen) → IsNoted set s → IsNoted set t → AlikeSeen set s t → AlikeExchanges s.exchange t.exchange
@@ -239,16 +242,15 @@ one_alike one set s t g h a =
       view = λ other.
           let above = λ (none : own ≡ level.None). other (at ∙ none) in
           let b = a.shown above in
-          let c = answered_alike one set s t s.settled t.settled g.answered h.answered a.offers
-          (same_decision set s.request t.request b.user b.info) b.info b.settled in
+          let c = answered_alike one set s t s.settled t.settled g.answered h.answered a.offers b.settled in
           subst (λ l. view l s.exchange.facts ≡ view l t.exchange.facts) (sym at)
-          (ap (view own) (g.facts_are ∙ by_parts s.stamp s.request (info_in s.request) (user_in set s.request) s.exchange.facts.status
+          (ap (view own) (g.facts_are ∙ by_parts s.stamp s.request (attributes_in set s.request) s.exchange.facts.status
           s.exchange.facts.request s.exchange.facts.reply)
-          ∙ (same_seen own s.stamp t.stamp s.request.head.target t.request.head.target (info_in s.request) (info_in t.request)
-          (user_in set s.request) (user_in set t.request) (agent_in s.request.head.headers) (agent_in t.request.head.headers)
+          ∙ (same_seen own s.stamp t.stamp s.request.head.target t.request.head.target (attributes_in set s.request)
+          (attributes_in set t.request) (agent_in s.request.head.headers) (agent_in t.request.head.headers)
           s.exchange.facts.status t.exchange.facts.status s.exchange.facts.request t.exchange.facts.request s.exchange.facts.reply t.exchange.facts.reply
-          above b.moments b.target b.info b.user b.agent c.status c.body b.reply
-          ∙ sym (ap (view own) (h.facts_are ∙ by_parts t.stamp t.request (info_in t.request) (user_in set t.request) t.exchange.facts.status
+          above b.moments b.target (same_attributes set s.request t.request b.info b.user b.acting) b.agent c.status c.body b.reply
+          ∙ sym (ap (view own) (h.facts_are ∙ by_parts t.stamp t.request (attributes_in set t.request) t.exchange.facts.status
           t.exchange.facts.request t.exchange.facts.reply))));
       offers = a.offers;
     }
@@ -272,13 +274,14 @@ hidden true k j e = absurd cc
 pub alike_at_metadata : (set : Settings) (s t : Seen) → (decision_in set s.request).level ≡ level.Metadata
     → s.request.head ≡ t.request.head → s.stamp ≡ t.stamp → SettledAlike set s t s.settled t.settled → s.exchange.offers ≡ t.exchange.offers
     → AlikeSeen set s t
-unfolding decision_in info_in user_in
+unfolding decision_in info_in user_in act_in
 alike_at_metadata set s t l e m a o = record {
   level = ap (λ (h : Head). (decision_in set (record { head = h; body = [] })).level) e;
   shown = λ other. record {
     target = ap (λ (h : Head). h.target) e;
     info = ap (λ (h : Head). info_in (record { head = h; body = [] })) e;
     user = ap (λ (h : Head). user_in set (record { head = h; body = [] })) e;
+    acting = ap (λ (h : Head). acting_in set (record { head = h; body = [] })) e;
     agent = ap (λ (h : Head). agent_in h.headers) e;
     moments = m;
     settled = a;

@@ -4,8 +4,8 @@ use mathlib.Core.Logic.{inl, inr}
 use Rattle.apiservice_rows.specs.Row.{Row}
 use Rattle.apiservice_table.specs.Changes.{after}
 use Rattle.audit_core.specs.Answer.{status_of}
-use Rattle.audit_core.specs.Errand.{errand_in, info_in, user_in}
-use Rattle.audit_core.specs.Exchange.{IsKeptIf, decision_in, facts_by}
+use Rattle.audit_core.specs.Errand.{attributes_in, errand_in}
+use Rattle.audit_core.specs.Exchange.{KeepsRequest, decision_in, facts_by}
 use Rattle.audit_core.specs.Routing.{routed_by}
 use Rattle.audit_core.specs.declared.link_note.LinkNote.{LinkNote}
 use Rattle.audit_core.specs.declared.settings.Settings.{Settings}
@@ -18,7 +18,6 @@ use Rattle.session_core.specs.Exchange.{ExchangedTo, errand_after}
 use Rattle.session_core.specs.declared.conn_end.ConnEnd.{ConnEnd}
 use Rattle.session_core.specs.declared.conn_end.ConnEnd.TheVariants as conn_end
 use Rattle.session_core.specs.declared.exchange.Exchange.{Exchange}
-use Rattle.stage_event.specs.Due.{request_due}
 use Rattle.stream_relay.specs.declared.stream.Relayed.{Relayed}
 use Rattle.stream_relay.specs.declared.stream.Relayed.TheVariants as relayed
 
@@ -41,13 +40,13 @@ noted_by all = map (λ (s : Seen). s.exchange) all
 pub record IsSettled (set : Settings) (s : Seen) (by : Settled) : Type 0 where
   pub status_is : s.exchange.facts.status
       ≡ status_of (routed_by set.endpoints by.rows (errand_after set s.exchange.offers (errand_in set s.request))).handling by.link
-  pub request_is : IsKeptIf (request_due (decision_in set s.request).level (info_in s.request)) s.request.body s.exchange.facts.request
+  pub request_is : KeepsRequest (decision_in set s.request) (attributes_in set s.request) s.request s.exchange.facts.request
 
 -- what was noted is how that request is recorded, and its facts
 pub record IsNoted (set : Settings) (s : Seen) : Type 0 where
   pub decision_is : s.exchange.decision ≡ decision_in set s.request
   pub facts_are : s.exchange.facts
-      ≡ facts_by s.stamp s.request (info_in s.request) (user_in set s.request) s.exchange.facts.status s.exchange.facts.request s.exchange.facts.reply
+      ≡ facts_by s.stamp s.request (attributes_in set s.request) s.exchange.facts.status s.exchange.facts.request s.exchange.facts.reply
   pub answered : IfSome s.settled (IsSettled set s)
 
 abbrev pub AreNoted : Settings → List Seen → Type 0

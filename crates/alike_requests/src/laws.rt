@@ -1,15 +1,23 @@
-ghost use Rattle.std.specs.Prelude.{◌≡◌, ◌++◌, List, Some};
+ghost use Rattle.std.specs.Prelude.{◌≡◌, ◌≤◌, ◌++◌, List, Some, length, true};
 ghost use Rattle.alike_exchanges.specs.Alike.{AlikeExchanges};
 ghost use Rattle.alike_requests.specs.Alike.{AlikeSeen, SettledAlike};
 ghost use Rattle.alike_requests.specs.Seen.{AreNoted, Seen, door_seen, noted_by};
-ghost use Rattle.audit_core.specs.Exchange.{decision_in};
+ghost use Rattle.audit_core.specs.Exchange.{KeepsRequest, decision_in};
+ghost use Rattle.audit_core.specs.declared.attributes.Attributes.{Attributes};
 ghost use Rattle.audit_core.specs.declared.settings.Settings.{Settings};
 ghost use Rattle.bay_runs.specs.Runs.{ConnTells, Ran, ServedConn};
 ghost use Rattle.front_base.specs.declared.level.Level.TheVariants as level;
+ghost use Rattle.http_edge.specs.declared.request.Request.{Request};
+ghost use Rattle.json_prune.specs.Prune.{managed};
+ghost use Rattle.json_span.specs.Value.{StandsFor, Value};
+ghost use Rattle.policy_rules.specs.declared.decision.Decision.{Decision};
 ghost use Rattle.role_threads.specs.Lists.{AllPairs};
 ghost use Rattle.session_core.specs.Bays.{BayState};
 ghost use Rattle.session_core.specs.declared.exchange.Exchange.{Exchange};
+ghost use Rattle.stage_event.specs.declared.facts.Kept.{Kept};
+ghost use Rattle.stage_event.specs.declared.keeping.TheConstants.{MOST_KEPT_BYTES};
 
+use json_span::one_value;
 use stage_event::one_kept;
 
 /// Of a door: a diary that is told has what was noted of its requests and no other, and each is how its request is recorded.
@@ -38,3 +46,14 @@ pub fn what_requests_are_alike()
         → s.request.head ≡ t.request.head → s.stamp ≡ t.stamp → SettledAlike set s t s.settled t.settled
         → s.exchange.offers ≡ t.exchange.offers → AlikeSeen set s t }
 {}
+
+/// Bodies that differ in managed fields alone look alike where managed fields are omitted: the same is kept of both.
+pub fn managed_fields_are_not_seen()
+    ensures { (d other : Decision) (a b : Attributes) (r s : Request) (v w : Value) (kept : Kept)
+        → d.omit_managed ≡ true → other ≡ d → a ≡ b
+        → length r.body ≤ MOST_KEPT_BYTES → length s.body ≤ MOST_KEPT_BYTES
+        → StandsFor r.body v → StandsFor s.body w → managed v ≡ managed w
+        → KeepsRequest d a r kept → KeepsRequest other b s kept }
+{
+    one_value();
+}

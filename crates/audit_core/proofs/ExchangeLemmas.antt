@@ -11,8 +11,10 @@ use Rattle.stage_event.specs.Events.{event}
 use Rattle.stage_event.specs.Views.{with_bodies}
 use Rattle.stage_event.specs.declared.facts.Facts.{Facts}
 use Rattle.stage_event.specs.declared.facts.Kept.{Kept}
+use Rattle.token_users.specs.Act.{act_of}
 use Rattle.token_users.specs.Who.{who, user_of}
-use Rattle.audit_core.specs.Errand.{user_in, info_in}
+use Rattle.audit_core.proofs.JudgedLemmas.{attributes_are}
+use Rattle.audit_core.specs.Errand.{user_in, act_in, other_of, info_in, attributes_in}
 use Rattle.audit_core.specs.Exchange.{IsAnswered, facts_by, decision_in}
 use Rattle.audit_core.specs.Owed.{events_at, stages_due, owed_at, owed}
 use Rattle.audit_core.specs.Answer.{status_of}
@@ -36,14 +38,22 @@ unfolding decision_in
 same_decision set r q e =
     ap (λ u. first set.policy u (info_in r)) (same_user set r q e) ∙ ap (first set.policy (user_in set q)) (same_info r q e)
 
+same_act : (set : Settings) (r q : Request) → r.head ≡ q.head → act_in set r ≡ act_in set q
+unfolding act_in
+same_act set r q e = ap (λ (h : Head). act_of (who set.tokens h) h) e
+
+same_attributes : (set : Settings) (r q : Request) → r.head ≡ q.head → attributes_in set r ≡ attributes_in set q
+same_attributes set r q e =
+    sym (attributes_are set r (info_in q) (user_in set q) (act_in set q) (other_of (act_in set q)) (sym (same_info r q e))
+    (sym (same_user set r q e)) (sym (same_act set r q e)) refl)
+
 -- the same facts but for the bodies
 same_facts : (set : Settings) (stamp : Stamp) (r q : Request) (n m : ℕ) (a b : Kept) → r.head ≡ q.head → n ≡ m
-    → facts_by stamp r (info_in r) (user_in set r) n a b ≡ facts_by stamp q (info_in q) (user_in set q) m a b
+    → facts_by stamp r (attributes_in set r) n a b ≡ facts_by stamp q (attributes_in set q) m a b
 same_facts set stamp r q n m a b e s =
-    ap (λ (h : Head). facts_by stamp (record { head = h; body = r.body }) (info_in r) (user_in set r) n a b) e
-    ∙ ap (λ i. facts_by stamp q i (user_in set r) n a b) (same_info r q e)
-    ∙ ap (λ u. facts_by stamp q (info_in q) u n a b) (same_user set r q e)
-    ∙ ap (λ k. facts_by stamp q (info_in q) (user_in set q) k a b) s
+    ap (λ (h : Head). facts_by stamp (record { head = h; body = r.body }) (attributes_in set r) n a b) e
+    ∙ ap (λ i. facts_by stamp q i n a b) (same_attributes set r q e)
+    ∙ ap (λ k. facts_by stamp q (attributes_in set q) k a b) s
 
 -- a level hides the bodies from every event
 abbrev pub HidesBodies : Type 0

@@ -11,12 +11,17 @@ use Rattle.policy_rules.specs.declared.decision.Decision.{Decision}
 use Rattle.request_info.specs.Parts.{from_first, to_last, parts_of}
 use Rattle.request_info.specs.Request.{info_of, recorded, audit_info}
 use Rattle.request_info.specs.declared.fault.InfoFault.{InfoFault}
+use Rattle.stage_event.specs.Views.{or_own}
+use Rattle.token_users.specs.Act.{act_of, user_acting}
+use Rattle.token_users.specs.declared.acting.Act.{Act}
+use Rattle.token_users.specs.declared.acting.Act.TheVariants.{Own, As, Unserved, Bad, Forbidden}
 use Rattle.token_users.specs.Who.{user_of}
 use Rattle.token_users.specs.declared.asker.Who.{Who}
-use Rattle.audit_core.specs.Errand.{asker, user_in, info_in, is_bad, is_refused, is_unknown, is_unserved, path_errand, first_errand, errand_in}
+use Rattle.audit_core.specs.Errand.{asker, user_in, act_in, other_of, info_in, attributes_in, is_bad, is_refused, is_unknown, is_upgrade, act_refusal, path_errand, first_errand, own_errand, errand_in}
 use Rattle.audit_core.specs.Exchange.{IsAsked, decision_in}
 use Rattle.audit_core.specs.Route.{Route, route_by, route_of}
 use Rattle.audit_core.specs.Unread.{is_unread}
+use Rattle.audit_core.specs.declared.attributes.Attributes.{Attributes}
 use Rattle.audit_core.specs.declared.errand.Errand.{Errand}
 use Rattle.audit_core.specs.declared.judged.Asked.{Asked}
 use Rattle.audit_core.specs.declared.settings.Settings.{Settings}
@@ -30,22 +35,46 @@ pub user_is : (set : Settings) (r : Request) (who : Who) (user : User) → who �
 unfolding user_in
 user_is set r who user e f = f ∙ ap user_of e
 
-pub errand_is : (set : Settings) (r : Request) (who : Who) (bad unknown : Bool) (info : Info) (user : User) (errand : Errand)
-    → who ≡ asker set r → unknown ≡ is_unknown who → bad ≡ is_bad r → info ≡ info_in r
-    → user ≡ user_in set r
-    → errand ≡ first_errand bad unknown (list_any is_unserved r.head.headers)
-    (path_errand info r.head.method r.body user (local_of info.path))
-    → errand ≡ errand_in set r
+-- what the code takes a request's errand from
+abbrev errand_from : Request → Bool → Bool → Act → User → Info → Errand
+errand_from r bad unknown act user info =
+    first_errand bad unknown (list_any is_upgrade r.head.headers) (act_refusal act)
+    (path_errand info r.head.method r.body (user_acting act user) (local_of info.path))
+
+pub effective_is : (act : Act) (own : User) → user_acting act own ≡ or_own (other_of act) own
+effective_is Own own = refl
+effective_is (As user) own = refl
+effective_is Unserved own = refl
+effective_is Bad own = refl
+effective_is Forbidden own = refl
+
+pub act_is : (set : Settings) (r : Request) (who : Who) (act : Act) → who ≡ asker set r → act ≡ act_of who r.head → act ≡ act_in set r
+unfolding act_in
+act_is set r who act w e = e ∙ ap (λ x. act_of x r.head) w
+
+pub errand_is : (set : Settings) (r : Request) (bad unknown : Bool) (act : Act) (user : User) (info : Info) (errand : Errand)
+    → bad ≡ is_bad r → unknown ≡ is_unknown (asker set r) → act ≡ act_in set r → user ≡ user_in set r → info ≡ info_in r
+    → errand ≡ errand_from r bad unknown act user info → errand ≡ errand_in set r
 unfolding errand_in
-errand_is set r who bad unknown info user errand w k b i u e =
+errand_is set r bad unknown act user info errand b k a u i e =
     e
-    ∙ ap (λ x. first_errand x unknown (list_any is_unserved r.head.headers) (path_errand info r.head.method r.body user (local_of info.path))) b
-    ∙ ap (λ x. first_errand (is_bad r) x (list_any is_unserved r.head.headers)
-    (path_errand info r.head.method r.body user (local_of info.path))) (k ∙ ap is_unknown w)
-    ∙ ap (λ x. first_errand (is_bad r) (is_unknown (asker set r)) (list_any is_unserved r.head.headers)
-    (path_errand x r.head.method r.body user (local_of x.path))) i
-    ∙ ap (λ x. first_errand (is_bad r) (is_unknown (asker set r)) (list_any is_unserved r.head.headers)
-    (path_errand (info_in r) r.head.method r.body x (local_of (info_in r).path))) u
+    ∙ ap (λ x. errand_from r x unknown act user info) b
+    ∙ ap (λ x. errand_from r (is_bad r) x act user info) k
+    ∙ ap (λ x. errand_from r (is_bad r) (is_unknown (asker set r)) x user info) a
+    ∙ ap (λ x. errand_from r (is_bad r) (is_unknown (asker set r)) (act_in set r) x info) u
+    ∙ ap (λ x. errand_from r (is_bad r) (is_unknown (asker set r)) (act_in set r) (user_in set r) x) i
+    ∙ ap (λ x. first_errand (is_bad r) (is_unknown (asker set r)) (list_any is_upgrade r.head.headers) (act_refusal (act_in set r))
+    (path_errand (info_in r) r.head.method r.body x (local_of (info_in r).path))) (effective_is (act_in set r) (user_in set r))
+
+pub attributes_are : (set : Settings) (r : Request) (info : Info) (user : User) (act : Act) (other : Option User) → info ≡ info_in r
+    → user ≡ user_in set r → act ≡ act_in set r → other ≡ other_of act
+    → record { info = info; user = user; acting = other } ≡ attributes_in set r
+attributes_are set r info user act other i u a o =
+    ap (λ x. attributes_by x user other) i ∙ ap (λ x. attributes_by (info_in r) x other) u
+    ∙ ap (attributes_by (info_in r) (user_in set r)) (o ∙ ap other_of a)
+  where
+    attributes_by : Info → User → Option User → Attributes
+    attributes_by info user acting = record { info = info; user = user; acting = acting }
 
 pub decision_is : (set : Settings) (r : Request) (user : User) (info : Info) (decision : Decision) → user ≡ user_in set r → info ≡ info_in r
     → decision ≡ first set.policy user info → decision ≡ decision_in set r
@@ -82,24 +111,21 @@ or_true true b e = refl
 or_true false b e = e
 
 module _ (set : Settings) (r : Request) where
-  pub bad_first : (bad : Bool) → is_bad r ≡ bad
-      → errand_in set r ≡ first_errand bad (is_unknown (asker set r)) (list_any is_unserved r.head.headers)
-      (path_errand (info_in r) r.head.method r.body (user_in set r) (local_of (info_in r).path))
+  abbrev pub from_here : Bool → Bool → Bool → Option ℕ → Errand
+  from_here bad unknown upgrade refused = first_errand bad unknown upgrade refused (own_errand set r)
+
+  pub in_order : (bad unknown upgrade : Bool) (refused : Option ℕ) → is_bad r ≡ bad → is_unknown (asker set r) ≡ unknown
+      → list_any is_upgrade r.head.headers ≡ upgrade → act_refusal (act_in set r) ≡ refused
+      → errand_in set r ≡ from_here bad unknown upgrade refused
   unfolding errand_in
-  bad_first bad e =
-      ap (λ x. first_errand x (is_unknown (asker set r)) (list_any is_unserved r.head.headers)
-      (path_errand (info_in r) r.head.method r.body (user_in set r) (local_of (info_in r).path))) e
+  in_order bad unknown upgrade refused b k u a =
+      ap (λ x. from_here x (is_unknown (asker set r)) (list_any is_upgrade r.head.headers) (act_refusal (act_in set r))) b
+      ∙ ap (λ x. from_here bad x (list_any is_upgrade r.head.headers) (act_refusal (act_in set r))) k
+      ∙ ap (λ x. from_here bad unknown x (act_refusal (act_in set r))) u
+      ∙ ap (from_here bad unknown upgrade) a
 
   pub target_bad : (fault : InfoFault) → info_of r.head.method r.head.target ≡ Err fault → is_bad r ≡ true
   target_bad fault e = ap (λ x. is_refused x || is_unread (info_in r).path r.head.target) e
 
   pub unread_bad : is_unread (info_in r).path r.head.target ≡ true → is_bad r ≡ true
   unread_bad e = or_true (is_refused (info_of r.head.method r.head.target)) _ e
-
-  pub token_next : (unknown : Bool) → is_bad r ≡ false → is_unknown (asker set r) ≡ unknown
-      → errand_in set r ≡ first_errand false unknown (list_any is_unserved r.head.headers)
-      (path_errand (info_in r) r.head.method r.body (user_in set r) (local_of (info_in r).path))
-  token_next unknown e u =
-      bad_first false e
-      ∙ ap (λ x. first_errand false x (list_any is_unserved r.head.headers)
-      (path_errand (info_in r) r.head.method r.body (user_in set r) (local_of (info_in r).path))) u

@@ -3,3 +3,4 @@ mod JudgedLemmas
 mod OwedLemmas
 mod RoutingLemmas
 mod StoryLemmas
+mod UserLemmas

@@ -11,8 +11,9 @@ use Rattle.local_replies.specs.declared.errand.LocalErrand.{LocalErrand}
 use Rattle.local_replies.specs.declared.errand.LocalErrand.TheVariants.{Deny, Look, Write}
 use Rattle.local_replies.specs.declared.local.Local.{Local}
 use Rattle.local_replies.specs.declared.reply.LocalReply.{LocalReply}
+use Rattle.service_endpoints.specs.Find.{others_of}
 use Rattle.service_endpoints.specs.declared.endpoint.Endpoint.{Endpoint}
-use Rattle.audit_core.specs.Routing.{Decides, routed_by, made, made_by, changes_in, api_of}
+use Rattle.audit_core.specs.Routing.{Decides, routed_by, made, made_by, changes_in, api_of, others_at}
 use Rattle.audit_core.specs.declared.errand.Errand.{Errand}
 use Rattle.audit_core.specs.declared.errand.Errand.TheVariants as errand
 use Rattle.audit_core.specs.declared.routed.Handling.{Handling}
@@ -42,6 +43,11 @@ module _ (ends : List Endpoint) (opening : List Row) (seen : List Change) (own :
       unchanged
       (errand.Route group version) _ later
       (ap (λ x. record { row = found; handling = x }) h ∙ ap (λ x. record { row = x; handling = api_of ends x }) f) refl o
+
+  pub other_so : (handling : Handling) → now ≡ seen → new_own ≡ own → handling ≡ others_at (others_of ends)
+      → Decides ends errand.Other opening seen own now new_own (record { row = None; handling = handling })
+  other_so handling s o h =
+      unchanged errand.Other _ ([], s ∙ sym (append-nil seen)) (ap (λ x. record { row = None; handling = x }) h) refl o
 
   module _ (local : Local) (later : IsLater seen now) where
     abbrev pub served : LocalReply → Option Change → Routed

@@ -1,6 +1,6 @@
 -- What a request is answered (Kubernetes, "API Aggregation Layer").
 use Rattle.std.specs.Prelude.{ℕ, List}
-use Rattle.local_replies.specs.Status.{refusal}
+use Rattle.local_replies.specs.Status.{front_refusal}
 use Rattle.audit_core.specs.declared.link_note.LinkNote.{LinkNote}
 use Rattle.audit_core.specs.declared.link_note.LinkNote.TheVariants.{NotUsed, Whole, Streamed, DialFailed, BadReply, Cut, LinkFault}
 use Rattle.audit_core.specs.declared.routed.Handling.{Handling}
@@ -27,7 +27,7 @@ status_of (Proxied target) note = link_status note
 -- ---- the body, where a link gave this
 
 abbrev pub refused_body : ℕ → List ℕ
-refused_body code = (refusal code).body
+refused_body code = (front_refusal code).body
 
 abbrev pub link_body : LinkNote → List ℕ → List ℕ
 link_body NotUsed body = refused_body 503

@@ -91,11 +91,12 @@ is_first stage.ResponseStarted = false
 is_first stage.ResponseComplete = false
 is_first stage.Panic = false
 
+-- nothing was written: a write failed, or even the line without objects was too long
 abbrev pub is_failed : Outcome → Bool
 is_failed Taken = false
 is_failed Full = false
 is_failed Failed = true
-is_failed (TooLarge size) = false
+is_failed (TooLarge size) = true
 
 abbrev pub refuses : Settings → OfferNote → Bool
 refuses set note = is_first note.stage && (is_strict (mode_of set note.sink) && is_failed note.outcome)

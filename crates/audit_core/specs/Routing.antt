@@ -12,7 +12,7 @@ use Rattle.front_base.specs.declared.address.Address.{Address}
 use Rattle.local_replies.specs.Serve.{local_reply}
 use Rattle.local_replies.specs.declared.errand.LocalErrand.{LocalErrand}
 use Rattle.local_replies.specs.declared.errand.LocalErrand.TheVariants.{Deny, Look, Write}
-use Rattle.service_endpoints.specs.Find.{endpoint_of}
+use Rattle.service_endpoints.specs.Find.{endpoint_of, others_of}
 use Rattle.service_endpoints.specs.declared.endpoint.Endpoint.{Endpoint}
 use Rattle.audit_core.specs.declared.errand.Errand.{Errand}
 use Rattle.audit_core.specs.declared.errand.Errand.TheVariants as errand
@@ -42,6 +42,13 @@ abbrev pub api_of : List Endpoint → Option Row → Handling
 api_of ends None = Refused 404
 api_of ends (Some own) = backend_of ends own.available own.service
 
+-- ---- the server of all other paths
+
+-- where nobody named one, they are found nowhere
+abbrev pub others_at : Option Address → Handling
+others_at None = Refused 404
+others_at (Some address) = Proxied (Delegate address)
+
 -- ---- the change that a local path makes
 
 -- a change that is made unless a refusal is due
@@ -60,12 +67,14 @@ abbrev pub handling_of : List Endpoint → List Row → Errand → Handling
 handling_of ends rows (errand.Refuse code) = Refused code
 handling_of ends rows (errand.Serve local own) = Served local (local_reply rows local own) (local_made rows own)
 handling_of ends rows (errand.Route group version) = api_of ends (row group version rows)
+handling_of ends rows errand.Other = others_at (others_of ends)
 
 -- the row that decides on it, if one does
 abbrev pub row_for : List Row → Errand → Option Row
 row_for rows (errand.Refuse code) = None
 row_for rows (errand.Serve local own) = None
 row_for rows (errand.Route group version) = row group version rows
+row_for rows errand.Other = None
 
 abbrev pub routed_by : List Endpoint → List Row → Errand → Routed
 routed_by ends rows own = record { row = row_for rows own; handling = handling_of ends rows own }
@@ -77,6 +86,7 @@ abbrev pub made : List Row → Errand → Option Change
 made rows (errand.Refuse code) = None
 made rows (errand.Serve local own) = local_made rows own
 made rows (errand.Route group version) = None
+made rows errand.Other = None
 
 abbrev pub changes_in : Option Change → List Change
 changes_in None = []

@@ -18,6 +18,8 @@ pub enum Errand {
     Serve(Local, LocalErrand),
     /// The API of a group and a version, which is a backend's.
     Route { group: Text, version: Text },
+    /// A path that is none of these, which is for the server of all others.
+    Other,
 }
 
 // What a request wants that is for no local path.
@@ -25,7 +27,7 @@ fn route_errand(alloc: Global, path: &str) -> Result<Errand, NoMemory>
     ensures { IfOk result (λ errand. errand ≡ spec.route_errand (route_of path.now)) }
 {
     let Some(route) = route_of(alloc, path)? else {
-        return Ok(Errand::Refuse(404));
+        return Ok(Errand::Other);
     };
     Ok(Errand::Route {
         group: Text::copy_of(alloc, route.group)?,
@@ -33,7 +35,7 @@ fn route_errand(alloc: Global, path: &str) -> Result<Errand, NoMemory>
     })
 }
 
-/// What a request wants by its path, where nothing stands in its way.
+/// What a request wants by its path, where nothing stands in its way. The user is the one as whom it is served.
 pub fn path_errand(
     alloc: Global,
     paths: &LocalPaths,

@@ -1,14 +1,16 @@
-ghost use Rattle.std.specs.Prelude.{◌≡◌, ◌≤◌, Result, Err, List, [], ℕ, true, false, length};
+ghost use Rattle.std.specs.Prelude.{◌≡◌, ◌≤◌, Result, Err, List, [], ℕ, Some, Contains, codes, true, false, length};
 ghost use Rattle.std.specs.List.{AllByRecursion};
 ghost use Rattle.std.specs.List.{list_any};
 ghost use Rattle.apiservice_rows.specs.Row.{Row};
 ghost use Rattle.apiservice_table.specs.Changes.{placed, rows_of, Story};
 ghost use Rattle.front_base.specs.declared.level.Level.TheVariants as level;
+ghost use Rattle.front_base.specs.declared.user.User.{User};
 ghost use Rattle.http_edge.specs.declared.request.Request.{Request};
 ghost use Rattle.request_info.specs.Request.{info_of};
 ghost use Rattle.service_endpoints.specs.declared.endpoint.Endpoint.{Endpoint};
 ghost use Rattle.stage_event.specs.declared.event.Event.{Event};
 ghost use Rattle.request_info.specs.declared.fault.InfoFault.{InfoFault};
+ghost use Rattle.token_users.specs.Act.{acting};
 ghost use Rattle.token_users.specs.declared.asker.Who.TheVariants as who;
 ghost use Rattle.audit_core.specs.Answer.{status_of};
 ghost use Rattle.audit_core.specs.Errand as errand;
@@ -25,11 +27,12 @@ ghost use Rattle.audit_core.specs.declared.settings.Settings.{Settings};
 ghost use Rattle.audit_core.specs.declared.stamp.Stamp.{Stamp};
 ghost use Rattle.audit_core.specs.Unread.{is_unread};
 
-use stage_event::levels_hide;
+use stage_event::{both_users_are_shown, levels_hide};
+use token_users::only_masters_act_as_others;
 use truncate_backend::what_fits;
 
-/// A target that is refused, or a selector on APIServices, counts before the token, an unknown token before the headers that ask for
-/// what isn't served, and these before the path.
+/// A target that is refused, or a selector on APIServices, counts before the token, an unknown token before the headers
+/// that ask for another protocol, these before those that ask to act as another user, and all of them before the path.
 pub fn refusals_come_in_order()
     ensures target { (set : Settings) (r : Request) (fault : InfoFault)
         → info_of r.head.method r.head.target ≡ Err fault → errand.errand_in set r ≡ want.Refuse 400 }
@@ -37,9 +40,28 @@ pub fn refusals_come_in_order()
         → errand.errand_in set r ≡ want.Refuse 400 }
     ensures token { (set : Settings) (r : Request) → errand.is_bad r ≡ false → errand.asker set r ≡ who.BadToken
         → errand.errand_in set r ≡ want.Refuse 401 }
-    ensures header { (set : Settings) (r : Request) → errand.is_bad r ≡ false → errand.is_unknown (errand.asker set r) ≡ false
-        → list_any errand.is_unserved r.head.headers ≡ true → errand.errand_in set r ≡ want.Refuse 501 }
+    ensures upgrade { (set : Settings) (r : Request) → errand.is_bad r ≡ false → errand.is_unknown (errand.asker set r) ≡ false
+        → list_any errand.is_upgrade r.head.headers ≡ true → errand.errand_in set r ≡ want.Refuse 501 }
+    ensures acting { (set : Settings) (r : Request) (code : ℕ) → errand.is_bad r ≡ false
+        → errand.is_unknown (errand.asker set r) ≡ false → list_any errand.is_upgrade r.head.headers ≡ false
+        → errand.act_refusal (errand.act_in set r) ≡ Some code → errand.errand_in set r ≡ want.Refuse code }
 {}
+
+/// A request is served as the user that it acts as, which is the one that authenticated where it acts as no other; it acts
+/// as another only where the one that authenticated is of `system:masters`; and each of its events shows both.
+pub fn users_are_told_apart()
+    ensures effective { (set : Settings) (r : Request)
+        → errand.effective_in set r ≡ acting (errand.asker set r) r.head }
+    ensures masters { (set : Settings) (r : Request) (user : User) → errand.acting_in set r ≡ Some user
+        → Contains (errand.user_in set r).groups (codes "system:masters") }
+    ensures shown { (set : Settings) (stamp : Stamp) (r : Request) (handling : Handling) (note : LinkNote) (body : List ℕ)
+        (x : Answered) → IsAnswered set stamp r handling note body x
+        → AllByRecursion (λ (e : Event). (e.user ≡ errand.user_in set r) × (e.impersonated ≡ errand.acting_in set r))
+        (owed x.decision x.facts) }
+{
+    only_masters_act_as_others();
+    both_users_are_shown();
+}
 
 /// Where all changes that the routes see are their own, an errand is handled by the rows as they stood before it.
 pub fn one_thread_decides()

@@ -11,6 +11,7 @@
 
 mod answer;
 mod answered;
+mod attributes;
 mod errand;
 mod facts;
 mod judged;
@@ -29,16 +30,17 @@ mod unread;
 
 pub use answer::{kept_answer, status_of};
 pub use answered::Answered;
+pub use attributes::Attributes;
 pub use errand::Errand;
-pub use facts::{facts_of, kept_sent};
+pub use facts::{facts_of, first_facts, kept_sent};
 pub use judged::{Judged, judge};
 pub use laws::{
     lines_fit, metadata_shows_no_body, none_owes_nothing, one_thread_decides,
-    refusals_come_in_order,
+    refusals_come_in_order, users_are_told_apart,
 };
 pub use link_note::LinkNote;
-pub use offers::{OfferNote, Offers, Outcome};
-pub use owed::{LineForm, push_owed};
+pub use offers::{OfferNote, Offers, Outcome, has_refused};
+pub use owed::{LineForm, omits, push_owed};
 pub use routed::{Handling, Routed};
 pub use routing::handle_errand;
 pub use settings::Settings;

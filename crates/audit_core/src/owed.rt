@@ -19,7 +19,8 @@ pub struct LineForm {
     pub end: u8,
 }
 
-fn omits(omit: Omit, stage: Stage) -> bool
+/// Whether the stage is left out.
+pub fn omits(omit: Omit, stage: Stage) -> bool
     ensures { result ≡ spec.omits omit stage }
 {
     match stage {

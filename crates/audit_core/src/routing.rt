@@ -1,6 +1,7 @@
 // How an errand is handled, over any routes.
 ghost use Rattle.std.specs.Prelude.{◌≡◌, Some, None, IfOk, OnErr, true};
 ghost use Rattle.apiservice_table.specs.Changes.{IsLater};
+ghost use Rattle.service_endpoints.specs.Find.{others_of};
 ghost use Rattle.audit_core.specs.Routing as spec;
 ghost use Rattle.audit_core.specs.declared.errand.Errand.TheVariants as want;
 
@@ -116,6 +117,15 @@ fn route_local<R: Routes>(
     })
 }
 
+fn others_at(endpoints: &Endpoints) -> Handling
+    ensures { result ≡ spec.others_at (others_of endpoints.now) }
+{
+    match endpoints.others() {
+        Some(address) => Handling::Proxied(Target::Delegate { address }),
+        None => Handling::Refused(404),
+    }
+}
+
 /// Decides how an errand is handled, and makes the change that it asks for where the table takes it. Where memory ran out,
 /// no change was made.
 pub fn handle_errand<R: Routes>(
@@ -137,5 +147,9 @@ pub fn handle_errand<R: Routes>(
         }),
         Errand::Serve(local, own) => route_local(alloc, local, own, routes),
         Errand::Route { group, version } => route_api(alloc, endpoints, &group, &version, routes),
+        Errand::Other => Ok(Routed {
+            row: None,
+            handling: others_at(endpoints),
+        }),
     }
 }

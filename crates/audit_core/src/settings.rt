@@ -1,4 +1,7 @@
-use crate::sinks::SinkMode;
+ghost use Rattle.std.specs.Prelude.{◌≡◌};
+ghost use Rattle.audit_core.specs.Offers as spec;
+
+use crate::sinks::{Sink, SinkMode};
 use policy_rules::Policy;
 use service_endpoints::Endpoints;
 use token_users::Tokens;
@@ -18,4 +21,16 @@ pub struct Settings {
     pub log: SinkMode,
     /// How events go to the webhook.
     pub hook: SinkMode,
+}
+
+impl Settings {
+    /// How events go to that sink.
+    pub fn mode_of(&self, sink: Sink) -> SinkMode
+        ensures { result ≡ spec.mode_of self.now sink }
+    {
+        match sink {
+            Sink::Log => self.log,
+            Sink::Webhook => self.hook,
+        }
+    }
 }

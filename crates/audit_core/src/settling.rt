@@ -34,16 +34,14 @@ pub fn settle<R: Routes>(
 {
     let judged = judge(alloc, settings, paths, request)?;
     let Judged {
-        info,
-        user,
+        attributes,
         errand,
         decision,
     } = judged;
     let routed = handle_errand(alloc, &settings.endpoints, errand, routes)?;
     let handling = routed.handling;
-    let level = decision.level;
     let facts = facts_of(
-        alloc, stamp, request, info, user, level, &handling, note, body,
+        alloc, stamp, request, attributes, decision, &handling, note, body,
     )?;
     Ok(Answered {
         handling,

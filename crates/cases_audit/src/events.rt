@@ -3,7 +3,7 @@ ghost use Rattle.std.specs.Prelude.{◌≢◌};
 use crate::fixtures::{field, shown, spelled_text, text_of, user_of, word};
 use case_rows::bytes_of;
 use event_text::{line, objects_exceed, push_line, stripped_line};
-use front_base::{AuditId, Bytes, Info, Level, Moment, NoMemory, Stage};
+use front_base::{AuditId, Bytes, Info, Level, Moment, NoMemory, Stage, User};
 use stage_event::{Event, Facts, Kept, event_at, event_from, kept, reply_due, request_due};
 use std::alloc::Global;
 use std::io;
@@ -29,7 +29,7 @@ fn kept_of(alloc: Global, body: &str) -> Kept {
     if body == "-" {
         return Kept::NotAsked;
     }
-    match kept(alloc, bytes_of(alloc, body).as_slice()) {
+    match kept(alloc, bytes_of(alloc, body).as_slice(), false) {
         Ok(kept) => kept,
         Err(_) => Kept::NotAsked,
     }
@@ -39,6 +39,22 @@ fn kept_of(alloc: Global, body: &str) -> Kept {
 fn after(seconds: u8) -> Moment {
     let micros = 1_735_689_600_123_456 + u64::from(seconds) * 1_000_000;
     Moment::new(micros).unwrap_or(Moment::epoch())
+}
+
+// The user that a row names to act as, if it names one.
+fn acting_of(alloc: Global, words: &str) -> Option<User> {
+    if words == "-" {
+        return None;
+    }
+    Some(user_of(alloc, words))
+}
+
+// Where a request acts as another user, it comes from another address.
+fn peer_of(words: &str) -> [u8; 4] {
+    if words == "-" {
+        return [127, 0, 0, 1];
+    }
+    [10, 0, 255, 7]
 }
 
 // What is known of the request of a row and its reply.
@@ -53,7 +69,8 @@ fn facts_of(alloc: Global, row: &str) -> Facts {
         target: text_of(alloc, word(first, 4)),
         info: info_of(alloc, word(first, 2), field(row, 1)),
         user: user_of(alloc, field(row, 2)),
-        peer: [127, 0, 0, 1],
+        acting: acting_of(alloc, field(row, 3)),
+        peer: peer_of(field(row, 3)),
         agent: spelled_text(alloc, field(row, 4)),
         status: word(first, 3).parse().unwrap_or(0),
         request: kept_of(alloc, field(row, 5)),
@@ -61,14 +78,6 @@ fn facts_of(alloc: Global, row: &str) -> Facts {
         received: after(0),
         started: after(1),
         complete: after(2),
-    }
-}
-
-// Where the row names another user to act as, its event is theirs, from another address.
-fn act(alloc: Global, event: &mut Event, words: &str) {
-    if words != "-" {
-        event.impersonated = Some(user_of(alloc, words));
-        event.peer = [10, 0, 255, 7];
     }
 }
 
@@ -132,9 +141,8 @@ fn show_text(rt: &HostRuntime, row: &str, event: &Event) -> io::Result<()> {
     show_fits(rt, event, field(row, 7))
 }
 
-fn show_events(rt: &HostRuntime, row: &str, events: &mut [Event]) -> io::Result<()> {
-    for event in events.iter_mut() {
-        act(rt.alloc(), event, field(row, 3));
+fn show_events(rt: &HostRuntime, row: &str, events: &[Event]) -> io::Result<()> {
+    for event in events.iter() {
         show_text(rt, row, event)?;
     }
     Ok(())
@@ -185,7 +193,7 @@ fn show_recorded(rt: &HostRuntime, row: &str, stage: Stage, level: Level) -> io:
     let facts = facts_of(rt.alloc(), row);
     let due = show_due(rt, level, &facts.info);
     match events_of(rt.alloc(), stage, level, facts) {
-        Ok(mut events) => due.and(show_events(rt, row, events.as_mut_slice())),
+        Ok(events) => due.and(show_events(rt, row, events.as_slice())),
         Err(_) => println!(rt; "  out of memory"),
     }
 }

@@ -43,6 +43,7 @@ fn facts(alloc: Global) -> Facts {
         text_of(alloc, "/healthz"),
         info(alloc),
         ann(alloc),
+        None,
         [127, 0, 0, 1],
         text_of(alloc, ""),
         Moment::epoch(),
@@ -66,6 +67,7 @@ fn decision() -> Decision {
             started: false,
             complete: false,
         },
+        omit_managed: false,
     }
 }
 

@@ -11,6 +11,7 @@ use forward_link::Target;
 use front_base::{Address, AuditId, Bytes};
 use front_ports::{MemBytes, MemDial, MemLink, Script};
 use http_edge::Request;
+use stage_event::Show;
 use std::alloc::Global;
 use std::io;
 
@@ -68,7 +69,7 @@ fn show_sent(
     match forward(alloc, dial, request, &user, ID, handling, false) {
         Ok(sent) => {
             let note = sent.note();
-            let end = reply_to(alloc, dial, out, request, ID, handling, sent, true);
+            let end = reply_to(alloc, dial, out, request, ID, handling, sent, Show::Whole);
             println!(rt; "  {note:?} {end:?}")
         }
         Err(_) => println!(rt; "  out of memory"),

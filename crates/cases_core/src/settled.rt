@@ -105,9 +105,17 @@ fn show_by(rt: &HostRuntime, row: &str, settings: &Settings) -> io::Result<()> {
     }
 }
 
-/// How a request is recorded and answered, and the lines of its events. A row has the head and the body.
+// The policy of a row: its third field, if it has one.
+fn policy_of(row: &str) -> &str {
+    match field(row, 2) {
+        "" => "policy.json",
+        name => name,
+    }
+}
+
+/// How a request is recorded and answered, and the lines of its events. A row has the head, the body and the policy.
 pub fn show_settled(rt: &HostRuntime, row: &str) -> io::Result<()> {
-    match settings_of(rt, "policy.json", 4_096, SinkMode::Off) {
+    match settings_of(rt, policy_of(row), 4_096, SinkMode::Off) {
         Some(settings) => show_by(rt, row, &settings),
         None => println!(rt; "  no settings"),
     }

@@ -2,7 +2,6 @@
 ghost use Rattle.std.specs.Prelude.{◌≡◌, ◌≤◌, ◌<◌, ◌+◌, ◌++◌, ◌∷◌, [], length, ◌≢◌, OnOk, OnErr, true, IfOk, vec_len, vec_capacity};
 ghost use Rattle.std.specs.Option.{ForSome};
 ghost use Rattle.audit_core.specs.Offers.{is_on, offers_due};
-ghost use Rattle.audit_core.specs.Owed.{omits};
 ghost use Rattle.stage_event.specs.Events.{event};
 ghost use Rattle.truncate_backend.specs.Fits.{fitted};
 ghost use Rattle.event_offers.specs.Lanes.{AreLanesOf, IsLaneOf, lane_state, lanes_state};
@@ -10,9 +9,9 @@ ghost use Rattle.event_offers.specs.Offering as spec;
 ghost use Rattle.front_base.specs.declared.line.TheConstants.{MOST_LINE_BYTES};
 
 use crate::lanes::Lanes;
-use audit_core::{OfferNote, Outcome, Settings, Sink, SinkMode};
+use audit_core::{OfferNote, Outcome, Settings, Sink, omits};
 use front_base::{Bytes, Level, Line, NoMemory, Stage};
-use policy_rules::{Decision, Omit};
+use policy_rules::Decision;
 use stage_event::{Event, Facts, event_at};
 use std::alloc::Global;
 use truncate_backend::{Fit, Lane, Offer, fit, what_fits};
@@ -20,15 +19,6 @@ use truncate_backend::{Fit, Lane, Offer, fit, what_fits};
 /// How many lines a bay may have offered to a lane before it offers one more: 2^62. A bay with 2^48 requests of three
 /// stages offers fewer.
 pub const MOST_OFFERED: u64 = 4_611_686_018_427_387_904;
-
-fn is_on(mode: SinkMode) -> bool
-    ensures { result ≡ is_on mode }
-{
-    match mode {
-        SinkMode::Off => false,
-        SinkMode::Batch | SinkMode::Blocking | SinkMode::Strict => true,
-    }
-}
 
 fn offer_line<A: Lane>(lane: &mut A, bay: u16, lines: &mut u64, bytes: Bytes) -> Outcome
     requires lane { ForSome (A.bay lane.old) (λ b. bay ≡ b) }
@@ -145,7 +135,7 @@ pub fn offer_event<A: Lane, B: Lane>(
         (lanes_state A.Lane B.Lane lanes.old) notes.old.items (lanes_state A.Lane B.Lane lanes.new) notes.new.items) }
 {
     notes.reserve(2)?;
-    match (is_on(settings.log), is_on(settings.hook)) {
+    match (settings.log.is_on(), settings.hook.is_on()) {
         (false, false) => Ok(()),
         (true, false) => {
             let written = short_fit(alloc, settings, event)?;
@@ -164,17 +154,6 @@ pub fn offer_event<A: Lane, B: Lane>(
             to_hook(settings, event.stage, copy, lanes, notes);
             Ok(())
         }
-    }
-}
-
-fn omits(omit: Omit, stage: Stage) -> bool
-    ensures { result ≡ omits omit stage }
-{
-    match stage {
-        Stage::RequestReceived => omit.received,
-        Stage::ResponseStarted => omit.started,
-        Stage::ResponseComplete => omit.complete,
-        Stage::Panic => true,
     }
 }
 

@@ -19,6 +19,7 @@ use Rattle.front_base.specs.AuditId.{AuditId}
 use Rattle.front_ports.specs.Dials.{NotesSent}
 use Rattle.http_edge.specs.declared.request.Request.{Request}
 use Rattle.http_head.specs.declared.reply.ReplyHead.{ReplyHead}
+use Rattle.stage_event.specs.declared.show.Show.{Show}
 
 module _ {K : Type 0} (state : K → LinkState) where
   comes_once : (is_head : Bool) (k : DialState) (reached : Reached) → ComesTo state is_head (Once reached) k k (once reached)
@@ -31,11 +32,11 @@ module _ {K : Type 0} (state : K → LinkState) where
   comes_open is_head head frame rest link k n after c long None m h = absurd h
   comes_open is_head head frame rest link k n after c long (Some own) m h = c long m.calls own.to own.text h
 
-  pub once_to : (r : Request) (id : AuditId) (handling : Handling) (due : Bool) (reached : Reached) (sent : SentOn K) (k : DialState)
-      (w0 w1 : Option (List ℕ)) (rose : Type 0) (own : ReplyEnd) → sent ≡ Once reached → RepliedOnce r id handling due reached w0 w1 rose own
-      → RepliedTo state r id handling due sent k k w0 w1 rose own
-  once_to r id handling due reached sent k w0 w1 rose own e h =
-      subst (λ (s : SentOn K). RepliedTo state r id handling due s k k w0 w1 rose own) (sym e) (record {
+  pub once_to : (r : Request) (id : AuditId) (handling : Handling) (show : Show) (reached : Reached) (sent : SentOn K) (k : DialState)
+      (w0 w1 : Option (List ℕ)) (rose : Type 0) (own : ReplyEnd) → sent ≡ Once reached → RepliedOnce r id handling show reached w0 w1 rose own
+      → RepliedTo state r id handling show sent k k w0 w1 rose own
+  once_to r id handling show reached sent k w0 w1 rose own e h =
+      subst (λ (s : SentOn K). RepliedTo state r id handling show s k k w0 w1 rose own) (sym e) (record {
         came = once reached;
         comes = comes_once (is_head r) k reached;
         link_is = refl;
@@ -55,13 +56,13 @@ module _ {K : Type 0} (state : K → LinkState) where
         written = inl q;
       })
 
-  pub open_to : (r : Request) (id : AuditId) (handling : Handling) (due : Bool) (head : ReplyHead) (frame : Frame) (rest bytes : List ℕ) (link : K)
+  pub open_to : (r : Request) (id : AuditId) (handling : Handling) (show : Show) (head : ReplyHead) (frame : Frame) (rest bytes : List ℕ) (link : K)
       (sent : SentOn K) (k n : DialState) (w0 w1 : Option (List ℕ)) (rose : Type 0) (own : ReplyEnd) → sent ≡ Open head frame rest link
-      → bytes ≡ rest → Streamed r id head frame bytes due (state link) k n w0 w1 rose own
-      → RepliedTo state r id handling due sent k n w0 w1 rose own
-  open_to r id handling due head frame rest bytes link sent k n w0 w1 rose own e b s =
-      let h = subst (λ (l : List ℕ). Streamed r id head frame l due (state link) k n w0 w1 rose own) b s in
-      subst (λ (s : SentOn K). RepliedTo state r id handling due s k n w0 w1 rose own) (sym e) (record {
+      → bytes ≡ rest → Streamed r id head frame bytes show (state link) k n w0 w1 rose own
+      → RepliedTo state r id handling show sent k n w0 w1 rose own
+  open_to r id handling show head frame rest bytes link sent k n w0 w1 rose own e b s =
+      let h = subst (λ (l : List ℕ). Streamed r id head frame l show (state link) k n w0 w1 rose own) b s in
+      subst (λ (s : SentOn K). RepliedTo state r id handling show s k n w0 w1 rose own) (sym e) (record {
         came = streamed head frame h.after;
         comes = comes_open (is_head r) head frame rest link k n h.after h.closes;
         link_is = refl;

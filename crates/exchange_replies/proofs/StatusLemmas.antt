@@ -10,9 +10,9 @@ use Rattle.apiservice_table.specs.declared.change.Change.{Change}
 use Rattle.apiservice_table.specs.declared.change.Change.TheVariants.{Create, Replace, Delete}
 use Rattle.apiservice_table.specs.declared.change.ChangeFault.{ChangeFault}
 use Rattle.apiservice_table.specs.declared.change.ChangeFault.TheVariants.{Exists, Missing, Full, NoMemory}
-use Rattle.audit_core.specs.Errand.{errand_in, first_errand, path_errand, route_errand, is_bad, is_unknown, is_unserved, asker, info_in, user_in}
+use Rattle.audit_core.specs.Errand.{errand_in, first_errand, unless_refused, act_refusal, own_errand, path_errand, route_errand, is_bad, is_unknown, is_upgrade, asker, info_in, act_in, effective_in}
 use Rattle.audit_core.specs.Route.{Route, route_of}
-use Rattle.audit_core.specs.Routing.{handling_of, api_of, backend_of, service_at, delegate_at}
+use Rattle.audit_core.specs.Routing.{handling_of, api_of, backend_of, service_at, delegate_at, others_at}
 use Rattle.audit_core.specs.declared.errand.Errand.{Errand}
 use Rattle.audit_core.specs.declared.errand.Errand.TheVariants as errand
 use Rattle.audit_core.specs.declared.settings.Settings.{Settings}
@@ -30,8 +30,10 @@ use Rattle.local_replies.specs.declared.errand.LocalErrand.{LocalErrand}
 use Rattle.local_replies.specs.declared.errand.LocalErrand.TheVariants.{Deny, Look, Write}
 use Rattle.local_replies.specs.declared.local.Local.{Local}
 use Rattle.local_replies.specs.declared.local.Local.TheVariants.{Health, GroupList, OneGroup, ResourceList, AllServices, OneService, Unserved}
-use Rattle.service_endpoints.specs.Find.{endpoint_of}
+use Rattle.service_endpoints.specs.Find.{endpoint_of, others_of}
 use Rattle.service_endpoints.specs.declared.endpoint.Endpoint.{Endpoint}
+use Rattle.token_users.specs.declared.acting.Act.{Act}
+use Rattle.token_users.specs.declared.acting.Act.TheVariants.{Own, As, Unserved, Bad, Forbidden}
 
 -- ---- errands
 
@@ -84,7 +86,7 @@ local_by (OneService name) info method body user = name_by name method body user
 local_by Unserved info method body user = (omega arith, omega arith)
 
 route_by : (route : Option Route) → IsFinalErrand (route_errand route)
-route_by None = (omega arith, omega arith)
+route_by None = tt
 route_by (Some route) = tt
 
 path_by : (info : Info) (method body : List ℕ) (user : User) (local : Option Local)
@@ -92,17 +94,24 @@ path_by : (info : Info) (method body : List ℕ) (user : User) (local : Option L
 path_by info method body user None = route_by (route_of info.path)
 path_by info method body user (Some local) = local_by local info method body user
 
-first_by : (a b c : Bool) (own : Errand) → IsFinalErrand own → IsFinalErrand (first_errand a b c own)
-first_by true b c own h = (omega arith, omega arith)
-first_by false true c own h = (omega arith, omega arith)
-first_by false false true own h = (omega arith, omega arith)
-first_by false false false own h = h
+act_by : (act : Act) (own : Errand) → IsFinalErrand own → IsFinalErrand (unless_refused (act_refusal act) own)
+act_by Own own h = h
+act_by (As user) own h = h
+act_by Unserved own h = (omega arith, omega arith)
+act_by Bad own h = (omega arith, omega arith)
+act_by Forbidden own h = (omega arith, omega arith)
+
+first_by : (a b c : Bool) (act : Act) (own : Errand) → IsFinalErrand own → IsFinalErrand (first_errand a b c (act_refusal act) own)
+first_by true b c act own h = (omega arith, omega arith)
+first_by false true c act own h = (omega arith, omega arith)
+first_by false false true act own h = (omega arith, omega arith)
+first_by false false false act own h = act_by act own h
 
 pub errand_final : (set : Settings) (r : Request) → IsFinalErrand (errand_in set r)
 unfolding errand_in
 errand_final set r =
-    first_by (is_bad r) (is_unknown (asker set r)) (list_any is_unserved r.head.headers) _
-    (path_by (info_in r) r.head.method r.body (user_in set r) (local_of (info_in r).path))
+    first_by (is_bad r) (is_unknown (asker set r)) (list_any is_upgrade r.head.headers) (act_in set r) (own_errand set r)
+    (path_by (info_in r) r.head.method r.body (effective_in set r) (local_of (info_in r).path))
 
 -- ---- replies
 
@@ -156,7 +165,12 @@ api_by : (ends : List Endpoint) (own : Option Row) → IsFinalHandling (api_of e
 api_by ends None = (omega arith, omega arith)
 api_by ends (Some own) = backend_if ends own.available own.service
 
+others_by : (address : Option Address) → IsFinalHandling (others_at address)
+others_by None = (omega arith, omega arith)
+others_by (Some address) = tt
+
 pub handling_final : (ends : List Endpoint) (rows : List Row) (own : Errand) → IsFinalErrand own → IsFinalHandling (handling_of ends rows own)
 handling_final ends rows (errand.Refuse code) h = h
 handling_final ends rows (errand.Serve local own) h = reply_by rows local own h
 handling_final ends rows (errand.Route group version) h = api_by ends (row group version rows)
+handling_final ends rows errand.Other h = others_by (others_of ends)

@@ -22,7 +22,9 @@ use Rattle.front_ports.specs.Dials.{NotesSent}
 use Rattle.front_ports.specs.Written.{AppendsFront}
 use Rattle.http_edge.specs.declared.request.Request.{Request}
 use Rattle.http_head.specs.declared.reply.ReplyHead.{ReplyHead}
+use Rattle.stage_event.specs.Due.{is_due}
 use Rattle.stage_event.specs.declared.facts.Kept.{Kept}
+use Rattle.stage_event.specs.declared.show.Show.{Show}
 use Rattle.stream_relay.specs.Keep.{Keeps}
 use Rattle.stream_relay.specs.Relay.{Output, Ended, Lost, Stopped, OfPiece, OfEnd, Relays}
 use Rattle.stream_relay.specs.Stream.{Says, body_in, piece_text, pieces_text, joined, last_of, ending}
@@ -285,7 +287,7 @@ keeps_done due old new body relayed.StreamSpent k h e = absurd (cc e)
 keeps_done due old new body relayed.WriteFault k h e = absurd (cc e)
 keeps_done due old new body relayed.BackendCut k h e = absurd (cc e)
 
-module _ (stay : BlocksStay) (ends : BlocksEnd) (r : Request) (id : AuditId) (head : ReplyHead) (frame : Frame) (rest : List ℕ) (due : Bool)
+module _ (stay : BlocksStay) (ends : BlocksEnd) (r : Request) (id : AuditId) (head : ReplyHead) (frame : Frame) (rest : List ℕ) (show : Show)
     (link : LinkState) (left : Option (List ℕ)) (k n : DialState) (w0 w1 : Option (List ℕ)) (keep0 keep : Keep) (link_rose rose : Type 0)
     (go : link_rose → Rose k.link_faults n.link_faults) (sent : NotesSent k.calls n.calls link.number link.written) where
   abbrev was : Output
@@ -297,17 +299,17 @@ module _ (stay : BlocksStay) (ends : BlocksEnd) (r : Request) (id : AuditId) (he
   closed : (seen : List ℕ) → Seen link.left left rest seen → Closes (is_head r) head frame rest link k n (seen ++ rest_of left)
   closed seen t = closes stay ends (is_head r) head frame rest seen link left k n t sent
 
-  pub streamed_whole : (end : Relayed) (kept : Kept) → Keeps due [] keep0
-      → ((body : List ℕ) → (end ≡ relayed.Done → Keeps due body keep) → IsKeptOf r due end body kept)
+  pub streamed_whole : (end : Relayed) (kept : Kept) → Keeps (is_due show) [] keep0
+      → ((body : List ℕ) → (end ≡ relayed.Done → Keeps (is_due show) body keep) → IsKeptOf r show end body kept)
       → HandedOn r id head frame rest link.left left was is link_rose rose end
-      → Streamed r id head frame rest due link k n w0 w1 rose (record { end = end; kept = kept })
+      → Streamed r id head frame rest show link k n w0 w1 rose (record { end = end; kept = kept })
   streamed_whole end kept none keeps h = record {
     after = h.seen ++ rest_of left;
     closes = closed h.seen h.taken;
     text = h.text;
     streams = streams_later r id head frame (h.seen ++ rest_of left) link_rose _ end h.text go h.streams;
     writes = h.writes;
-    kept = keeps (body_in frame (h.seen ++ rest_of left)) (λ e. keeps_done due keep0 keep _ end none h.kept e);
+    kept = keeps (body_in frame (h.seen ++ rest_of left)) (λ e. keeps_done (is_due show) keep0 keep _ end none h.kept e);
   }
 
   pub streamed_then : (end : Relayed) → HandedOn r id head frame rest link.left left was is link_rose rose end

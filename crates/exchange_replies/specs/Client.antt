@@ -13,12 +13,12 @@ use Rattle.http_edge.specs.Requests.{asks}
 use Rattle.http_edge.specs.declared.request.Request.{Request}
 use Rattle.http_head.specs.Written.{reply_text}
 use Rattle.http_head.specs.declared.reply.ReplyHead.{ReplyHead}
-use Rattle.local_replies.specs.Status.{refusal}
+use Rattle.local_replies.specs.Status.{front_refusal}
 
 -- ---- this server's own reply
 
 abbrev pub refusal_for : Request → AuditId → ℕ → List ℕ
-refusal_for r id code = own_text (is_head r) (refusal code) (Some id) (asks r)
+refusal_for r id code = own_text (is_head r) (front_refusal code) (Some id) (asks r)
 
 -- to a request that was sent on it is the refusal that says why no reply came
 abbrev pub own_text_by : Request → AuditId → Handling → ℕ → List ℕ

@@ -22,6 +22,7 @@ abbrev pub IsFinalErrand : Errand → Type 0
 IsFinalErrand (errand.Refuse code) = IsStatus code
 IsFinalErrand (errand.Serve local own) = IsFinalLocal own
 IsFinalErrand (errand.Route group version) = ⊤
+IsFinalErrand errand.Other = ⊤
 
 -- this server's own reply to it has such a status
 abbrev pub IsFinalHandling : Handling → Type 0

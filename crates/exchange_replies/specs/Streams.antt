@@ -2,7 +2,7 @@
 use Rattle.std.specs.Prelude.{◌≡◌, ℕ, ◌⊎◌, ◌==◌, ⊤, Bool, true, false, List, ◌++◌, take, Option, Some, None, All}
 use Rattle.std.specs.Io.KnownBytes.{Appends}
 use Rattle.audit_core.specs.Answer as answer
-use Rattle.audit_core.specs.Exchange.{IsKeptIf, sent_body}
+use Rattle.audit_core.specs.Exchange.{sent_body}
 use Rattle.audit_core.specs.declared.link_note.LinkNote.{LinkNote}
 use Rattle.audit_core.specs.declared.link_note.LinkNote.TheVariants as note
 use Rattle.audit_core.specs.declared.routed.Handling.{Handling}
@@ -28,8 +28,11 @@ use Rattle.http_edge.specs.Requests.{asks}
 use Rattle.http_edge.specs.declared.request.Request.{Request}
 use Rattle.http_head.specs.Written.{reply_text}
 use Rattle.http_head.specs.declared.reply.ReplyHead.{ReplyHead}
+use Rattle.stage_event.specs.Kept.{IsKeptAs}
 use Rattle.stage_event.specs.declared.facts.Kept.{Kept}
 use Rattle.stage_event.specs.declared.facts.Kept.TheVariants.{NotAsked, CutOff}
+use Rattle.stage_event.specs.declared.show.Show.{Show}
+use Rattle.stage_event.specs.declared.show.Show.TheVariants.{Nothing, Whole, Pruned}
 use Rattle.stream_relay.specs.Keep.{KeepsMore}
 use Rattle.stream_relay.specs.Relay.{Output}
 use Rattle.stream_relay.specs.Stream.{Says, body_in, gets_chunks, pieces_text, joined, ending}
@@ -158,26 +161,27 @@ WritesPart r id handling rose came old new =
 -- ---- what is kept of its body
 
 -- of a body that was cut nothing is kept
-abbrev pub IsCutOff : Bool → Kept → Type 0
-IsCutOff false kept = kept ≡ NotAsked
-IsCutOff true kept = kept ≡ CutOff
+abbrev pub IsCutOff : Show → Kept → Type 0
+IsCutOff Nothing kept = kept ≡ NotAsked
+IsCutOff Whole kept = kept ≡ CutOff
+IsCutOff Pruned kept = kept ≡ CutOff
 
-abbrev pub IsKeptOf : Request → Bool → Relayed → List ℕ → Kept → Type 0
-IsKeptOf r due relayed.Done body kept = IsKeptIf due (sent_body r.head.method body) kept
-IsKeptOf r due relayed.BackendCut body kept = IsCutOff due kept
-IsKeptOf r due relayed.StreamSpent body kept = IsCutOff due kept
-IsKeptOf r due relayed.WriteFault body kept = IsCutOff due kept
+abbrev pub IsKeptOf : Request → Show → Relayed → List ℕ → Kept → Type 0
+IsKeptOf r show relayed.Done body kept = IsKeptAs show (sent_body r.head.method body) kept
+IsKeptOf r show relayed.BackendCut body kept = IsCutOff show kept
+IsKeptOf r show relayed.StreamSpent body kept = IsCutOff show kept
+IsKeptOf r show relayed.WriteFault body kept = IsCutOff show kept
 
 -- a reply that came at once is kept as it came, also where it could not be written
-abbrev pub IsKeptBy : Request → Handling → Bool → Came → Relayed → Kept → Type 0
-IsKeptBy r handling due (once reached) end kept =
-    IsKeptIf due (sent_body r.head.method (answer.body_of handling (note_of reached) (body_of reached))) kept
-IsKeptBy r handling due (streamed head frame after) end kept = IsKeptOf r due end (body_in frame after) kept
+abbrev pub IsKeptBy : Request → Handling → Show → Came → Relayed → Kept → Type 0
+IsKeptBy r handling show (once reached) end kept =
+    IsKeptAs show (sent_body r.head.method (answer.body_of handling (note_of reached) (body_of reached))) kept
+IsKeptBy r handling show (streamed head frame after) end kept = IsKeptOf r show end (body_in frame after) kept
 
 -- ---- what the calls do
 
 -- the whole reply, or a part of it, was written by its end, and this was kept
-pub record RepliedTo {K : Type 0} (state : K → LinkState) (r : Request) (id : AuditId) (handling : Handling) (due : Bool)
+pub record RepliedTo {K : Type 0} (state : K → LinkState) (r : Request) (id : AuditId) (handling : Handling) (show : Show)
     (sent : SentOn K) (k n : DialState) (w0 w1 : Option (List ℕ)) (rose : Type 0) (own : ReplyEnd) : Type 0 where
   pub came : Came
   pub comes : ComesTo state (is_head r) sent k n came
@@ -185,7 +189,7 @@ pub record RepliedTo {K : Type 0} (state : K → LinkState) (r : Request) (id : 
   pub text : List ℕ
   pub replies : Replies r id handling (Rose k.link_faults n.link_faults) came own.end text
   pub writes : WritesTo w0 w1 text rose own.end
-  pub kept : IsKeptBy r handling due came own.end own.kept
+  pub kept : IsKeptBy r handling show came own.end own.kept
 
 -- memory ran out: the link was handed back, and some prefix of the reply was written
 pub record RepliedPart {K : Type 0} (state : K → LinkState) (r : Request) (id : AuditId) (handling : Handling)
@@ -227,14 +231,14 @@ pub record HandedPart (r : Request) (id : AuditId) (head : ReplyHead) (frame : F
   pub written : AppendsFront w0 w1 text
 
 -- the same, once the link was handed back
-pub record Streamed (r : Request) (id : AuditId) (head : ReplyHead) (frame : Frame) (rest : List ℕ) (due : Bool) (link : LinkState)
+pub record Streamed (r : Request) (id : AuditId) (head : ReplyHead) (frame : Frame) (rest : List ℕ) (show : Show) (link : LinkState)
     (k n : DialState) (w0 w1 : Option (List ℕ)) (rose : Type 0) (own : ReplyEnd) : Type 0 where
   pub after : List ℕ
   pub closes : Closes (is_head r) head frame rest link k n after
   pub text : List ℕ
   pub streams : Streams r id head frame after (Rose k.link_faults n.link_faults) own.end text
   pub writes : WritesTo w0 w1 text rose own.end
-  pub kept : IsKeptOf r due own.end (body_in frame after) own.kept
+  pub kept : IsKeptOf r show own.end (body_in frame after) own.kept
 
 pub record StreamedPart (r : Request) (id : AuditId) (head : ReplyHead) (frame : Frame) (rest : List ℕ) (link : LinkState)
     (k n : DialState) (w0 w1 : Option (List ℕ)) : Type 0 where
@@ -246,11 +250,11 @@ pub record StreamedPart (r : Request) (id : AuditId) (head : ReplyHead) (frame :
   pub written : AppendsFront w0 w1 text
 
 -- a reply that came at once was written by its end, and this was kept
-pub record RepliedOnce (r : Request) (id : AuditId) (handling : Handling) (due : Bool) (reached : Reached)
+pub record RepliedOnce (r : Request) (id : AuditId) (handling : Handling) (show : Show) (reached : Reached)
     (w0 w1 : Option (List ℕ)) (rose : Type 0) (own : ReplyEnd) : Type 0 where
   pub ends : EndsAtOnce own.end
   pub writes : WritesTo w0 w1 (client_text r id handling reached) rose own.end
-  pub kept : IsKeptBy r handling due (once reached) own.end own.kept
+  pub kept : IsKeptBy r handling show (once reached) own.end own.kept
 
 -- nothing was written, and the link was handed back
 pub record GivenBack {K : Type 0} (state : K → LinkState) (is_head : Bool) (sent : SentOn K) (k n : DialState) : Type 0 where

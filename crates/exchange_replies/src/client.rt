@@ -17,7 +17,7 @@ use front_base::{AuditId, NoMemory};
 use front_ports::ByteSink;
 use http_edge::{Request, asks};
 use http_head::{ReplyHead, push_reply};
-use local_replies::{LocalReply, refusal};
+use local_replies::{LocalReply, front_refusal};
 use std::alloc::Global;
 
 /// Whether a reply to this request has no body (RFC 9110, section 9.3.2).
@@ -95,7 +95,7 @@ fn put_refusal<O: ByteSink>(
     ensures later { O.write_faults out.old ≤ O.write_faults out.new }
     ensures aside { O.inward out.new ≡ O.inward out.old }
 {
-    let reply = refusal(alloc, code)?;
+    let reply = front_refusal(alloc, code)?;
     put_own(alloc, out, request, id, &reply)
 }
 

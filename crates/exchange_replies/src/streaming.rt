@@ -1,12 +1,11 @@
 // Replies that are handed on as they come.
 ghost use Rattle.std.specs.Prelude.{◌≡◌, ◌≤◌, ◌+◌, Bool, IfOk, OnErr, List, ℕ, true};
-ghost use Rattle.audit_core.specs.Answer.{body_of};
-ghost use Rattle.audit_core.specs.Exchange.{IsKeptIf, sent_body};
-ghost use Rattle.exchange_replies.specs.Sent as sent;
+ghost use Rattle.audit_core.specs.Exchange.{sent_body};
 ghost use Rattle.exchange_replies.specs.Statuses.{IsFinalHandling, IsFinalReached, IsStatus};
 ghost use Rattle.exchange_replies.specs.Streams as spec;
 ghost use Rattle.front_ports.specs.Cause.{Rose};
-ghost use Rattle.stage_event.specs.Kept.{IsKept};
+ghost use Rattle.stage_event.specs.Due.{is_due};
+ghost use Rattle.stage_event.specs.Kept.{IsKept, IsKeptAs};
 ghost use Rattle.stream_relay.specs.Keep.{Keeps};
 
 use crate::client::{answer, is_head};
@@ -20,7 +19,7 @@ use front_base::{AuditId, NoMemory};
 use front_ports::{ByteSink, Dial, Source};
 use http_edge::{Request, asks};
 use http_head::{ReplyHead, blocks_are_bounded, blocks_stay, push_reply};
-use stage_event::{Kept, kept};
+use stage_event::{Kept, Show, kept};
 use std::alloc::Global;
 use stream_relay::{Keep, Relayed, bodies_are_relayed_whole, bodies_end_one_way, relay};
 
@@ -88,16 +87,38 @@ fn hand_on<K: Source, O: ByteSink>(
 }
 
 // What is kept of a whole body that was asked for.
-fn kept_whole(alloc: Global, request: &Request, keep: &Keep) -> Result<Kept, NoMemory>
+fn kept_whole(alloc: Global, request: &Request, omit: bool, keep: &Keep) -> Result<Kept, NoMemory>
     ensures { (body : List ℕ) → Keeps true body keep.now
-        → IfOk result (IsKept (sent_body request.now.head.method body)) }
+        → IfOk result (IsKept omit (sent_body request.now.head.method body)) }
 {
     if is_head(request) {
-        return kept(alloc, b"".as_slice());
+        return kept(alloc, b"".as_slice(), omit);
     }
     match keep.body() {
-        Some(bytes) => kept(alloc, bytes),
+        Some(bytes) => kept(alloc, bytes, omit),
         None => Ok(Kept::Over),
+    }
+}
+
+// What is kept of a body that came whole.
+fn kept_done(alloc: Global, request: &Request, show: Show, keep: &Keep) -> Result<Kept, NoMemory>
+    ensures { (body : List ℕ) → Keeps (is_due show) body keep.now
+        → IfOk result (IsKeptAs show (sent_body request.now.head.method body)) }
+{
+    match show {
+        Show::Nothing => Ok(Kept::NotAsked),
+        Show::Whole => kept_whole(alloc, request, false, keep),
+        Show::Pruned => kept_whole(alloc, request, true, keep),
+    }
+}
+
+// What is kept of a body whose end never came.
+fn cut_off(show: Show) -> Kept
+    ensures { spec.IsCutOff show result }
+{
+    match show {
+        Show::Nothing => Kept::NotAsked,
+        Show::Whole | Show::Pruned => Kept::CutOff,
     }
 }
 
@@ -105,19 +126,16 @@ fn kept_whole(alloc: Global, request: &Request, keep: &Keep) -> Result<Kept, NoM
 fn kept_of(
     alloc: Global,
     request: &Request,
-    due: bool,
+    show: Show,
     end: Relayed,
     keep: &Keep,
 ) -> Result<Kept, NoMemory>
-    ensures { (body : List ℕ) → (end ≡ Relayed.Done → Keeps due body keep.now)
-        → IfOk result (spec.IsKeptOf request.now due end body) }
+    ensures { (body : List ℕ) → (end ≡ Relayed.Done → Keeps (is_due show) body keep.now)
+        → IfOk result (spec.IsKeptOf request.now show end body) }
 {
-    if !due {
-        return Ok(Kept::NotAsked);
-    }
     match end {
-        Relayed::Done => kept_whole(alloc, request, keep),
-        Relayed::BackendCut | Relayed::StreamSpent | Relayed::WriteFault => Ok(Kept::CutOff),
+        Relayed::Done => kept_done(alloc, request, show, keep),
+        Relayed::BackendCut | Relayed::StreamSpent | Relayed::WriteFault => Ok(cut_off(show)),
     }
 }
 
@@ -132,10 +150,10 @@ fn stream<O: ByteSink, D: Dial>(
     frame: Frame,
     rest: &[u8],
     mut link: D::K,
-    due: bool,
+    show: Show,
 ) -> Result<ReplyEnd, NoMemory>
     requires { IsStatus head.now.status }
-    ensures ok { IfOk result (spec.Streamed request.now id head.now frame rest.now due
+    ensures ok { IfOk result (spec.Streamed request.now id head.now frame rest.now show
         (record {
           left = D.K.left link;
           written = D.K.written link;
@@ -162,32 +180,14 @@ fn stream<O: ByteSink, D: Dial>(
 {
     blocks_stay();
     blocks_are_bounded();
-    let mut keep = Keep::new(alloc, due);
+    let mut keep = Keep::new(alloc, show.is_due());
     let handed = hand_on(
         alloc, &mut link, out, request, id, head, frame, rest, &mut keep,
     );
     dial.done(link);
     let end = handed?;
-    let kept = kept_of(alloc, request, due, end, &keep)?;
+    let kept = kept_of(alloc, request, show, end, &keep)?;
     Ok(ReplyEnd { end, kept })
-}
-
-// What is kept of a reply that came at once, where it is asked for.
-fn kept_if(
-    alloc: Global,
-    request: &Request,
-    handling: &Handling,
-    reached: &Reached,
-    due: bool,
-) -> Result<Kept, NoMemory>
-    ensures { IfOk result (λ kept. IsKeptIf due (sent_body request.now.head.method
-        (body_of handling.now (sent.note_of reached.now) (sent.body_of reached.now))) kept) }
-{
-    if !due {
-        return Ok(Kept::NotAsked);
-    }
-    let method = request.head.method.as_str();
-    kept_sent(alloc, method, handling, reached.note(), reached.body())
 }
 
 // Writes a reply that came at once.
@@ -198,17 +198,25 @@ fn reply_once<O: ByteSink>(
     id: AuditId,
     handling: &Handling,
     reached: &Reached,
-    due: bool,
+    show: Show,
 ) -> Result<ReplyEnd, NoMemory>
     requires handling { IsFinalHandling handling.now }
     requires reached { IsFinalReached reached.now }
-    ensures ok { IfOk result (spec.RepliedOnce request.now id handling.now due reached.now
+    ensures ok { IfOk result (spec.RepliedOnce request.now id handling.now show reached.now
         (O.written out.old) (O.written out.new) (Rose (O.write_faults out.old) (O.write_faults out.new))) }
     ensures err { OnErr result (O.written out.new ≡ O.written out.old) }
     ensures later { O.write_faults out.old ≤ O.write_faults out.new }
     ensures aside { O.inward out.new ≡ O.inward out.old }
 {
-    let kept = kept_if(alloc, request, handling, reached, due)?;
+    let method = request.head.method.as_str();
+    let kept = kept_sent(
+        alloc,
+        show,
+        method,
+        handling,
+        reached.note(),
+        reached.body(),
+    )?;
     let end = match answer(alloc, out, request, id, handling, reached)? {
         Wrote::Whole => Relayed::Done,
         Wrote::Cut => Relayed::WriteFault,
@@ -217,7 +225,7 @@ fn reply_once<O: ByteSink>(
 }
 
 /// Writes the reply to a request with that audit ID, which was handled so and sent on to that, and hands its link back, also
-/// where memory runs out. `due` says that an event shows the reply's body. A reply that streams is written as it comes: to a
+/// where memory runs out. Events show that of the reply's body. A reply that streams is written as it comes: to a
 /// client of version 1.1 in chunks where its head says no length. After an end other than `Done` nothing more may be written.
 pub fn reply_to<O: ByteSink, D: Dial>(
     alloc: Global,
@@ -227,7 +235,7 @@ pub fn reply_to<O: ByteSink, D: Dial>(
     id: AuditId,
     handling: &Handling,
     sent: SentOn<D::K>,
-    due: bool,
+    show: Show,
 ) -> Result<ReplyEnd, NoMemory>
     requires handling { IsFinalHandling handling.now }
     requires sent { spec.IsFinalSent sent }
@@ -236,7 +244,7 @@ pub fn reply_to<O: ByteSink, D: Dial>(
       written = D.K.written link;
       number = D.K.number link;
       faults = D.K.read_faults link + D.K.write_faults link;
-    }) request.now id handling.now due sent
+    }) request.now id handling.now show sent
         (record { calls = D.calls dial.old; faults = D.faults dial.old; link_faults = D.link_faults dial.old })
         (record { calls = D.calls dial.new; faults = D.faults dial.new; link_faults = D.link_faults dial.new })
         (O.written out.old) (O.written out.new) (Rose (O.write_faults out.old) (O.write_faults out.new))) }
@@ -254,7 +262,7 @@ pub fn reply_to<O: ByteSink, D: Dial>(
     ensures aside { O.inward out.new ≡ O.inward out.old }
 {
     match sent {
-        SentOn::Once(reached) => reply_once(alloc, out, request, id, handling, &reached, due),
+        SentOn::Once(reached) => reply_once(alloc, out, request, id, handling, &reached, show),
         SentOn::Open {
             head,
             frame,
@@ -270,7 +278,7 @@ pub fn reply_to<O: ByteSink, D: Dial>(
             frame,
             rest.as_slice(),
             link,
-            due,
+            show,
         ),
     }
 }

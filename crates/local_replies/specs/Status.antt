@@ -59,6 +59,12 @@ refusal_text code = status_text code (cause_of code).reason (cause_of code).mess
 abbrev pub refusal : ℕ → LocalReply
 refusal code = json_reply code (refusal_text code)
 
+-- the refusal of a request before its path is looked at, where 403 says that it may not act as another user
+abbrev pub front_refusal : ℕ → LocalReply
+front_refusal code =
+    if code == 403 then status_reply 403 (codes "Forbidden") (codes "only system:masters may impersonate")
+    else refusal code
+
 abbrev pub success : LocalReply
 success = json_reply 200 success_text
 

@@ -6,7 +6,7 @@ ghost use Rattle.front_base.specs.declared.user.User.{User};
 ghost use Rattle.local_replies.specs.Errand.{is_master, local_errand};
 ghost use Rattle.local_replies.specs.Paths.{local_of};
 ghost use Rattle.local_replies.specs.Serve.{local_reply, rows_after, IsServed};
-ghost use Rattle.local_replies.specs.Status.{cause_of, refusal_text, told_codes};
+ghost use Rattle.local_replies.specs.Status.{cause_of, front_refusal, refusal_text, told_codes};
 ghost use Rattle.local_replies.specs.declared.errand.LocalErrand.{LocalErrand};
 ghost use Rattle.local_replies.specs.declared.errand.LocalErrand.TheVariants as errand;
 ghost use Rattle.local_replies.specs.declared.local.Local.{Local};
@@ -24,10 +24,12 @@ pub fn slashes_at_ends_do_not_count()
     slashes_are_trimmed();
 }
 
-/// The Status of each code that has a cause is 104 bytes longer than its reason and its message: neither needs an escape.
+/// The Status of each code that has a cause is 104 bytes longer than its reason and its message: neither needs an escape. That of a request
+/// which may not act as another user has 148.
 pub fn lengths_of_refusals()
-    ensures { All (λ code. length (refusal_text code)
+    ensures told { All (λ code. length (refusal_text code)
         ≡ 104 + length (cause_of code).reason + length (cause_of code).message) told_codes }
+    ensures acting { length (front_refusal 403).body ≡ 148 }
 {}
 
 /// No request of a user who isn't of `system:masters` asks for a change, whatever its path, method and body are.

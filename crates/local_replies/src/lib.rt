@@ -26,4 +26,4 @@ pub use local::Local;
 pub use paths::LocalPaths;
 pub use reply::{Content, LocalReply};
 pub use serve::{serve_errand, serve_local};
-pub use status::{refusal, status_reply, success};
+pub use status::{front_refusal, refusal, status_reply, success};

@@ -99,6 +99,22 @@ pub fn refusal(alloc: Global, code: u16) -> Result<LocalReply, NoMemory>
     status_reply(alloc, code, cause.reason, cause.message)
 }
 
+/// The refusal of a request before its path is looked at. It is `refusal`, but for 403, which says that the request may not
+/// act as another user.
+pub fn front_refusal(alloc: Global, code: u16) -> Result<LocalReply, NoMemory>
+    ensures { IfOk result (λ reply. reply ≡ spec.front_refusal code) }
+{
+    if code == 403 {
+        return status_reply(
+            alloc,
+            403,
+            "Forbidden",
+            "only system:masters may impersonate",
+        );
+    }
+    refusal(alloc, code)
+}
+
 /// The reply 200 whose body is a Status that tells a success.
 #[tactic(auto, unfolding(crate::specs::Status::success_text))]
 pub fn success(alloc: Global) -> Result<LocalReply, NoMemory>

@@ -30,12 +30,13 @@ use Rattle.http_edge.specs.declared.request.Request.{Request}
 use Rattle.policy_rules.specs.declared.decision.Decision.{Decision}
 use Rattle.session_core.specs.Bays.{BayState, CanOffer}
 use Rattle.session_core.specs.Exchange.{errand_after, RoutesHalt}
-use Rattle.session_core.specs.Parts.{first_due, routes_and_lanes, Handled, HandleHalts, Reaching, ReachHalts, sending, Replied, ReplyHalts, IsTimedBy, with_moments, known_facts, object_due, later_due, dial_clock_and_lanes, all_but_numbers, Served, ServingHalts}
+use Rattle.session_core.specs.Parts.{first_due, routes_and_lanes, Handled, HandleHalts, Reaching, ReachHalts, sending, Replied, ReplyHalts, IsTimedBy, with_moments, known_facts, object_show, later_due, dial_clock_and_lanes, all_but_numbers, Served, ServingHalts}
 use Rattle.session_core.specs.Steps.{WorkState, linked, with_status, with_reply, first_work}
 use Rattle.session_core.proofs.ChainLemmas.{grows_none, Join, noted_join}
 use Rattle.session_core.proofs.ReplyLemmas.{Stay, FewLog, FewHook, may_after, one_by}
 use Rattle.stage_event.specs.Begun.{filled}
 use Rattle.stage_event.specs.Events.{event}
+use Rattle.stage_event.specs.Views.{effective_user}
 use Rattle.stage_event.specs.declared.event.Event.{Event}
 use Rattle.stage_event.specs.declared.facts.Facts.{Facts}
 use Rattle.stage_event.specs.declared.facts.Kept.{Kept}
@@ -156,17 +157,17 @@ module _ (join : Join) (hides : HidesLater) (stages : Stages) (both : DueOfBoth)
   sent_first : {K : Type 0} (state : K → LinkState) (r : Request) (w a : WorkState) (x y z : DialState) (sent : SentOn K)
       → a ≡ record w { routed = a.routed; notes = a.notes } → x ≡ z
       → Forwards state (is_head r) (is_long_running a.facts.info) (sending r a) x y sent
-      → Forwards state (is_head r) (is_long_running w.facts.info) (sent_on r w.facts.user w.facts.id a.routed.handling) z y sent
+      → Forwards state (is_head r) (is_long_running w.facts.info) (sent_on r (effective_user w.facts) w.facts.id a.routed.handling) z y sent
   sent_first state r w a x y z sent h e s =
-      subst (λ (d : DialState). Forwards state (is_head r) (is_long_running w.facts.info) (sent_on r w.facts.user w.facts.id a.routed.handling) d y sent) e
-      (subst (λ (f : Facts). Forwards state (is_head r) (is_long_running f.info) (sent_on r f.user f.id a.routed.handling) x y sent)
+      subst (λ (d : DialState). Forwards state (is_head r) (is_long_running w.facts.info) (sent_on r (effective_user w.facts) w.facts.id a.routed.handling) d y sent) e
+      (subst (λ (f : Facts). Forwards state (is_head r) (is_long_running f.info) (sent_on r (effective_user f) f.id a.routed.handling) x y sent)
       (ap (λ (s : WorkState). s.facts) h) s)
 
   stops_first : (r : Request) (w a : WorkState) (x y z : DialState) → a ≡ record w { routed = a.routed; notes = a.notes } → x ≡ z
-      → StopsSending (sending r a) x y → StopsSending (sent_on r w.facts.user w.facts.id a.routed.handling) z y
+      → StopsSending (sending r a) x y → StopsSending (sent_on r (effective_user w.facts) w.facts.id a.routed.handling) z y
   stops_first r w a x y z h e s =
-      subst (λ (d : DialState). StopsSending (sent_on r w.facts.user w.facts.id a.routed.handling) d y) e
-      (subst (λ (f : Facts). StopsSending (sent_on r f.user f.id a.routed.handling) x y) (ap (λ (s : WorkState). s.facts) h) s)
+      subst (λ (d : DialState). StopsSending (sent_on r (effective_user w.facts) w.facts.id a.routed.handling) d y) e
+      (subst (λ (f : Facts). StopsSending (sent_on r (effective_user f) f.id a.routed.handling) x y) (ap (λ (s : WorkState). s.facts) h) s)
 
   -- ---- all of it
 
@@ -180,8 +181,8 @@ module _ (join : Join) (hides : HidesLater) (stages : Stages) (both : DueOfBoth)
       let kept = p.kept in
       let opens : k.dial ≡ m.dial = opens m k l n h.bay_is g.bay_is p.bay_is in
       let faults : m.dial.link_faults ≤ l.dial.link_faults = omega (arith, g.later, ap (λ (d : DialState). d.link_faults) opens) in
-      let to : RepliedTo state r w.facts.id a.routed.handling (object_due w) sent l.dial n.dial w0 w1 rose (record { end = end; kept = kept }) =
-      subst (λ (t : WorkState). RepliedTo state r t.facts.id t.routed.handling (object_due t) sent l.dial n.dial w0 w1 rose (record { end = end; kept = kept })) is p.to in
+      let to : RepliedTo state r w.facts.id a.routed.handling (object_show w) sent l.dial n.dial w0 w1 rose (record { end = end; kept = kept }) =
+      subst (λ (t : WorkState). RepliedTo state r t.facts.id t.routed.handling (object_show t) sent l.dial n.dial w0 w1 rose (record { end = end; kept = kept })) is p.to in
       let first : Noted (first_due set w) m.lanes w.notes k.lanes a.notes = h.noted in
       let later : Noted (later_due set w.decision (known status kept p.started p.complete w.facts)) k.lanes a.notes n.lanes v.notes =
       subst (λ (s : LanesState). Noted (later_due set w.decision (known status kept p.started p.complete w.facts)) s a.notes n.lanes v.notes)
@@ -208,7 +209,7 @@ module _ (join : Join) (hides : HidesLater) (stages : Stages) (both : DueOfBoth)
             (after_same own a.notes v.notes (p.refuses ∙ ap (λ (t : WorkState). has_refused set t.notes) is))
             (subst (λ x. Decides set.endpoints (errand_after set a.notes own) m.opening m.seen m.own x n.own a.routed) (sym (seen_is m k l n h.bay_is g.bay_is p.bay_is))
             (subst (λ x. Decides set.endpoints (errand_after set a.notes own) m.opening m.seen m.own k.seen x a.routed) (sym (own_is m k l n h.bay_is g.bay_is p.bay_is)) h.decides));
-        sent_is = to.comes (is_long_running w.facts.info) (sent_on r w.facts.user w.facts.id a.routed.handling) m.dial
+        sent_is = to.comes (is_long_running w.facts.info) (sent_on r (effective_user w.facts) w.facts.id a.routed.handling) m.dial
             (sent_first state r w a k.dial l.dial m.dial sent h.work_is opens g.sent_is);
         text = to.text;
         replies = replies_later r w.facts.id a.routed.handling _ _ to.came end to.text
@@ -260,7 +261,7 @@ module _ (join : Join) (hides : HidesLater) (stages : Stages) (both : DueOfBoth)
             ∙ append_assoc h.due h.rest (later_due set w.decision w.facts);
         noted = h.noted;
         decides = inr (h.later, h.own_is);
-        sent_is = inr (subst (λ (s : WorkState). StopsSending (sent_on r w.facts.user w.facts.id s.routed.handling) m.dial n.dial) (sym fresh) dial);
+        sent_is = inr (subst (λ (s : WorkState). StopsSending (sent_on r (effective_user w.facts) w.facts.id s.routed.handling) m.dial n.dial) (sym fresh) dial);
         moments = [];
         given = subst (λ (o : Option (List ℕ)). Grows m.given o []) (sym (ap (λ (s : BayState). s.given) h.bay_is)) (grows_none m.given);
         few = omega arith;
@@ -358,7 +359,7 @@ module _ (join : Join) (hides : HidesLater) (stages : Stages) (both : DueOfBoth)
             (after_same own a.notes v.notes (p.refuses ∙ ap (λ (t : WorkState). has_refused set t.notes) is))
             (subst (λ x. Decides set.endpoints (errand_after set a.notes own) m.opening m.seen m.own x n.own a.routed) (sym (seen_is m k l n h.bay_is g.bay_is p.bay_is))
             (subst (λ x. Decides set.endpoints (errand_after set a.notes own) m.opening m.seen m.own k.seen x a.routed) (sym (own_is m k l n h.bay_is g.bay_is p.bay_is)) h.decides)));
-        sent_is = inl (part.comes (is_long_running w.facts.info) (sent_on r w.facts.user w.facts.id a.routed.handling) m.dial
+        sent_is = inl (part.comes (is_long_running w.facts.info) (sent_on r (effective_user w.facts) w.facts.id a.routed.handling) m.dial
             (sent_first state r w a k.dial l.dial m.dial sent h.work_is opens g.sent_is));
         moments = p.moments;
         given = subst (λ (o : Option (List ℕ)). Grows o n.given p.moments) (given_is m k l n h.bay_is g.bay_is p.bay_is) p.given;

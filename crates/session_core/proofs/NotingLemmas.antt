@@ -1,8 +1,8 @@
 -- An exchange that is noted.
 use Rattle.std.proofs.Common.{◌≡◌, ◌≤◌, ◌<◌, ◌+◌, ◌*◌, ◌⊎◌, ℕ, Bool, true, false, if◌then◌else◌, List, [], ◌∷◌, ◌++◌, length, Option, refl, sym, ap, subst, ◌∙◌, arith, append-nil, length-append, inl, inr}
 use Rattle.std.specs.Prelude.{Result, Ok, Err, OnErr, IfOk}
-use Rattle.audit_core.specs.Errand.{errand_in, user_in, info_in}
-use Rattle.audit_core.specs.Exchange.{IsKeptIf, decision_in, facts_by, sent_body}
+use Rattle.audit_core.specs.Errand.{errand_in, attributes_in, effective_in, info_in}
+use Rattle.audit_core.specs.Exchange.{KeepsRequest, decision_in, facts_by, sent_body}
 use Rattle.audit_core.specs.Offers.{Due, offers_due}
 use Rattle.audit_core.specs.Owed.{owed, omits}
 use Rattle.audit_core.specs.Routing.{Decides}
@@ -33,15 +33,16 @@ use Rattle.session_core.specs.Bays.{BayState, next_id, IsReady, CanOffer}
 use Rattle.session_core.specs.Exchange.{ExchangedTo, AnsweredBy, Halted, Unbegun, RoutesHalt, errand_after, moments_by, is_long, answered_of}
 use Rattle.session_core.specs.declared.session.Outcome.{Outcome}
 use Rattle.session_core.specs.declared.session.Outcome.TheVariants as outcome
-use Rattle.session_core.specs.Parts.{Outcomes, outcome_of, later_moments, all_but_numbers, Served, ServingHalts, final_facts, object_due}
+use Rattle.session_core.specs.Parts.{Outcomes, outcome_of, later_moments, all_but_numbers, Served, ServingHalts, final_facts, object_show}
 use Rattle.session_core.specs.Steps.{WorkState, first_facts, first_work, exchange_of}
 use Rattle.session_core.specs.declared.begun.Begun.{Begun}
 use Rattle.session_core.specs.declared.exchange.Exchange.{Exchange}
 use Rattle.session_core.proofs.ChainLemmas.{grows_join}
 use Rattle.session_core.proofs.ExchangeLemmas.{Stages}
 use Rattle.session_core.proofs.ReplyLemmas.{Stay, FewLog, FewHook, one_by, one_if}
-use Rattle.stage_event.specs.Due.{request_due}
 use Rattle.stage_event.specs.Events.{event}
+use Rattle.stage_event.specs.Kept.{IsKeptAs}
+use Rattle.stage_event.specs.Views.{effective_user}
 use Rattle.stage_event.specs.declared.event.Event.{Event}
 use Rattle.stage_event.specs.declared.facts.Facts.{Facts}
 use Rattle.stage_event.specs.declared.facts.Kept.{Kept}
@@ -88,18 +89,18 @@ module _ (set : Settings) (peer : List ℕ) (r : Request) (m l : BayState) (gk :
 
   -- a reply that streamed came from a backend
   body_same : (handling : Handling) (long : Bool) (x y : DialState) (head : ReplyHead) (frame : Frame) (after : List ℕ)
-      → Comes (is_head r) long (sent_on r w.facts.user w.facts.id handling) x y (streamed head frame after)
+      → Comes (is_head r) long (sent_on r (effective_user w.facts) w.facts.id handling) x y (streamed head frame after)
       → answer.body_of handling (link_of (streamed head frame after)) (body_in frame after) ≡ body_in frame after
   body_same (Refused code) long x y head frame after h = absurd h
   body_same (ServedHere local reply change) long x y head frame after h = absurd h
   body_same (Proxied target) long x y head frame after h = refl
 
   answered_by : (handling : Handling) (long : Bool) (x y : DialState) (came : Came) (end : Relayed) (stamp : Stamp) (own : Answered)
-      → Comes (is_head r) long (sent_on r w.facts.user w.facts.id handling) x y came
+      → Comes (is_head r) long (sent_on r (effective_user w.facts) w.facts.id handling) x y came
       → own.handling ≡ handling → own.decision ≡ decision_in set r
-      → IsKeptIf (request_due (decision_in set r).level (info_in r)) r.body own.facts.request
-      → IsKeptBy r handling (object_due w) came end own.facts.reply
-      → own.facts ≡ facts_by stamp r (info_in r) (user_in set r) (answer.status_of handling (link_of came)) own.facts.request own.facts.reply
+      → KeepsRequest (decision_in set r) (attributes_in set r) r own.facts.request
+      → IsKeptBy r handling (object_show w) came end own.facts.reply
+      → own.facts ≡ facts_by stamp r (attributes_in set r) (answer.status_of handling (link_of came)) own.facts.request own.facts.reply
       → AnsweredBy set stamp r handling came end own
   answered_by handling long x y (once reached) end stamp own c h d q k f =
       record { handling_is = h; decision_is = d; facts_are = record { request_is = q; reply_is = k; facts_are = f } }
@@ -109,7 +110,7 @@ module _ (set : Settings) (peer : List ℕ) (r : Request) (m l : BayState) (gk :
         decision_is = d;
         facts_are = record {
           request_is = q;
-          reply_is = subst (λ l. IsKeptIf (object_due w) (sent_body r.head.method l) own.facts.reply)
+          reply_is = subst (λ l. IsKeptAs (object_show w) (sent_body r.head.method l) own.facts.reply)
               (sym (body_same handling long x y head frame after c)) k;
           facts_are = f;
         };
@@ -122,7 +123,7 @@ module _ (set : Settings) (peer : List ℕ) (r : Request) (m l : BayState) (gk :
       record { handling_is = h; decision_is = d; request_is = q; reply_is = k; facts_are = f }
 
   pub exchanged : (rose : Type 0) (end : Relayed) → lastk ≡ received → m.last ≤ received → Grows m.given gk (received ∷ []) → nk ≡ m.notes
-      → IsKeptIf (request_due (decision_in set r).level (info_in r)) r.body kept
+      → KeepsRequest (decision_in set r) (attributes_in set r) r kept
       → Served set r (errand_in set r) k w l v w0 w1 rose end → Adds l.notes nn (exchange_of r v ∷ [])
       → (text : List ℕ) × ExchangedTo set peer r m text n end × WritesTo w0 w1 text rose end
   exchanged rose end at later grows same kept_is s adds =
@@ -180,7 +181,7 @@ module _ (set : Settings) (peer : List ℕ) (r : Request) (m l : BayState) (gk :
           peer_is = refl;
           decision_is = ap (λ (t : WorkState). t.decision) s.work_is;
           facts_are = ap (λ (t : WorkState). t.facts) s.work_is
-              ∙ ap (λ (f : Facts). facts_by stamp r (info_in r) (user_in set r) f.status f.request f.reply) (sym (ap (λ (t : WorkState). t.facts) s.work_is));
+              ∙ ap (λ (f : Facts). facts_by stamp r (attributes_in set r) f.status f.request f.reply) (sym (ap (λ (t : WorkState). t.facts) s.work_is));
         };
         due = s.due;
         rest = s.rest;
@@ -188,8 +189,8 @@ module _ (set : Settings) (peer : List ℕ) (r : Request) (m l : BayState) (gk :
         offered = offered_is s.due k.lanes l.lanes v.notes s.noted;
         routed = subst (λ (t : WorkState). RoutesHalt set (errand_after set v.notes (errand_in set r)) m n t.routed) (sym s.work_is) s.decides;
         came = s.came;
-        sent = subst (λ (t : WorkState). Comes (is_head r) (is_long r) (sent_on r (user_in set r) (next_id m) t.routed.handling) m.dial l.dial s.came
-            ⊎ StopsSending (sent_on r (user_in set r) (next_id m) t.routed.handling) m.dial l.dial) (sym s.work_is) s.sent_is;
+        sent = subst (λ (t : WorkState). Comes (is_head r) (is_long r) (sent_on r (effective_in set r) (next_id m) t.routed.handling) m.dial l.dial s.came
+            ⊎ StopsSending (sent_on r (effective_in set r) (next_id m) t.routed.handling) m.dial l.dial) (sym s.work_is) s.sent_is;
         written = subst (λ (t : WorkState). WritesPart r (next_id m) t.routed.handling (Rose m.dial.link_faults l.dial.link_faults) s.came w0 w1) (sym s.work_is) s.written;
         moments = received ∷ s.moments;
         given = grows_join m.given gk l.given (received ∷ []) s.moments grows s.given;
@@ -272,7 +273,7 @@ may_all set m n h few e = record {
 module _ (set : Settings) (peer : List ℕ) (r : Request) (m l : BayState) (gk : Option (List ℕ)) (lastk received : ℕ)
     (nk nn : Option (List Exchange)) (kept : Kept) (v : WorkState) (w0 w1 : Option (List ℕ)) (rose : Type 0)
     (at : lastk ≡ received) (later : m.last ≤ received) (grows : Grows m.given gk (received ∷ [])) (same : nk ≡ m.notes)
-    (kept_is : IsKeptIf (request_due (decision_in set r).level (info_in r)) r.body kept)
+    (kept_is : KeepsRequest (decision_in set r) (attributes_in set r) r kept)
     (adds : Adds l.notes nn (exchange_of r v ∷ [])) where
   abbrev pub from : BayState
   from = record m { number = m.number + 1; last = lastk; given = gk; notes = nk }

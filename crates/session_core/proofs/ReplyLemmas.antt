@@ -25,7 +25,7 @@ use Rattle.front_ports.specs.Written.{AppendsFront}
 use Rattle.http_edge.specs.declared.request.Request.{Request}
 use Rattle.policy_rules.specs.declared.decision.Decision.{Decision}
 use Rattle.session_core.specs.Bays.{BayState, CanOffer}
-use Rattle.session_core.specs.Parts.{StartedBy, StartIsOffered, StageReached, StageHalts, StartHalts, CompleteHalts, Started, Completed, Replied, ReplyHalts, IsTimedBy, with_start, with_end, known_facts, object_due, later_due, later_moments, clock_and_lanes, dial_clock_and_lanes}
+use Rattle.session_core.specs.Parts.{StartedBy, StartIsOffered, StageReached, StageHalts, StartHalts, CompleteHalts, Started, Completed, Replied, ReplyHalts, IsTimedBy, with_start, with_end, known_facts, object_show, later_due, later_moments, clock_and_lanes, dial_clock_and_lanes}
 use Rattle.session_core.specs.Steps.{WorkState, with_kept, with_object}
 use Rattle.session_core.proofs.ChainLemmas.{grows_join, grows_none, Join, noted_join, noted_none, RefusesNone, refuses_same}
 use Rattle.stage_event.specs.Begun.{filled}
@@ -33,6 +33,7 @@ use Rattle.stage_event.specs.Events.{event}
 use Rattle.stage_event.specs.declared.event.Event.{Event}
 use Rattle.stage_event.specs.declared.facts.Facts.{Facts}
 use Rattle.stage_event.specs.declared.facts.Kept.{Kept}
+use Rattle.stage_event.specs.declared.show.Show.{Show}
 use Rattle.stream_relay.specs.declared.stream.Relayed.{Relayed}
 use Rattle.stream_relay.specs.declared.stream.Relayed.TheVariants as relayed
 
@@ -44,10 +45,10 @@ front_of w0 w1 text rose relayed.BackendCut h = (length text, subst (Appends w0 
 front_of w0 w1 text rose relayed.StreamSpent h = (length text, subst (Appends w0 w1) (sym (take-length text)) h)
 front_of w0 w1 text rose relayed.WriteFault h = h.0
 
-pub part_of : {K : Type 0} (state : K → LinkState) (r : Request) (id : AuditId) (handling : Handling) (due : Bool) (sent : SentOn K) (k n : DialState)
-    (w0 w1 : Option (List ℕ)) (rose : Type 0) (own : ReplyEnd) → RepliedTo state r id handling due sent k n w0 w1 rose own
+pub part_of : {K : Type 0} (state : K → LinkState) (r : Request) (id : AuditId) (handling : Handling) (show : Show) (sent : SentOn K) (k n : DialState)
+    (w0 w1 : Option (List ℕ)) (rose : Type 0) (own : ReplyEnd) → RepliedTo state r id handling show sent k n w0 w1 rose own
     → RepliedPart state r id handling sent k n w0 w1
-part_of state r id handling due sent k n w0 w1 rose own t = record {
+part_of state r id handling show sent k n w0 w1 rose own t = record {
   came = t.came;
   comes = t.comes;
   link_is = t.link_is;
@@ -193,8 +194,8 @@ module _ (join : Join) (none : RefusesNone) (hides : HidesEnd) (set : Settings) 
       work_is = b.work_is;
     }
 
-    module _ (due : Bool) (due_is : due ≡ object_due w) (end : Relayed) (kept : Kept) (w0 w1 : Option (List ℕ)) (rose : Type 0)
-        (t : RepliedTo state r u.facts.id u.routed.handling due sent k.dial l.dial w0 w1 rose (record { end = end; kept = kept }))
+    module _ (show : Show) (show_is : show ≡ object_show w) (end : Relayed) (kept : Kept) (w0 w1 : Option (List ℕ)) (rose : Type 0)
+        (t : RepliedTo state r u.facts.id u.routed.handling show sent k.dial l.dial w0 w1 rose (record { end = end; kept = kept }))
         (n : BayState) (x v : WorkState) (ex : x ≡ with_object kept u) where
       abbrev pub own : ReplyEnd
       own = record { end = end; kept = kept }
@@ -205,11 +206,11 @@ module _ (join : Join) (none : RefusesNone) (hides : HidesEnd) (set : Settings) 
       x_is : x ≡ record w { facts = with_kept kept (with_start b.started w.facts); notes = u.notes }
       x_is = ex ∙ ap (with_object kept) b.work_is
 
-      to_first : RepliedTo state r w.facts.id w.routed.handling (object_due w) sent m.dial l.dial w0 w1 rose own
+      to_first : RepliedTo state r w.facts.id w.routed.handling (object_show w) sent m.dial l.dial w0 w1 rose own
       to_first =
-          subst (λ (d : DialState). RepliedTo state r w.facts.id w.routed.handling (object_due w) sent d l.dial w0 w1 rose own) first_dial
-          (subst (λ (y : Bool). RepliedTo state r w.facts.id w.routed.handling y sent k.dial l.dial w0 w1 rose own) due_is
-          (subst (λ (s : WorkState). RepliedTo state r s.facts.id s.routed.handling due sent k.dial l.dial w0 w1 rose own) b.work_is t))
+          subst (λ (d : DialState). RepliedTo state r w.facts.id w.routed.handling (object_show w) sent d l.dial w0 w1 rose own) first_dial
+          (subst (λ (y : Show). RepliedTo state r w.facts.id w.routed.handling y sent k.dial l.dial w0 w1 rose own) show_is
+          (subst (λ (s : WorkState). RepliedTo state r s.facts.id s.routed.handling show sent k.dial l.dial w0 w1 rose own) b.work_is t))
 
       ended : (complete : ℕ) → Noted (offers_due set (stage_events x.decision (with_end complete x.facts) ResponseComplete)) l.lanes x.notes n.lanes v.notes
           → Noted (offers_due set (stage_events w.decision (done complete) ResponseComplete)) k.lanes u.notes n.lanes v.notes
@@ -233,7 +234,7 @@ module _ (join : Join) (none : RefusesNone) (hides : HidesEnd) (set : Settings) 
       pub replied : Completed set l x n v → Replied state set r sent m w n v w0 w1 rose end
       replied h = record {
         kept = kept;
-        to = subst (λ (d : DialState). RepliedTo state r w.facts.id w.routed.handling (object_due w) sent m.dial d w0 w1 rose own)
+        to = subst (λ (d : DialState). RepliedTo state r w.facts.id w.routed.handling (object_show w) sent m.dial d w0 w1 rose own)
             (sym (dial_after h.bay_is)) to_first;
         started = b.started;
         complete = n.last;
@@ -264,7 +265,7 @@ module _ (join : Join) (none : RefusesNone) (hides : HidesEnd) (set : Settings) 
           h.bay_is ∙ ap (λ y. let s : BayState = record l { lanes = y; last = n.last; given = n.given } in s) (sym lanes) in
           let all = to_first in record {
             part = subst (λ (d : DialState). RepliedPart state r w.facts.id w.routed.handling sent m.dial d w0 w1) (sym (dial_after at))
-                (part_of state r w.facts.id w.routed.handling (object_due w) sent m.dial l.dial w0 w1 rose own all);
+                (part_of state r w.facts.id w.routed.handling (object_show w) sent m.dial l.dial w0 w1 rose own all);
             kept = kept;
             started = b.started;
             complete = n.last;

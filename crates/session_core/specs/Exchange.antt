@@ -3,9 +3,9 @@ use Rattle.std.specs.Prelude.{◌≡◌, ◌≤◌, ◌+◌, ◌⊎◌, ℕ, Boo
 use Rattle.apiservice_rows.specs.Row.{Row}
 use Rattle.apiservice_table.specs.Changes.{IsLater}
 use Rattle.apiservice_table.specs.declared.change.Change.{Change}
-use Rattle.audit_core.specs.Errand.{errand_in, user_in, info_in}
+use Rattle.audit_core.specs.Errand.{errand_in, attributes_in, effective_in, info_in}
 use Rattle.audit_core.specs.Answer.{status_of}
-use Rattle.audit_core.specs.Exchange.{IsAnswered, IsKeptIf, decision_in, facts_by}
+use Rattle.audit_core.specs.Exchange.{IsAnswered, KeepsRequest, decision_in, facts_by}
 use Rattle.audit_core.specs.Offers.{Due, offers_due, has_refused}
 use Rattle.audit_core.specs.Owed.{owed}
 use Rattle.audit_core.specs.Routing.{Decides}
@@ -27,7 +27,7 @@ use Rattle.front_ports.specs.Told.{Grows, Adds}
 use Rattle.http_edge.specs.declared.request.Request.{Request}
 use Rattle.session_core.specs.Bays.{BayState, next_id}
 use Rattle.session_core.specs.declared.exchange.Exchange.{Exchange}
-use Rattle.stage_event.specs.Due.{request_due, reply_due}
+use Rattle.stage_event.specs.Due.{reply_show}
 use Rattle.stream_relay.specs.declared.stream.Relayed.{Relayed}
 use Rattle.stream_relay.specs.declared.stream.Relayed.TheVariants as relayed
 
@@ -69,9 +69,9 @@ pub record IsAnsweredCut (set : Settings) (stamp : Stamp) (r : Request) (handlin
     : Type 0 where
   pub handling_is : x.handling ≡ handling
   pub decision_is : x.decision ≡ decision_in set r
-  pub request_is : IsKeptIf (request_due (decision_in set r).level (info_in r)) r.body x.facts.request
-  pub reply_is : IsCutOff (reply_due (decision_in set r).level (info_in r)) x.facts.reply
-  pub facts_are : x.facts ≡ facts_by stamp r (info_in r) (user_in set r) (status_of handling note) x.facts.request x.facts.reply
+  pub request_is : KeepsRequest (decision_in set r) (attributes_in set r) r x.facts.request
+  pub reply_is : IsCutOff (reply_show (decision_in set r).level (decision_in set r).omit_managed (info_in r)) x.facts.reply
+  pub facts_are : x.facts ≡ facts_by stamp r (attributes_in set r) (status_of handling note) x.facts.request x.facts.reply
 
 -- the facts of one whose link came to that and whose reply ended so
 abbrev pub AnsweredBy : Settings → Stamp → Request → Handling → Came → Relayed → Answered → Type 0
@@ -94,7 +94,7 @@ pub record ExchangedTo (set : Settings) (peer : List ℕ) (r : Request) (m : Bay
   pub routed : Decides set.endpoints (errand_after set x.offers (errand_in set r)) m.opening m.seen m.own n.seen n.own (routed_of x)
   -- it was sent on where it is to be, its link was handed back, and what came is what all bytes of the link say
   pub came : Came
-  pub sent : Comes (is_head r) (is_long r) (sent_on r (user_in set r) (next_id m) x.handling) m.dial n.dial came
+  pub sent : Comes (is_head r) (is_long r) (sent_on r (effective_in set r) (next_id m) x.handling) m.dial n.dial came
   pub link_is : x.link ≡ link_of came
   -- its facts are those of the request and its answer
   pub stamp : Stamp
@@ -124,7 +124,7 @@ pub record AreBegun (set : Settings) (peer : List ℕ) (r : Request) (m : BaySta
   pub id_is : stamp.id ≡ next_id m
   pub peer_is : stamp.peer ≡ peer
   pub decision_is : x.decision ≡ decision_in set r
-  pub facts_are : x.facts ≡ facts_by stamp r (info_in r) (user_in set r) x.facts.status x.facts.request x.facts.reply
+  pub facts_are : x.facts ≡ facts_by stamp r (attributes_in set r) x.facts.status x.facts.request x.facts.reply
 
 -- it was handled, or its errand was not decided and no change was made
 abbrev pub RoutesHalt : Settings → Errand → BayState → BayState → Routed → Type 0
@@ -144,8 +144,8 @@ pub record Halted (set : Settings) (peer : List ℕ) (r : Request) (m n : BaySta
   pub offered : OffersAll due m.lanes x.offers n.lanes
   pub routed : RoutesHalt set (errand_after set x.offers (errand_in set r)) m n (routed_of x)
   pub came : Came
-  pub sent : Comes (is_head r) (is_long r) (sent_on r (user_in set r) (next_id m) x.handling) m.dial n.dial came
-      ⊎ StopsSending (sent_on r (user_in set r) (next_id m) x.handling) m.dial n.dial
+  pub sent : Comes (is_head r) (is_long r) (sent_on r (effective_in set r) (next_id m) x.handling) m.dial n.dial came
+      ⊎ StopsSending (sent_on r (effective_in set r) (next_id m) x.handling) m.dial n.dial
   pub written : WritesPart r (next_id m) x.handling (Rose m.dial.link_faults n.dial.link_faults) came w0 w
   pub moments : List ℕ
   pub given : Grows m.given n.given moments

@@ -32,9 +32,11 @@ use Rattle.session_core.specs.Exchange.{errand_after, RoutesHalt, Exchanged, Exc
 use Rattle.session_core.specs.Steps.{WorkState, linked, with_kept, with_reply}
 use Rattle.session_core.specs.declared.session.Outcome.{Outcome}
 use Rattle.session_core.specs.declared.session.Outcome.TheVariants as outcome
-use Rattle.stage_event.specs.Due.{reply_due}
+use Rattle.stage_event.specs.Due.{reply_show}
+use Rattle.stage_event.specs.Views.{effective_user}
 use Rattle.stage_event.specs.declared.facts.Facts.{Facts}
 use Rattle.stage_event.specs.declared.facts.Kept.{Kept}
+use Rattle.stage_event.specs.declared.show.Show.{Show}
 use Rattle.stream_relay.specs.declared.stream.Relayed.{Relayed}
 use Rattle.stream_relay.specs.declared.stream.Relayed.TheVariants as relayed
 
@@ -68,7 +70,7 @@ pub record HandleHalts (set : Settings) (m : BayState) (w : WorkState) (n : BayS
 
 -- what was to be sent on was, and how its link is noted is known
 abbrev pub sending : Request → WorkState → Option sent.Sent
-sending r w = sent_on r w.facts.user w.facts.id w.routed.handling
+sending r w = sent_on r (effective_user w.facts) w.facts.id w.routed.handling
 
 pub record Reaching {K : Type 0} (state : K → LinkState) (r : Request) (m : BayState) (w : WorkState) (n : BayState)
     (v : WorkState) (sent : SentOn K) : Type 0 where
@@ -157,15 +159,15 @@ known_facts reply started complete facts = with_moments started complete (with_k
 abbrev pub dial_clock_and_lanes : BayState → BayState → BayState
 dial_clock_and_lanes m n = record m { dial = n.dial; lanes = n.lanes; last = n.last; given = n.given }
 
--- where an event shows the reply's body
-abbrev pub object_due : WorkState → Bool
-object_due w = reply_due w.decision.level w.facts.info
+-- what events show of the reply's body
+abbrev pub object_show : WorkState → Show
+object_show w = reply_show w.decision.level w.decision.omit_managed w.facts.info
 
 -- the reply was written by that end, between the later events, and this was kept
 pub record Replied {K : Type 0} (state : K → LinkState) (set : Settings) (r : Request) (sent : SentOn K) (m : BayState) (w : WorkState)
     (n : BayState) (v : WorkState) (w0 w1 : Option (List ℕ)) (rose : Type 0) (end : Relayed) : Type 0 where
   pub kept : Kept
-  pub to : RepliedTo state r w.facts.id w.routed.handling (object_due w) sent m.dial n.dial w0 w1 rose
+  pub to : RepliedTo state r w.facts.id w.routed.handling (object_show w) sent m.dial n.dial w0 w1 rose
       (record { end = end; kept = kept })
   pub started : ℕ
   pub complete : ℕ
@@ -220,10 +222,10 @@ pub record Served (set : Settings) (r : Request) (own : Errand) (m : BayState) (
   pub complete : ℕ
   pub decides : Decides set.endpoints (errand_after set v.notes own) m.opening m.seen m.own n.seen n.own routed
   pub sent_is : Comes (is_head r) (is_long_running w.facts.info)
-      (sent_on r w.facts.user w.facts.id routed.handling) m.dial n.dial came
+      (sent_on r (effective_user w.facts) w.facts.id routed.handling) m.dial n.dial came
   pub text : List ℕ
   pub replies : Replies r w.facts.id routed.handling (Rose m.dial.link_faults n.dial.link_faults) came end text
-  pub kept_is : IsKeptBy r routed.handling (object_due w) came end reply
+  pub kept_is : IsKeptBy r routed.handling (object_show w) came end reply
   pub noted : Noted (offers_due set (owed w.decision (final_facts w routed (link_of came) reply started complete)))
       m.lanes w.notes n.lanes v.notes
   pub timed : IsTimedBy (is_long_running w.facts.info) m.given n.given m.last n.last w.facts.started started complete
@@ -253,8 +255,8 @@ pub record ServingHalts (set : Settings) (r : Request) (own : Errand) (m : BaySt
   pub noted : Noted due m.lanes w.notes n.lanes v.notes
   pub decides : RoutesHalt set (errand_after set v.notes own) m n routed
   pub sent_is : Comes (is_head r) (is_long_running w.facts.info)
-      (sent_on r w.facts.user w.facts.id routed.handling) m.dial n.dial came
-      ⊎ StopsSending (sent_on r w.facts.user w.facts.id routed.handling) m.dial n.dial
+      (sent_on r (effective_user w.facts) w.facts.id routed.handling) m.dial n.dial came
+      ⊎ StopsSending (sent_on r (effective_user w.facts) w.facts.id routed.handling) m.dial n.dial
   pub moments : List ℕ
   pub given : Grows m.given n.given moments
   pub few : length moments ≤ 2

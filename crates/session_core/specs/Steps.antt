@@ -1,8 +1,8 @@
 -- What is known of a request while it is served.
 use Rattle.std.specs.Prelude.{◌≡◌, ℕ, List, [], Option, None}
 use Rattle.audit_core.specs.Answer.{status_of}
-use Rattle.audit_core.specs.Errand.{errand_in, user_in, info_in}
-use Rattle.audit_core.specs.Exchange.{IsKeptIf, decision_in, facts_by}
+use Rattle.audit_core.specs.Errand.{errand_in, attributes_in}
+use Rattle.audit_core.specs.Exchange.{KeepsRequest, decision_in, facts_by}
 use Rattle.audit_core.specs.declared.link_note.LinkNote.{LinkNote}
 use Rattle.audit_core.specs.declared.link_note.LinkNote.TheVariants.{NotUsed}
 use Rattle.audit_core.specs.declared.offers.OfferNote.{OfferNote}
@@ -10,34 +10,24 @@ use Rattle.audit_core.specs.declared.routed.Handling.TheVariants.{Refused}
 use Rattle.audit_core.specs.declared.routed.Routed.{Routed}
 use Rattle.audit_core.specs.declared.settings.Settings.{Settings}
 use Rattle.audit_core.specs.declared.stamp.Stamp.{Stamp}
-use Rattle.front_base.specs.declared.level.Level.{Level}
-use Rattle.front_base.specs.declared.level.Level.TheVariants as level
 use Rattle.http_edge.specs.declared.request.Request.{Request}
 use Rattle.policy_rules.specs.declared.decision.Decision.{Decision}
 use Rattle.session_core.specs.declared.begun.Begun.{Begun}
 use Rattle.session_core.specs.declared.exchange.Exchange.{Exchange}
 use Rattle.session_core.specs.declared.work.Work.{Work}
-use Rattle.stage_event.specs.Due.{request_due}
 use Rattle.stage_event.specs.declared.facts.Facts.{Facts}
 use Rattle.stage_event.specs.declared.facts.Kept.{Kept}
 use Rattle.stage_event.specs.declared.facts.Kept.TheVariants.{NotAsked}
 
 -- ---- when it was received
 
--- a level that shows as much of the request, and no reply
-abbrev pub request_level : Level → Level
-request_level level.None = level.None
-request_level level.Metadata = level.Metadata
-request_level level.Request = level.Request
-request_level level.RequestResponse = level.Request
-
 -- nothing is known of the reply
 abbrev pub first_facts : Settings → Stamp → Request → Kept → Facts
-first_facts set stamp r kept = facts_by stamp r (info_in r) (user_in set r) 0 kept NotAsked
+first_facts set stamp r kept = facts_by stamp r (attributes_in set r) 0 kept NotAsked
 
 pub record IsBegun (set : Settings) (stamp : Stamp) (r : Request) (begun : Begun) : Type 0 where
   pub kept : Kept
-  pub kept_is : IsKeptIf (request_due (decision_in set r).level (info_in r)) r.body kept
+  pub kept_is : KeepsRequest (decision_in set r) (attributes_in set r) r kept
   pub is : begun ≡ record {
     errand = errand_in set r;
     decision = decision_in set r;

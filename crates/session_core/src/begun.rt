@@ -1,9 +1,9 @@
 // What is known of a request when it was received.
-ghost use Rattle.std.specs.Prelude.{◌≡◌, IfOk};
+ghost use Rattle.std.specs.Prelude.{IfOk};
 ghost use Rattle.session_core.specs.Steps as spec;
 
-use audit_core::{Errand, Handling, Judged, LinkNote, Settings, Stamp, facts_of, judge};
-use front_base::{Level, NoMemory};
+use audit_core::{Errand, Judged, Settings, Stamp, first_facts, judge};
+use front_base::NoMemory;
 use http_edge::Request;
 use local_replies::LocalPaths;
 use policy_rules::Decision;
@@ -18,16 +18,6 @@ pub struct Begun {
     pub facts: Facts,
 }
 
-// A level that shows as much of the request, and no reply.
-fn request_level(level: Level) -> Level
-    ensures { result ≡ spec.request_level level }
-{
-    match level {
-        Level::RequestResponse => Level::Request,
-        _ => level,
-    }
-}
-
 /// Judges a request that was received, before any table is seen.
 pub fn begin(
     alloc: Global,
@@ -40,21 +30,16 @@ pub fn begin(
 {
     let judged = judge(alloc, settings, paths, request)?;
     let Judged {
-        info,
-        user,
+        attributes,
         errand,
         decision,
     } = judged;
-    let level = request_level(decision.level);
-    let nothing = Handling::Refused(0);
-    let none = LinkNote::NotUsed;
-    let body = b"".as_slice();
-    let facts = facts_of(
-        alloc, stamp, request, info, user, level, &nothing, none, body,
-    )?;
-    Ok(Begun {
-        errand,
-        decision,
-        facts,
-    })
+    match first_facts(alloc, stamp, request, attributes, decision) {
+        Ok(facts) => Ok(Begun {
+            errand,
+            decision,
+            facts,
+        }),
+        Err(_) => Err(NoMemory),
+    }
 }

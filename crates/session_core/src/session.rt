@@ -3,7 +3,9 @@ ghost use Rattle.std.specs.Prelude.{◌≡◌, ◌≤◌, ◌<◌, ◌+◌, IfOk
 ghost use Rattle.audit_core.specs.Exchange.{decision_in};
 ghost use Rattle.event_offers.specs.Lanes.{AreLanesOf, lanes_state};
 ghost use Rattle.exchange_replies.specs.Statuses.{IsFinalErrand, IsFinalHandling};
-ghost use Rattle.exchange_replies.specs.Streams.{IsFinalSent, RepliedPart, RepliedTo};
+ghost use Rattle.exchange_replies.specs.Sent.{is_head, StopsSending};
+ghost use Rattle.exchange_replies.specs.Streams.{Forwards, IsFinalSent, RepliedPart, RepliedTo};
+ghost use Rattle.front_base.specs.Info.{is_long_running};
 ghost use Rattle.front_base.specs.declared.audit_id.TheConstants.{MOST_REQUESTS};
 ghost use Rattle.front_ports.specs.Cause.{Rose};
 ghost use Rattle.session_core.specs.Bays.{bay_state, CanOffer, IsReady};
@@ -25,7 +27,7 @@ use front_base::{AuditId, MOST_REQUESTS, NoMemory, Stage};
 use front_ports::{ByteSink, Clock, Conn, Dial};
 use http_edge::Request;
 use local_replies::LocalPaths;
-use stage_event::{reply_due, stages_hide};
+use stage_event::{Show, reply_show, stages_hide};
 use std::alloc::Global;
 use stream_relay::Relayed;
 use truncate_backend::Lane;
@@ -63,6 +65,40 @@ fn handle<R: Routes, D: Dial, A: Lane, B: Lane, K: Clock, Y: Diary>(
     Ok(())
 }
 
+// Sends it on where it is to be sent on, as the user that it acts as.
+fn send<D: Dial>(
+    alloc: Global,
+    dial: &mut D,
+    request: &Request,
+    work: &Work,
+) -> Result<SentOn<D::K>, NoMemory>
+    ensures ok { IfOk result (Forwards (λ link. record {
+      left = D.K.left link;
+      written = D.K.written link;
+      number = D.K.number link;
+      faults = D.K.read_faults link + D.K.write_faults link;
+    }) (is_head request.now) (is_long_running work.now.facts.info) (spec.sending request.now (work_state work.now))
+        (record { calls = D.calls dial.old; faults = D.faults dial.old; link_faults = D.link_faults dial.old })
+        (record { calls = D.calls dial.new; faults = D.faults dial.new; link_faults = D.link_faults dial.new })) }
+    ensures err { OnErr result (StopsSending (spec.sending request.now (work_state work.now))
+        (record { calls = D.calls dial.old; faults = D.faults dial.old; link_faults = D.link_faults dial.old })
+        (record { calls = D.calls dial.new; faults = D.faults dial.new; link_faults = D.link_faults dial.new })) }
+    ensures status { IfOk result IsFinalSent }
+    ensures later { (D.faults dial.old ≤ D.faults dial.new) × (D.link_faults dial.old ≤ D.link_faults dial.new) }
+{
+    let user = work.facts.effective_user();
+    let long = work.facts.info.is_long_running();
+    forward(
+        alloc,
+        dial,
+        request,
+        user,
+        work.facts.id,
+        &work.handling,
+        long,
+    )
+}
+
 // Sends it on where it is to be sent on, and notes how its link is noted.
 fn reach<R: Routes, D: Dial, A: Lane, B: Lane, K: Clock, Y: Diary>(
     alloc: Global,
@@ -82,15 +118,7 @@ fn reach<R: Routes, D: Dial, A: Lane, B: Lane, K: Clock, Y: Diary>(
         (bay_state R.Routes D.Dial A.Lane B.Lane K.Clock Y.Diary bay.new) (work_state work.new)) }
     ensures diary { bay.new.diary ≡ bay.old.diary }
 {
-    let sent = forward(
-        alloc,
-        &mut bay.dial,
-        request,
-        &work.facts.user,
-        work.facts.id,
-        &work.handling,
-        work.facts.info.is_long_running(),
-    )?;
+    let sent = send(alloc, &mut bay.dial, request, work)?;
     work.set_link(sent.note());
     Ok(sent)
 }
@@ -160,7 +188,7 @@ fn write_reply<O: ByteSink, D: Dial, A: Lane, B: Lane>(
     request: &Request,
     work: &Work,
     sent: SentOn<D::K>,
-    due: bool,
+    show: Show,
 ) -> Result<ReplyEnd, NoMemory>
     requires started { spec.StartIsOffered settings.now (lanes_state A.Lane B.Lane lanes.now) (work_state work.now) }
     requires handling { IsFinalHandling work.now.handling }
@@ -170,7 +198,7 @@ fn write_reply<O: ByteSink, D: Dial, A: Lane, B: Lane>(
       written = D.K.written link;
       number = D.K.number link;
       faults = D.K.read_faults link + D.K.write_faults link;
-    }) request.now work.now.facts.id work.now.handling due sent
+    }) request.now work.now.facts.id work.now.handling show sent
         (record { calls = D.calls dial.old; faults = D.faults dial.old; link_faults = D.link_faults dial.old })
         (record { calls = D.calls dial.new; faults = D.faults dial.new; link_faults = D.link_faults dial.new })
         (O.written out.old) (O.written out.new) (Rose (O.write_faults out.old) (O.write_faults out.new))) }
@@ -194,7 +222,7 @@ fn write_reply<O: ByteSink, D: Dial, A: Lane, B: Lane>(
         work.facts.id,
         &work.handling,
         sent,
-        due,
+        show,
     )
 }
 
@@ -234,7 +262,8 @@ fn reply<O: ByteSink, R: Routes, D: Dial, A: Lane, B: Lane, K: Clock, Y: Diary>(
     offers_join();
     lanes_stay();
     later_stages_refuse_nothing();
-    let due = reply_due(work.decision.level, &work.facts.info);
+    let decision = work.decision;
+    let show = reply_show(decision.level, decision.omit_managed, &work.facts.info);
     match start(alloc, settings, bay, work) {
         Ok(()) => {}
         Err(NoMemory) => {
@@ -251,7 +280,7 @@ fn reply<O: ByteSink, R: Routes, D: Dial, A: Lane, B: Lane, K: Clock, Y: Diary>(
         request,
         work,
         sent,
-        due,
+        show,
     )?;
     work.set_reply(replied.kept);
     complete(alloc, settings, bay, work)?;

@@ -1,17 +1,13 @@
 // A request while it is served.
 ghost use Rattle.std.specs.Prelude.{◌≡◌, []};
-ghost use Rattle.std.specs.List.{list_any};
-ghost use Rattle.audit_core.specs.Offers as offers;
 ghost use Rattle.session_core.specs.Exchange.{errand_after};
 ghost use Rattle.session_core.specs.Steps as spec;
 
 use crate::exchange::Exchange;
 use apiservice_rows::Row;
 use audit_core::{
-    Errand, Handling, LinkNote, OfferNote, Offers, Outcome, Routed, Settings, Sink, SinkMode,
-    status_of,
+    Errand, Handling, LinkNote, OfferNote, Offers, Routed, Settings, has_refused, status_of,
 };
-use front_base::Stage;
 use http_edge::Request;
 use policy_rules::Decision;
 use stage_event::{Facts, Kept};
@@ -80,55 +76,6 @@ impl Work {
             offers: Offers::new(self.notes),
         }
     }
-}
-
-fn is_first(stage: Stage) -> bool
-    ensures { result ≡ offers.is_first stage }
-{
-    match stage {
-        Stage::RequestReceived => true,
-        Stage::ResponseStarted | Stage::ResponseComplete | Stage::Panic => false,
-    }
-}
-
-fn mode_of(settings: &Settings, sink: Sink) -> SinkMode
-    ensures { result ≡ offers.mode_of settings.now sink }
-{
-    match sink {
-        Sink::Log => settings.log,
-        Sink::Webhook => settings.hook,
-    }
-}
-
-fn is_strict(mode: SinkMode) -> bool
-    ensures { result ≡ offers.is_strict mode }
-{
-    match mode {
-        SinkMode::Strict => true,
-        SinkMode::Off | SinkMode::Batch | SinkMode::Blocking => false,
-    }
-}
-
-fn is_failed(outcome: Outcome) -> bool
-    ensures { result ≡ offers.is_failed outcome }
-{
-    match outcome {
-        Outcome::Failed => true,
-        Outcome::Taken | Outcome::Full | Outcome::TooLarge { .. } => false,
-    }
-}
-
-fn refuses(settings: &Settings, note: &OfferNote) -> bool
-    ensures { result ≡ offers.refuses settings.now note.now }
-{
-    is_first(note.stage) && is_strict(mode_of(settings, note.sink)) && is_failed(note.outcome)
-}
-
-// Whether a strict sink could not record the request's arrival.
-fn has_refused(settings: &Settings, notes: &[OfferNote]) -> bool
-    ensures { result ≡ offers.has_refused settings.now notes.now }
-{
-    notes.iter().any(|note| refuses(settings, note))
 }
 
 /// What a request wants after its first events: it is refused where a strict sink could not record its arrival.

@@ -150,9 +150,9 @@ event-started Metadata f p c = refl
 event-started Request f p c = refl
 event-started RequestResponse f p c = refl
 
-abbrev made : Level → AuditId → Stage → List ℕ → List ℕ → User → List ℕ → List ℕ → Option ObjectRef → Option ℕ
+abbrev made : Level → AuditId → Stage → List ℕ → List ℕ → User → Option User → List ℕ → List ℕ → Option ObjectRef → Option ℕ
     → Option (List ℕ) → Option (List ℕ) → ℕ → ℕ → Event
-made level id stage target verb user peer agent named code request reply received at =
+made level id stage target verb user acting peer agent named code request reply received at =
     record {
       level = level;
       id = id;
@@ -160,7 +160,7 @@ made level id stage target verb user peer agent named code request reply receive
       target = target;
       verb = verb;
       user = user;
-      impersonated = None;
+      impersonated = acting;
       peer = peer;
       agent = agent;
       object_ref = named;
@@ -173,15 +173,31 @@ made level id stage target verb user peer agent named code request reply receive
     }
 
 -- an event by its members
-pub event_parts : (stage : Stage) (level : Level) (f : Facts) (t v : List ℕ) (u : User) (a : List ℕ)
+pub event_parts : (stage : Stage) (level : Level) (f : Facts) (t v : List ℕ) (u : User) (w : Option User) (a : List ℕ)
     (n : Option ObjectRef) (c : Option ℕ) (q p : Option (List ℕ)) (at : ℕ) → level ≢ NoLevel →
-    t ≡ f.target → v ≡ f.info.verb → u ≡ f.user → a ≡ f.agent → n ≡ object_ref f.info → c ≡ code stage f.status →
+    t ≡ f.target → v ≡ f.info.verb → u ≡ f.user → w ≡ f.acting → a ≡ f.agent → n ≡ object_ref f.info → c ≡ code stage f.status →
     q ≡ request_object stage (shown_if (request_due level f.info) f.request) →
     p ≡ response_object stage (shown_if (reply_due level f.info) f.reply) →
     at ≡ moment stage f.received (started f) f.complete →
-    made level f.id stage t v u f.peer a n c q p f.received at ≡ event stage level f
+    made level f.id stage t v u w f.peer a n c q p f.received at ≡ event stage level f
 unfolding event
-event_parts stage level f t v u a n c q p at h et ev eu ea en ec eq ep em =
-    let whole : made level f.id stage t v u f.peer a n c q p f.received at
+event_parts stage level f t v u w a n c q p at h et ev eu ew ea en ec eq ep em =
+    let whole : made level f.id stage t v u w f.peer a n c q p f.received at
     ≡ event_of stage level (recorded (request_due level f.info) (reply_due level f.info) f) = cc in
     whole ∙ sym (ap (event_of stage level) (view-recorded level f h))
+
+-- ---- what every level but None shows
+
+pub user-shown : (stage : Stage) (level : Level) (f : Facts) → level ≢ NoLevel → (event stage level f).user ≡ f.user
+unfolding event
+user-shown stage NoLevel f h = absurd (h refl)
+user-shown stage Metadata f h = refl
+user-shown stage Request f h = refl
+user-shown stage RequestResponse f h = refl
+
+pub acting-shown : (stage : Stage) (level : Level) (f : Facts) → level ≢ NoLevel → (event stage level f).impersonated ≡ f.acting
+unfolding event
+acting-shown stage NoLevel f h = absurd (h refl)
+acting-shown stage Metadata f h = refl
+acting-shown stage Request f h = refl
+acting-shown stage RequestResponse f h = refl

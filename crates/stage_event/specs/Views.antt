@@ -1,5 +1,6 @@
 -- What a level records of a request and its reply (Kubernetes, "Auditing", audit policy).
-use Rattle.std.specs.Prelude.{ℕ, Bool, true, false, [], ◌∷◌, if◌then◌else◌}
+use Rattle.std.specs.Prelude.{ℕ, Bool, true, false, [], ◌∷◌, Option, Some, if◌then◌else◌}
+use Rattle.std.specs.Prelude as prelude
 use Rattle.front_base.specs.AuditId.{AuditId}
 use Rattle.front_base.specs.Info.{is_long_running}
 use Rattle.front_base.specs.declared.info.Info.{Info}
@@ -44,6 +45,15 @@ no_info =
 abbrev pub no_user : User
 no_user = record { name = []; uid = []; groups = [] }
 
+-- the user that a request acts as, which is the one that authenticated where it acts as no other
+abbrev pub or_own : Option User → User → User
+or_own prelude.None own = own
+or_own (Some user) own = user
+
+-- the user as whom a request is served
+abbrev pub effective_user : Facts → User
+effective_user facts = or_own facts.acting facts.user
+
 -- facts that say nothing but the request's ID
 abbrev pub no_facts : AuditId → Facts
 no_facts id =
@@ -52,6 +62,7 @@ no_facts id =
       target = [];
       info = no_info;
       user = no_user;
+      acting = prelude.None;
       peer = 0 ∷ 0 ∷ 0 ∷ 0 ∷ [];
       agent = [];
       status = 0;

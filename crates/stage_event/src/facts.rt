@@ -1,5 +1,6 @@
 ghost use Rattle.std.specs.Prelude.{◌≡◌};
 ghost use Rattle.stage_event.specs.Begun.{begun};
+ghost use Rattle.stage_event.specs.Views.{effective_user};
 
 use front_base::{AuditId, Bytes, Info, Moment, Text, User};
 
@@ -27,8 +28,10 @@ pub struct Facts {
     /// The request's target as it came.
     pub target: Text,
     pub info: Info,
-    /// The user that the request counts as.
+    /// The user that authenticated.
     pub user: User,
+    /// The user that the request acts as, where it acts as another.
+    pub acting: Option<User>,
     /// The IPv4 address of the other end of the connection.
     pub peer: [u8; 4],
     /// The first `User-Agent` header, or nothing.
@@ -53,17 +56,19 @@ impl Facts {
         target: Text,
         info: Info,
         user: User,
+        acting: Option<User>,
         peer: [u8; 4],
         agent: Text,
         received: Moment,
     ) -> Facts
-        ensures { result ≡ begun id target info user peer agent received }
+        ensures { result ≡ begun id target info user acting peer agent received }
     {
         Facts {
             id,
             target,
             info,
             user,
+            acting,
             peer,
             agent,
             status: 0,
@@ -72,6 +77,16 @@ impl Facts {
             received,
             started: received,
             complete: received,
+        }
+    }
+
+    /// The user as whom the request is served: the one that it acts as, else the one that authenticated.
+    pub fn effective_user(&self) -> &User
+        ensures { result.now ≡ effective_user self.now }
+    {
+        match &self.acting {
+            Some(user) => user,
+            None => &self.user,
         }
     }
 }

@@ -1,4 +1,4 @@
-ghost use Rattle.std.specs.Prelude.{◌≡◌, ℕ, List, true, false};
+ghost use Rattle.std.specs.Prelude.{◌≡◌, ◌≢◌, ℕ, ◌≤◌, Bool, List, length, true, false};
 ghost use Rattle.front_base.specs.Info.{is_long_running};
 ghost use Rattle.front_base.specs.declared.info.Info.{Info};
 ghost use Rattle.front_base.specs.declared.level.Level.{Level};
@@ -7,7 +7,11 @@ ghost use Rattle.front_base.specs.declared.stage.Stage.{Stage};
 ghost use Rattle.front_base.specs.declared.stage.Stage.TheVariants as Stage;
 ghost use Rattle.stage_event.specs.declared.facts.Facts.{Facts};
 ghost use Rattle.stage_event.specs.declared.facts.Kept.{Kept};
-ghost use Rattle.stage_event.specs.Kept.{IsKept};
+ghost use Rattle.stage_event.specs.Kept.{IsKept, IsKeptAs};
+ghost use Rattle.stage_event.specs.declared.keeping.TheConstants.{MOST_KEPT_BYTES};
+ghost use Rattle.stage_event.specs.declared.show.Show.{Show};
+ghost use Rattle.json_prune.specs.Prune.{managed};
+ghost use Rattle.json_span.specs.Value.{Value, StandsFor};
 ghost use Rattle.stage_event.specs.Begun.{as_begun, filled};
 ghost use Rattle.stage_event.specs.Views.{view, with_bodies, with_start, with_info};
 ghost use Rattle.stage_event.specs.Events.{event};
@@ -59,9 +63,26 @@ pub fn views_settle()
     ensures { (level : Level) (facts : Facts) → view level (view level facts) ≡ view level facts }
 {}
 
-/// A body is kept in one way.
+/// From Metadata on, every event shows the user that authenticated, and the user that the request acts as, if it acts as
+/// another.
+pub fn both_users_are_shown()
+    ensures user { (stage : Stage) (level : Level) (facts : Facts) → level ≢ Level.None
+        → (event stage level facts).user ≡ facts.user }
+    ensures acting { (stage : Stage) (level : Level) (facts : Facts) → level ≢ Level.None
+        → (event stage level facts).impersonated ≡ facts.acting }
+{}
+
+/// A body is kept in one way. Two bodies whose values differ in managed fields alone are kept alike where these are
+/// omitted.
 pub fn one_kept()
-    ensures { (body : List ℕ) (these those : Kept) → IsKept body these → IsKept body those → these ≡ those }
+    ensures one { (omit : Bool) (body : List ℕ) (these those : Kept)
+        → IsKept omit body these → IsKept omit body those → these ≡ those }
+    ensures shown { (show : Show) (body : List ℕ) (these those : Kept)
+        → IsKeptAs show body these → IsKeptAs show body those → these ≡ those }
+    ensures alike { (these those : List ℕ) (v w : Value) (kept other : Kept)
+        → length these ≤ MOST_KEPT_BYTES → length those ≤ MOST_KEPT_BYTES
+        → StandsFor these v → StandsFor those w → managed v ≡ managed w
+        → IsKept true these kept → IsKept true those other → kept ≡ other }
 {
     one_value();
 }

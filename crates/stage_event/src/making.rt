@@ -6,7 +6,7 @@ ghost use Rattle.stage_event.specs.Events as spec;
 use crate::due::{reply_due, request_due};
 use crate::event::{Event, ObjectRef};
 use crate::facts::{Facts, Kept};
-use front_base::{Bytes, Info, Level, Moment, NoMemory, Stage, Text};
+use front_base::{Bytes, Info, Level, Moment, NoMemory, Stage, Text, User};
 use std::alloc::Global;
 
 fn object_of(alloc: Global, kept: &Kept) -> Result<Option<Bytes>, NoMemory>
@@ -124,26 +124,85 @@ pub fn object_ref(alloc: Global, info: &Info) -> Result<Option<ObjectRef>, NoMem
     }
 }
 
+fn copy_of(alloc: Global, user: &Option<User>) -> Result<Option<User>, NoMemory>
+    ensures { IfOk result (λ copy. copy ≡ user.now) }
+{
+    match user {
+        Some(user) => Ok(Some(user.copy(alloc)?)),
+        None => Ok(None),
+    }
+}
+
+// Who asked for what, as every event says it.
+#[derive(Drop)]
+struct Asked {
+    target: Text,
+    verb: Text,
+    user: User,
+    acting: Option<User>,
+    agent: Text,
+}
+
+fn copy_asked(alloc: Global, facts: &Facts) -> Result<Asked, NoMemory>
+    ensures { IfOk result (λ asked. (asked.target ≡ facts.now.target) × (asked.verb ≡ facts.now.info.verb)
+        × (asked.user ≡ facts.now.user) × (asked.acting ≡ facts.now.acting) × (asked.agent ≡ facts.now.agent)) }
+{
+    Ok(Asked {
+        target: facts.target.copy(alloc)?,
+        verb: facts.info.verb.copy(alloc)?,
+        agent: facts.agent.copy(alloc)?,
+        acting: copy_of(alloc, &facts.acting)?,
+        user: facts.user.copy(alloc)?,
+    })
+}
+
+// The object that the request names, and the bodies.
+#[derive(Drop)]
+struct Objects {
+    named: Option<ObjectRef>,
+    request: Option<Bytes>,
+    reply: Option<Bytes>,
+}
+
+fn copy_objects(
+    alloc: Global,
+    stage: Stage,
+    level: Level,
+    facts: &Facts,
+) -> Result<Objects, NoMemory>
+    ensures { IfOk result (λ it. (it.named ≡ spec.object_ref facts.now.info)
+        × (it.request ≡ spec.request_object stage (views.shown_if (request_due level facts.now.info) facts.now.request))
+        × (it.reply ≡ spec.response_object stage (views.shown_if (reply_due level facts.now.info) facts.now.reply))) }
+{
+    Ok(Objects {
+        request: request_object(alloc, stage, level, facts)?,
+        reply: response_object(alloc, stage, level, facts)?,
+        named: object_ref(alloc, &facts.info)?,
+    })
+}
+
 /// The event of a request at a stage, as its level records it. It isn't truncated.
 pub fn event_at(alloc: Global, stage: Stage, level: Level, facts: &Facts) -> Result<Event, NoMemory>
     requires level { level ≢ Level.None }
     requires stage { stage ≢ Stage.Panic }
     ensures { IfOk result (λ event. event ≡ spec.event stage level facts.now) }
 {
+    let objects = copy_objects(alloc, stage, level, facts)?;
+    let asked = copy_asked(alloc, facts)?;
     Ok(Event {
         level,
         id: facts.id,
         stage,
-        target: facts.target.copy(alloc)?,
-        verb: facts.info.verb.copy(alloc)?,
-        user: facts.user.copy(alloc)?,
-        impersonated: None,
+        target: asked.target,
+        verb: asked.verb,
+        user: asked.user,
+        impersonated: asked.acting,
         peer: facts.peer,
-        agent: facts.agent.copy(alloc)?,
-        object_ref: object_ref(alloc, &facts.info)?,
+        agent: asked.agent,
+        object_ref: objects.named,
         code: code(stage, facts.status),
-        request_object: request_object(alloc, stage, level, facts)?,
-        response_object: response_object(alloc, stage, level, facts)?,
+        request_object: objects.request,
+        response_object: objects.reply,
         received: facts.received,
         at: moment(stage, facts),
         truncated: false,
@@ -217,6 +276,7 @@ pub fn event_from(stage: Stage, level: Level, facts: Facts) -> Event
         target,
         info,
         user,
+        acting,
         peer,
         agent,
         request,
@@ -232,7 +292,7 @@ pub fn event_from(stage: Stage, level: Level, facts: Facts) -> Event
         target,
         verb,
         user,
-        impersonated: None,
+        impersonated: acting,
         peer,
         agent,
         object_ref,

@@ -1,15 +1,15 @@
-use Rattle.audit_core.proofs.JudgedLemmas.{user_is, errand_is, decision_is}
+use Rattle.audit_core.proofs.JudgedLemmas.{attributes_are, errand_is, decision_is}
 use Rattle.audit_core.proofs.judged.judge.Goals as goal
 
-pub returns : goal.returns
-returns c =
+pub returns-in-Ok : goal.returns-in-Ok
+returns-in-Ok c =
     let set = c.args.settings.now in
     let r = c.args.request.now in
-    let asked = c.in_ok-asked.ensures in
-    let user = user_is set r c.in_ok-who.who c.in_ok-user.user c.in_ok-who.ensures c.in_ok-user.ensures in (
-      asked.0,
-      user,
-      errand_is set r c.in_ok-who.who c.in_ok-asked.asked.refused c.is_unknown-unknown.result c.in_ok-asked.asked.info c.in_ok-user.user c.in_ok-errand.errand
-          c.in_ok-who.ensures c.is_unknown-unknown.ensures asked.1 asked.0 user c.in_ok-errand.ensures,
-      decision_is set r c.in_ok-user.user c.in_ok-asked.asked.info c.decide-decision.result user asked.0 c.decide-decision.ensures,
+    let asked = c.in_ok-asked.asked in
+    let is = c.in_ok-asked.ensures in
+    let caller = c.in_ok-caller.caller in
+    let who = c.in_ok-caller.ensures in (
+      attributes_are set r asked.info caller.user caller.act _ is.0 who.1 who.2 c.other_of.ensures,
+      errand_is set r asked.refused caller.unknown caller.act caller.user asked.info c.in-Ok.errand is.1 who.0 who.2 who.1 is.0 c.in-Ok.ensures,
+      decision_is set r caller.user asked.info c.decide-decision.result who.1 is.0 c.decide-decision.ensures,
     )

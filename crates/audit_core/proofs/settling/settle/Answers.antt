@@ -7,13 +7,13 @@ returns g c =
     let judged = c.in_ok-judged.ensures in
     let old = c.args.routes.now in
     let new = c.handle_errand.new.routes in
-    let facts = rw (judged.0, judged.1, judged.3) at c.in_ok-facts.ensures in
+    let facts = rw (judged.0, judged.2) at c.in_ok-facts.ensures in
     record {
       settles = (
         c.in_ok-routed.routed,
         subst (λ errand. Decides c.args.settings.now.endpoints errand (g.R.Routes.opening old) (g.R.Routes.seen old) (g.R.Routes.own old)
-            (g.R.Routes.seen new) (g.R.Routes.own new) c.in_ok-routed.routed) judged.2 c.in_ok-routed.ensures.decides,
-        record { handling_is = refl; decision_is = judged.3; facts_are = facts },
+            (g.R.Routes.seen new) (g.R.Routes.own new) c.in_ok-routed.routed) judged.1 c.in_ok-routed.ensures.decides,
+        record { handling_is = refl; decision_is = judged.2; facts_are = facts },
       );
       later = c.handle_errand.ensures.later;
       fixed = c.handle_errand.ensures.fixed;

@@ -17,8 +17,12 @@ all_have : (codes : List ℕ) → EachHasLength codes → All HasLength codes
 all_have [] each = All-nil HasLength
 all_have (code ∷ codes) each = All-cons HasLength code codes each.0 (all_have codes each.1)
 
-pub returns : goal.returns
+pub returns-clause-acting : goal.returns-clause-acting
+unfolding status_text digits
+returns-clause-acting c = refl
+
+pub returns-clause-told : goal.returns-clause-told
 unfolding cause_of status_text digits
-returns c =
+returns-clause-told c =
     all_have told_codes
     (refl, (refl, (refl, (refl, (refl, (refl, (refl, (refl, (refl, (refl, (refl, (refl, (refl, tt)))))))))))))

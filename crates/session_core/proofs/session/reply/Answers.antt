@@ -31,7 +31,7 @@ returns-in_err-complete-clause-err g c =
     on_err _ _ (halts_end c.offers_join.ensures c.later_stages_refuse_nothing.ensures c.stages_hide.ensures.started
     c.args.settings.now _ c.args.request.now c.args.sent _ _ _ _ _
     (begins c.offers_join.ensures c.later_stages_refuse_nothing.ensures c.stages_hide.ensures.started c.args.settings.now _ _ _ _ _ c.in-Ok.ensures.ok)
-    refl _ c.reply_due-due.ensures c.in_ok-replied.replied.end c.in_ok-replied.replied.kept _ _ _ c.in_ok-replied.ensures.ok
+    refl _ c.reply_show-show.ensures c.in_ok-replied.replied.end c.in_ok-replied.replied.kept _ _ _ c.in_ok-replied.ensures.ok
     _ _ _ c.set_reply.ensures c.in_err-complete.ensures.err)
 
 pub returns-clause-ok : goal.returns-clause-ok
@@ -39,5 +39,5 @@ returns-clause-ok g c =
     replied c.offers_join.ensures c.later_stages_refuse_nothing.ensures c.stages_hide.ensures.started
     c.args.settings.now _ c.args.request.now c.args.sent _ _ _ _ _
     (begins c.offers_join.ensures c.later_stages_refuse_nothing.ensures c.stages_hide.ensures.started c.args.settings.now _ _ _ _ _ c.in-Ok.ensures.ok)
-    refl _ c.reply_due-due.ensures c.in_ok-replied.replied.end c.in_ok-replied.replied.kept _ _ _ c.in_ok-replied.ensures.ok
+    refl _ c.reply_show-show.ensures c.in_ok-replied.replied.end c.in_ok-replied.replied.kept _ _ _ c.in_ok-replied.ensures.ok
     _ _ _ c.set_reply.ensures c.in_ok-complete.ensures.ok
