@@ -11,9 +11,10 @@ use Rattle.front_base.specs.declared.stage.Stage.TheVariants.{ResponseComplete}
 use Rattle.offer_steps.specs.Turns.{SettledTo}
 use Rattle.sink_steps.specs.Fixed.{Fixed, Keeps, setup_of}
 use Rattle.sink_steps.specs.Running.{TurnsTo}
-use Rattle.stage_event.specs.Due.{reply_due}
-use Rattle.stage_event.specs.Kept.{IsKept}
+use Rattle.stage_event.specs.Due.{reply_due, shown_as}
+use Rattle.stage_event.specs.Kept.{IsKept, IsKeptAs}
 use Rattle.stage_event.specs.declared.facts.Kept.{Kept}
+use Rattle.stage_event.specs.declared.show.Show.{Show}
 use Rattle.two_worlds.specs.Setup.{Setup}
 use Rattle.two_worlds.specs.Steps.{at_open, can_finish, due, finished, finished_with, handling_in, in_exchange, is_proxied, is_ready, link_in, own_reply, reply_in, sent, settled}
 use Rattle.two_worlds.specs.declared.state.Bay.{Bay}
@@ -24,19 +25,25 @@ use Rattle.two_worlds.specs.declared.step.StepAnswer.TheVariants.{Idle, Noted}
 
 -- ---- the reply's body
 
-pub own_kept : {E : Type 0} (handling : Handling) (is_head : Bool) (body : List ℕ) (r : Result Kept E)
-    → body ≡ sent is_head (body_of handling NotUsed []) → IfOk r (IsKept body)
-    → IfOk r (λ kept. (own : Fixed) (keep : List ℕ → Kept) → Keeps keep
-    → own_reply (setup_of own keep) handling is_head ≡ kept)
+shown_kept : (managed : Bool) (body : List ℕ) (kept : Kept) → IsKeptAs (shown_as true managed) body kept → IsKept managed body kept
+shown_kept true body kept h = h
+shown_kept false body kept h = h
+
+pub own_kept : {E : Type 0} (handling : Handling) (managed is_head : Bool) (show : Show) (r : Result Kept E)
+    → show ≡ shown_as true managed → IfOk r (IsKeptAs show (sent is_head (body_of handling NotUsed [])))
+    → IfOk r (λ kept. (own : Fixed) (keep : Bool → List ℕ → Kept) → Keeps keep
+    → own_reply (setup_of own keep) handling managed is_head ≡ kept)
 unfolding own_reply
-own_kept handling is_head body (Ok kept) is h = λ own keep k. ap keep (sym is) ∙ k body kept h
-own_kept handling is_head body (Err e) is h = tt
+own_kept handling managed is_head show (Ok kept) is h = λ own keep k.
+    let body = sent is_head (body_of handling NotUsed []) in
+    k managed body kept (shown_kept managed body kept (subst (λ (s : Show). IsKeptAs s body kept) is h))
+own_kept handling managed is_head show (Err e) is h = tt
 
 pub reply_own : {E : Type 0} (handling : Handling) (o : Open) (reply : Kept) (r : Result Kept E)
     → reply_due o.exchange.level o.exchange.facts.info ≡ true → is_proxied handling ≡ false
-    → IfOk r (λ kept. (own : Fixed) (keep : List ℕ → Kept) → Keeps keep
-    → own_reply (setup_of own keep) handling o.exchange.is_head ≡ kept)
-    → IfOk r (λ kept. (own : Fixed) (keep : List ℕ → Kept) → Keeps keep
+    → IfOk r (λ kept. (own : Fixed) (keep : Bool → List ℕ → Kept) → Keeps keep
+    → own_reply (setup_of own keep) handling o.exchange.managed o.exchange.is_head ≡ kept)
+    → IfOk r (λ kept. (own : Fixed) (keep : Bool → List ℕ → Kept) → Keeps keep
     → reply_in (setup_of own keep) handling o reply ≡ kept)
 reply_own handling o reply (Ok kept) due here h = λ own keep k. rw (due, here) (h own keep k)
 reply_own handling o reply (Err e) due here h = tt
@@ -58,7 +65,7 @@ pub noted_as : (setup : Setup) (link : LinkNote) (status : ℕ) (reply : Kept) (
     ≡ finished_by setup link status reply moment o
 noted_as setup link status reply moment o dues waits = rw waits refl
 
-pub finished_as : (own : Fixed) (keep : List ℕ → Kept) (handling : Handling) (link noted : LinkNote) (status : ℕ)
+pub finished_as : (own : Fixed) (keep : Bool → List ℕ → Kept) (handling : Handling) (link noted : LinkNote) (status : ℕ)
     (reply shown : Kept) (moment : ℕ) (o new : Open) → status ≡ status_of handling link → noted ≡ link_in handling link
     → reply_in (setup_of own keep) handling o reply ≡ shown
     → new ≡ finished_by (setup_of own keep) noted status shown moment o

@@ -1,8 +1,11 @@
 // The step Finish: a request was answered.
-ghost use Rattle.std.specs.Prelude.{◌≡◌, ◌<◌, ℕ, List, Some, IfOk, OnOk, OnErr, vec_len, vec_capacity};
+ghost use Rattle.std.specs.Prelude.{◌≡◌, ◌<◌, [], ℕ, Bool, List, Some, IfOk, OnOk, OnErr, vec_len, vec_capacity};
 ghost use Rattle.answer_steps.specs.Turns.{FinishesCurrent, answer_to, finished_by};
+ghost use Rattle.audit_core.specs.Answer.{body_of};
+ghost use Rattle.audit_core.specs.declared.link_note.LinkNote.TheVariants as note;
 ghost use Rattle.sink_steps.specs.Fixed.{Fixed, Keeps, setup_of};
 ghost use Rattle.sink_steps.specs.Running.{TurnsTo};
+ghost use Rattle.stage_event.specs.Kept.{IsKeptAs};
 ghost use Rattle.stage_event.specs.declared.facts.Kept as declared;
 ghost use Rattle.two_worlds.specs.Steps as spec;
 
@@ -10,7 +13,7 @@ use audit_core::{Handling, LinkNote, kept_answer, status_of};
 use front_base::{Level, Moment, NoMemory, Stage};
 use offer_steps::{due, settle};
 use sink_steps::CoreSetup;
-use stage_event::{Kept, kept, reply_due};
+use stage_event::{Kept, Show, kept_as, reply_due};
 use start_steps::{handling, is_proxied, is_ready};
 use std::alloc::Global;
 use std::mem;
@@ -40,17 +43,28 @@ fn can_finish(opened: &Open, status: u16) -> bool
     }
 }
 
-// What is kept of the answer of this server.
-#[tactic(auto, unfolding(two_worlds::specs::Steps::own_reply))]
-fn own_reply(alloc: Global, handling: &Handling, is_head: bool) -> Result<Kept, NoMemory>
-    ensures { IfOk result (λ kept. (own : Fixed) (keep : List ℕ → declared.Kept) → Keeps keep
-        → spec.own_reply (setup_of own keep) handling.now is_head ≡ kept) }
+// What is kept of the answer of this server, of which that is shown.
+fn kept_own(alloc: Global, show: Show, handling: &Handling, is_head: bool) -> Result<Kept, NoMemory>
+    ensures { IfOk result (IsKeptAs show (spec.sent is_head (body_of handling.now note.NotUsed []))) }
 {
     if is_head {
-        kept(alloc, b"".as_slice())
+        kept_as(alloc, show, b"".as_slice())
     } else {
-        kept_answer(alloc, handling, LinkNote::NotUsed, b"".as_slice())
+        kept_answer(alloc, show, handling, LinkNote::NotUsed, b"".as_slice())
     }
+}
+
+// The same, with managed fields or without them.
+fn own_reply(
+    alloc: Global,
+    handling: &Handling,
+    managed: bool,
+    is_head: bool,
+) -> Result<Kept, NoMemory>
+    ensures { IfOk result (λ kept. (own : Fixed) (keep : Bool → List ℕ → declared.Kept) → Keeps keep
+        → spec.own_reply (setup_of own keep) handling.now managed is_head ≡ kept) }
+{
+    kept_own(alloc, Show::of(true, managed), handling, is_head)
 }
 
 // What is kept of the reply's body where an event shows it.
@@ -60,7 +74,7 @@ fn reply_in(
     opened: &Open,
     reply: Kept,
 ) -> Result<Kept, NoMemory>
-    ensures { IfOk result (λ kept. (own : Fixed) (keep : List ℕ → declared.Kept) → Keeps keep
+    ensures { IfOk result (λ kept. (own : Fixed) (keep : Bool → List ℕ → declared.Kept) → Keeps keep
         → spec.reply_in (setup_of own keep) handling.now opened.now reply ≡ kept) }
 {
     if !reply_due(opened.exchange.level, &opened.exchange.facts.info) {
@@ -69,7 +83,8 @@ fn reply_in(
     if is_proxied(handling) {
         return Ok(reply);
     }
-    own_reply(alloc, handling, opened.exchange.is_head)
+    let exchange = &opened.exchange;
+    own_reply(alloc, handling, exchange.managed, exchange.is_head)
 }
 
 // A link counts where the request is sent on.
@@ -93,7 +108,7 @@ fn note_finished(
     moment: Moment,
     opened: &mut Open,
 ) -> Result<(), NoMemory>
-    ensures ok { OnOk result ((keep : List ℕ → declared.Kept)
+    ensures ok { OnOk result ((keep : Bool → List ℕ → declared.Kept)
         → opened.new ≡ finished_by (setup_of setup.now keep) link status reply moment opened.old) }
     ensures err { OnErr result (opened.new ≡ opened.old) }
 {
@@ -136,7 +151,7 @@ fn finish_open(
     moment: Moment,
     opened: &mut Open,
 ) -> Result<(), NoMemory>
-    ensures ok { OnOk result ((keep : List ℕ → declared.Kept) → Keeps keep
+    ensures ok { OnOk result ((keep : Bool → List ℕ → declared.Kept) → Keeps keep
         → opened.new ≡ spec.finished_with (setup_of setup.now keep) handling.now link reply moment opened.old) }
     ensures err { OnErr result (opened.new ≡ opened.old) }
 {
@@ -157,7 +172,7 @@ fn finish_current(
     closed: &mut Vec<Exchange>,
     current: &mut Option<Open>,
 ) -> Result<(), NoMemory>
-    ensures ok { OnOk result ((keep : List ℕ → declared.Kept) → Keeps keep
+    ensures ok { OnOk result ((keep : Bool → List ℕ → declared.Kept) → Keeps keep
         → FinishesCurrent (setup_of setup.now keep) handling.now link reply moment
         closed.old.items current.old closed.new.items current.new) }
     ensures closed { OnErr result (closed.new.items ≡ closed.old.items) }
@@ -185,7 +200,7 @@ fn answer_to(
     shared: &Shared,
     current: &Option<Open>,
 ) -> Result<Option<Handling>, NoMemory>
-    ensures { IfOk result (λ own. (keep : List ℕ → declared.Kept)
+    ensures { IfOk result (λ own. (keep : Bool → List ℕ → declared.Kept)
         → own ≡ answer_to (setup_of setup.now keep) link moment shared.now current.now) }
 {
     let Some(opened) = current else {
@@ -213,7 +228,7 @@ pub fn finish(
     shared: &Shared,
     b: &mut Bay,
 ) -> Result<StepAnswer, NoMemory>
-    ensures ok { IfOk result (λ answer. (keep : List ℕ → declared.Kept) → Keeps keep
+    ensures ok { IfOk result (λ answer. (keep : Bool → List ℕ → declared.Kept) → Keeps keep
         → TurnsTo (spec.in_exchange (spec.finished (setup_of setup.now keep) link reply moment) shared.now b.old)
         shared.now b.old shared.now b.new answer) }
     ensures err { OnErr result (b.new ≡ b.old) }

@@ -1,5 +1,5 @@
 -- A turn of a bay, as a step of the whole.
-use Rattle.std.proofs.Common.{◌≡◌, ◌≤◌, ℕ, zero, suc, List, [], ◌∷◌, length, Option, Some, Result, Ok, Err, IfOk, OnErr, refl, ap, sym, ◌∙◌}
+use Rattle.std.proofs.Common.{◌≡◌, ◌≤◌, ℕ, zero, suc, Bool, List, [], ◌∷◌, length, Option, Some, Result, Ok, Err, IfOk, OnErr, refl, ap, sym, ◌∙◌}
 use Rattle.std.specs.Prelude.{slice_get, slice_set}
 use Rattle.http_edge.specs.declared.request.Request.{Request}
 use Rattle.sink_steps.specs.Fixed.{Fixed, Keeps, setup_of}
@@ -33,8 +33,8 @@ AreTaken =
 pub turned_step : {E : Type 0} (taken : AreTaken) (own : Fixed) (s : State) (place : ℕ) (taken_step : Step)
     (f : Setup → Shared → Bay → Option Turn) (b new : Bay) (sh : Shared) (r : Result StepAnswer E)
     → slice_get s.bays place ≡ Some b
-    → ((keep : List ℕ → Kept) → step (setup_of own keep) s taken_step ≡ at_bay s place (f (setup_of own keep)))
-    → IfOk r (λ answer. (keep : List ℕ → Kept) → Keeps keep
+    → ((keep : Bool → List ℕ → Kept) → step (setup_of own keep) s taken_step ≡ at_bay s place (f (setup_of own keep)))
+    → IfOk r (λ answer. (keep : Bool → List ℕ → Kept) → Keeps keep
     → TurnsTo (f (setup_of own keep) s.shared b) s.shared b sh new answer)
     → IfOk r (StepsTo own s taken_step (record { shared = sh; bays = slice_set s.bays place new }))
 turned_step taken own s place taken_step f b new sh (Ok answer) at is h =
@@ -45,8 +45,8 @@ turned_step taken own s place taken_step f b new sh (Err e) at is h = tt
 pub turned_any : {E : Type 0} (taken : AreTaken) (own : Fixed) (s : State) (place : ℕ) (taken_step : Step)
     (f : Setup → Shared → Bay → Option Turn) (b new : Bay) (sh : Shared) (r : Result StepAnswer E)
     → slice_get s.bays place ≡ Some b
-    → ((keep : List ℕ → Kept) → step (setup_of own keep) s taken_step ≡ at_bay s place (f (setup_of own keep)))
-    → IfOk r (λ answer. (keep : List ℕ → Kept) → TurnsTo (f (setup_of own keep) s.shared b) s.shared b sh new answer)
+    → ((keep : Bool → List ℕ → Kept) → step (setup_of own keep) s taken_step ≡ at_bay s place (f (setup_of own keep)))
+    → IfOk r (λ answer. (keep : Bool → List ℕ → Kept) → TurnsTo (f (setup_of own keep) s.shared b) s.shared b sh new answer)
     → IfOk r (StepsTo own s taken_step (record { shared = sh; bays = slice_set s.bays place new }))
 turned_any taken own s place taken_step f b new sh (Ok answer) at is h =
     λ keep k. is keep ∙ taken s place (f (setup_of own keep)) b new sh answer at (h keep)
@@ -60,7 +60,7 @@ AreIdle =
 
 pub idle_step : (idle : AreIdle) (own : Fixed) (s : State) (place : ℕ) (taken_step : Step)
     (f : Setup → Shared → Bay → Option Turn) → length s.bays ≤ place
-    → ((keep : List ℕ → Kept) → step (setup_of own keep) s taken_step ≡ at_bay s place (f (setup_of own keep)))
+    → ((keep : Bool → List ℕ → Kept) → step (setup_of own keep) s taken_step ≡ at_bay s place (f (setup_of own keep)))
     → StepsTo own s taken_step s Idle
 idle_step idle own s place taken_step f past is = λ keep k. is keep ∙ idle s place (f (setup_of own keep)) past
 
@@ -82,7 +82,7 @@ same_bays s place b new (Err e) at h =
 -- of a Begin, which leaves what bays share as it is, whatever that is
 pub turned_begin : {E : Type 0} (taken : AreTaken) (own : Fixed) (s : State) (bay : ℕ) (peer : List ℕ) (r : Request)
     (moment : ℕ) (b new : Bay) (result : Result StepAnswer E) → slice_get s.bays bay ≡ Some b
-    → IfOk result (λ answer. (keep : List ℕ → Kept) → Keeps keep → (any : Shared)
+    → IfOk result (λ answer. (keep : Bool → List ℕ → Kept) → Keeps keep → (any : Shared)
     → TurnsTo (begin (setup_of own keep) bay (wish_of (setup_of own keep) peer r) moment any b) any b any new answer)
     → IfOk result (StepsTo own s (Begin bay r peer moment)
     (record { shared = s.shared; bays = slice_set s.bays bay new }))

@@ -1,5 +1,5 @@
 -- The machine of steps.
-use Rattle.std.specs.Prelude.{◌≡◌, ◌++◌, ℕ, List}
+use Rattle.std.specs.Prelude.{◌≡◌, ◌++◌, ℕ, Bool, List}
 use Rattle.sink_steps.specs.Fixed.{Fixed, Keeps, setup_of}
 use Rattle.stage_event.specs.declared.facts.Kept.{Kept}
 use Rattle.two_worlds.specs.Steps.{after_steps, answers_to}
@@ -15,7 +15,7 @@ pub record Machine : Type 0 where
 -- steps lead from a state to another, and answer so
 abbrev pub RunsTo : Fixed → State → List Step → State → List StepAnswer → Type 0
 RunsTo own s steps t answers =
-    (keep : List ℕ → Kept) → Keeps keep
+    (keep : Bool → List ℕ → Kept) → Keeps keep
     → (after_steps (setup_of own keep) s steps ≡ t) × (answers_to (setup_of own keep) s steps ≡ answers)
 
 -- some of the steps, from the first on, lead to that state

@@ -1,73 +1,79 @@
 -- What a Begin leaves, as the code makes it.
-use Rattle.std.proofs.Common.{◌≡◌, ℕ, ◌+◌, ◌<◌, ◌≤◌, arith, ap, ◌∙◌, Bool, true, false, ◌&&◌, List, [], Option, Some, None, Result, Ok, Err, IfOk, refl, sym, subst}
-use Rattle.std.specs.Prelude.{bytes_eq, codes, is_none, is_some, nat_lt, if◌then◌else◌}
+use Rattle.std.proofs.Common.{◌≡◌, ℕ, ◌+◌, ◌<◌, ◌≤◌, arith, ap, ◌∙◌, Bool, true, false, ◌&&◌, List, [], Option, Some, None, refl, sym, subst}
+use Rattle.std.specs.Prelude.{is_none, is_some, nat_lt, option_map, if◌then◌else◌}
 use Rattle.std.proofs.lemmas.Bool.Decides.{nat_tests}
-use Rattle.audit_core.specs.Exchange.{IsJudged, agent_in}
+use Rattle.apiservice_table.specs.declared.change.Change.{Change}
+use Rattle.audit_core.specs.Exchange.{AreFirstFacts, IsJudged}
 use Rattle.audit_core.specs.Offers.{Due}
 use Rattle.audit_core.specs.declared.judged.Judged.{Judged}
-use Rattle.audit_core.specs.declared.link_note.LinkNote.TheVariants.{NotUsed}
-use Rattle.begin_steps.specs.Bare.{Completes, CompletesCurrent, bare, looked_into}
+use Rattle.audit_core.specs.declared.stamp.Stamp.{Stamp}
+use Rattle.begin_steps.specs.Bare.{IsBare, bare, completed}
 use Rattle.front_base.specs.AuditId.{AuditId}
 use Rattle.front_base.specs.declared.audit_id.TheConstants.{MOST_REQUESTS}
 use Rattle.front_base.specs.declared.stage.Stage.TheVariants.{RequestReceived}
 use Rattle.http_edge.specs.declared.request.Request.{Request}
 use Rattle.sink_steps.specs.Fixed.{Keeps}
 use Rattle.sink_steps.specs.Running.{TurnsTo}
-use Rattle.stage_event.specs.Begun.{begun as begun_facts}
-use Rattle.stage_event.specs.Kept.{IsKept}
+use Rattle.stage_event.specs.Due.{request_due, shown_as}
+use Rattle.stage_event.specs.Kept.{IsKeptAs}
 use Rattle.stage_event.specs.declared.facts.Facts.{Facts}
 use Rattle.stage_event.specs.declared.facts.Kept.{Kept}
-use Rattle.two_worlds.specs.Requests.{Wish, kept_if, wish_of}
+use Rattle.two_worlds.specs.Requests.{Wish, asked_by, kept_if, wish_of}
 use Rattle.two_worlds.specs.Setup.{Setup}
-use Rattle.two_worlds.specs.Steps.{Turn, begin, begun, due, phase_begun}
+use Rattle.two_worlds.specs.Steps.{Turn, begin, begun, due, facts_begun, phase_begun}
 use Rattle.two_worlds.specs.declared.state.Bay.{Bay}
 use Rattle.two_worlds.specs.declared.state.Exchange.{Exchange}
 use Rattle.two_worlds.specs.declared.state.Open.{Open}
 use Rattle.two_worlds.specs.declared.state.Shared.{Shared}
 use Rattle.two_worlds.specs.declared.step.StepAnswer.TheVariants.{Begun, Idle}
 
-pub kept_by : {E : Type 0} (body : List ℕ) (r : Result Kept E) → IfOk r (IsKept body)
-    → IfOk r (λ kept. (keep : List ℕ → Kept) → Keeps keep → kept_if true (keep body) ≡ kept)
-kept_by body (Ok kept) h = λ keep k. k body kept h
-kept_by body (Err e) h = tt
+-- ---- the exchange
 
-pub bare_as : (setup : Setup) (id : AuditId) (peer : List ℕ) (r : Request) (moment : ℕ) (judged : Judged)
-    (target agent : List ℕ) (facts : Facts) (x : Exchange) (dues : List Due) → dues ≡ [] → id.boot ≡ setup.boot → IsJudged setup.set r judged
-    → target ≡ r.head.target → agent ≡ agent_in r.head.headers
-    → facts ≡ begun_facts id target judged.info judged.user peer agent moment
-    → x
-    ≡ record {
-      level = judged.decision.level;
-      facts = facts;
-      errand = judged.errand;
-      asked = None;
-      is_head = bytes_eq r.head.method (codes "HEAD");
-      seen = 0;
-      link = NotUsed;
-      notes = [];
-    }
+kept_so : (due omit : Bool) (keep : Bool → List ℕ → Kept) → Keeps keep → (body : List ℕ) (kept : Kept)
+    → IsKeptAs (shown_as due omit) body kept → kept ≡ kept_if due (keep omit body)
+kept_so false omit keep k body kept h = h
+kept_so true false keep k body kept h = sym (k false body kept h)
+kept_so true true keep k body kept h = sym (k true body kept h)
+
+-- the stamp of a request that came at that moment
+abbrev stamp_at : AuditId → List ℕ → ℕ → Stamp
+stamp_at id peer moment = record { id = id; peer = peer; received = moment; started = moment; complete = moment }
+
+facts_as : (setup : Setup) → Keeps setup.keep → (id : AuditId) (peer : List ℕ) (r : Request) (moment : ℕ) (judged : Judged)
+    (facts : Facts) → id.boot ≡ setup.boot → IsJudged setup.set r judged
+    → AreFirstFacts (stamp_at id peer moment) r judged.attributes judged.decision facts
+    → facts ≡ facts_begun setup id.bay id.number (wish_of setup peer r) moment
+unfolding wish_of
+facts_as setup k id peer r moment judged facts boot (attributes, errand, decision) (kept, keeps, is) =
+    let so = kept_so (request_due judged.decision.level judged.attributes.info) judged.decision.omit_managed setup.keep k r.body kept keeps in
+    rw (is, so, attributes, decision, sym boot) refl
+
+pub bare_as : (setup : Setup) → Keeps setup.keep → (id : AuditId) (peer : List ℕ) (r : Request) (moment : ℕ) (judged : Judged)
+    (x : Exchange) (dues : List Due) → dues ≡ [] → id.boot ≡ setup.boot → IsJudged setup.set r judged
+    → IsBare (stamp_at id peer moment) r judged x
     → record { exchange = x; phase = phase_begun moment; waiting = dues }
     ≡ bare setup id.bay id.number (wish_of setup peer r) moment
 unfolding wish_of
-bare_as setup id peer r moment judged target agent facts x dues none boot (info, user, errand, decision) at own made is =
-    rw (none, is, made, at, own, info, user, errand, decision, sym boot) refl
+bare_as setup k id peer r moment judged x dues none boot h (facts, first, is) =
+    let same = facts_as setup k id peer r moment judged facts boot h first in
+    rw (none, is, same, h.1, h.2) refl
 
-pub completed : (setup : Setup) (kept : Kept) (o : Open) (x : Exchange) (dues : List Due) → x ≡ looked_into kept o.exchange
-    → dues ≡ due setup RequestReceived x.level x.facts
-    → Completes setup kept o (record { exchange = x; phase = o.phase; waiting = dues })
-completed setup kept o x dues is waits = rw (waits, is) refl
-
-pub current_completed : (setup : Setup) (kept : Kept) (current : Option Open) (o new : Open) → current ≡ Some o
-    → Completes setup kept o new → CompletesCurrent setup kept current (Some new)
-current_completed setup kept current o new at done =
-    subst (λ (c : Option Open). CompletesCurrent setup kept c (Some new)) (sym at) (new, done, refl)
-
-begun_as : (setup : Setup) (bay number : ℕ) (peer : List ℕ) (r : Request) (moment : ℕ) (o new : Open)
-    → o ≡ bare setup bay number (wish_of setup peer r) moment → Completes setup (setup.keep r.body) o new
-    → begun setup bay number (wish_of setup peer r) moment ≡ new
+begun_as : (setup : Setup) (bay number : ℕ) (peer : List ℕ) (r : Request) (moment : ℕ)
+    → begun setup bay number (wish_of setup peer r) moment
+    ≡ completed setup (bare setup bay number (wish_of setup peer r) moment)
 unfolding wish_of
-begun_as setup bay number peer r moment o new is done =
-    sym (subst (λ (x : Open). Completes setup (setup.keep r.body) x new) is done)
+begun_as setup bay number peer r moment = refl
+
+pub completed_as : (setup : Setup) (o : Open) (asked : Option Change) (dues : List Due) → asked ≡ asked_by o.exchange.errand
+    → dues ≡ due setup RequestReceived o.exchange.level o.exchange.facts
+    → record { exchange = record o.exchange { asked = asked }; phase = o.phase; waiting = dues } ≡ completed setup o
+completed_as setup o asked dues asks waits = rw (waits, asks) refl
+
+pub current_completed : (setup : Setup) (current : Option Open) (o new : Open) → current ≡ Some o → new ≡ completed setup o
+    → Some new ≡ option_map (completed setup) current
+current_completed setup current o new at now = rw (at, now) refl
+
+-- ---- the turn
 
 turn_of : (setup : Setup) (bay : ℕ) (w : Wish) (moment : ℕ) (sh : Shared) (b : Bay) (o : Open) → is_none b.current ≡ true
     → nat_lt b.number MOST_REQUESTS ≡ true → begun setup bay b.number w moment ≡ o
@@ -93,18 +99,17 @@ same_none b current none h =
 
 pub begin_turn : (setup : Setup) (bay : ℕ) (peer : List ℕ) (r : Request) (moment : ℕ) (sh : Shared) (b : Bay) (o : Open)
     (current : Option Open) → is_some b.current ≡ false → b.number < MOST_REQUESTS
-    → o ≡ bare setup bay b.number (wish_of setup peer r) moment
-    → CompletesCurrent setup (setup.keep r.body) (Some o) current
+    → o ≡ bare setup bay b.number (wish_of setup peer r) moment → current ≡ Some (completed setup o)
     → TurnsTo (begin setup bay (wish_of setup peer r) moment sh b) sh b sh
     (record b { number = b.number + 1; current = current }) Begun
-begin_turn setup bay peer r moment sh b o current none below is (new, done, now) =
+begin_turn setup bay peer r moment sh b o current none below is now =
     let few : nat_lt b.number MOST_REQUESTS ≡ true = grind (arith, nat_tests) in
     subst
     (λ (c : Option Open). TurnsTo (begin setup bay (wish_of setup peer r) moment sh b) sh b sh
     (record b { number = b.number + 1; current = c }) Begun)
     (sym now)
-    (turn_of setup bay (wish_of setup peer r) moment sh b new (none_by b.current none) few
-    (begun_as setup bay b.number peer r moment o new is done))
+    (turn_of setup bay (wish_of setup peer r) moment sh b (completed setup o) (none_by b.current none) few
+    (begun_as setup bay b.number peer r moment ∙ ap (completed setup) (sym is)))
 
 idle_if : (can : Bool) (t : Turn) (sh : Shared) (b : Bay) → can ≡ false
     → TurnsTo (if can then Some t else None) sh b sh b Idle

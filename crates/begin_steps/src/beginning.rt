@@ -1,48 +1,25 @@
 // The step Begin: a bay received a request.
-ghost use Rattle.std.specs.Prelude.{◌≡◌, [], ℕ, List, None, IfOk, OnOk, OnErr, bytes_eq, codes};
-ghost use Rattle.audit_core.specs.Exchange.{agent_in};
+ghost use Rattle.std.specs.Prelude.{◌≡◌, [], ℕ, Bool, List, None, IfOk, OnOk, OnErr, bytes_eq, codes, option_map};
 ghost use Rattle.audit_core.specs.declared.link_note.LinkNote.TheVariants as note;
-ghost use Rattle.begin_steps.specs.Bare.{Completes, CompletesCurrent, bare};
+ghost use Rattle.begin_steps.specs.Bare.{IsBare, bare, completed};
 ghost use Rattle.sink_steps.specs.Fixed.{Keeps, setup_of};
 ghost use Rattle.sink_steps.specs.Running.{TurnsTo};
-ghost use Rattle.stage_event.specs.Due as shows;
 ghost use Rattle.stage_event.specs.declared.facts.Kept as declared;
 ghost use Rattle.two_worlds.specs.Requests as asks;
 ghost use Rattle.two_worlds.specs.Steps as spec;
 ghost use Rattle.two_worlds.specs.declared.state.Shared.{Shared};
 
 use apiservice_table::Change;
-use audit_core::{Errand, Judged, LinkNote, judge};
-use front_base::{AuditId, Level, MOST_REQUESTS, Moment, NoMemory, Stage, Text};
+use audit_core::{Errand, Judged, LinkNote, Stamp, first_facts, judge};
+use front_base::{AuditId, MOST_REQUESTS, Moment, NoMemory, Stage};
 use http_edge::Request;
-use http_head::Headers;
 use local_replies::{LocalErrand, LocalPaths};
 use offer_steps::due;
+use policy_rules::Decision;
 use sink_steps::CoreSetup;
-use stage_event::{Facts, Kept, kept, request_due};
+use stage_event::Facts;
 use std::alloc::Global;
 use two_worlds::{Bay, Exchange, Items, Open, Phase, StepAnswer};
-
-fn agent_in(alloc: Global, headers: &Headers) -> Result<Text, NoMemory>
-    ensures { IfOk result (λ agent. agent ≡ agent_in headers.now) }
-{
-    match headers.first_value("user-agent") {
-        Some(value) => Ok(Text::new(String::from_utf8_lossy(alloc, value)?)),
-        None => Text::copy_of(alloc, ""),
-    }
-}
-
-// What is kept of a body, where an event shows it.
-fn kept_if(alloc: Global, due: bool, body: &[u8]) -> Result<Kept, NoMemory>
-    ensures { IfOk result (λ kept. (keep : List ℕ → declared.Kept) → Keeps keep
-        → asks.kept_if due (keep body.now) ≡ kept) }
-{
-    if due {
-        kept(alloc, body)
-    } else {
-        Ok(Kept::NotAsked)
-    }
-}
 
 // The change that an errand asks for, if it asks for one.
 fn asked_by(alloc: Global, errand: &Errand) -> Result<Option<Change>, NoMemory>
@@ -54,37 +31,60 @@ fn asked_by(alloc: Global, errand: &Errand) -> Result<Option<Change>, NoMemory>
         Errand::Serve(_, LocalErrand::Look) => Ok(None),
         Errand::Refuse(_) => Ok(None),
         Errand::Route { .. } => Ok(None),
+        Errand::Other => Ok(None),
     }
 }
 
-// The exchange of a request, before its body is looked at.
+// The exchange of a request of which these are the first facts, before the change that it asks for is noted.
 fn bare_exchange(
     alloc: Global,
     request: &Request,
-    level: Level,
+    decision: Decision,
     facts: Facts,
     errand: Errand,
 ) -> Exchange
     ensures { result ≡ record {
-      level = level;
+      level = decision.level;
       facts = facts;
       errand = errand;
       asked = None;
       is_head = bytes_eq request.now.head.method (codes "HEAD");
+      managed = decision.omit_managed;
       seen = 0;
       link = note.NotUsed;
       notes = [];
     } }
 {
     Exchange {
-        level,
+        level: decision.level,
         facts,
         errand,
         asked: None,
         is_head: request.head.method.as_str() == "HEAD",
+        managed: decision.omit_managed,
         seen: 0,
         link: LinkNote::NotUsed,
         notes: Items::new(Vec::new(alloc)),
+    }
+}
+
+// The exchange of a request that was judged so.
+fn judged_exchange(
+    alloc: Global,
+    request: &Request,
+    stamp: &Stamp,
+    judged: Judged,
+) -> Result<Exchange, NoMemory>
+    ensures { IfOk result (IsBare stamp.now request.now judged) }
+{
+    let Judged {
+        attributes,
+        errand,
+        decision,
+    } = judged;
+    match first_facts(alloc, stamp, request, attributes, decision) {
+        Ok(facts) => Ok(bare_exchange(alloc, request, decision, facts, errand)),
+        Err(_) => Err(NoMemory),
     }
 }
 
@@ -98,22 +98,20 @@ fn bare_open(
     moment: Moment,
 ) -> Result<Open, NoMemory>
     requires { id.boot ≡ setup.now.boot }
-    ensures { IfOk result (λ opened. (keep : List ℕ → declared.Kept) → opened ≡ bare (setup_of setup.now keep) id.bay id.number
+    ensures { IfOk result (λ opened. (keep : Bool → List ℕ → declared.Kept) → Keeps keep
+        → opened ≡ bare (setup_of setup.now keep) id.bay id.number
         (asks.wish_of (setup_of setup.now keep) peer request.now) moment) }
 {
-    let target = request.head.target.copy(alloc)?;
-    let agent = agent_in(alloc, &request.head.headers)?;
+    let stamp = Stamp {
+        id,
+        peer,
+        received: moment,
+        started: moment,
+        complete: moment,
+    };
     let judged = judge(alloc, setup.settings(), paths, request)?;
-    let Judged {
-        info,
-        user,
-        errand,
-        decision,
-    } = judged;
-    let facts = Facts::begin(id, target, info, user, peer, agent, moment);
-    let exchange = bare_exchange(alloc, request, decision.level, facts, errand);
     Ok(Open {
-        exchange,
+        exchange: judged_exchange(alloc, request, &stamp, judged)?,
         phase: Phase {
             found: false,
             failed: false,
@@ -126,37 +124,16 @@ fn bare_open(
     })
 }
 
-// Notes what is kept of the body, where an event shows it, and the change that is asked for.
-fn look_into(alloc: Global, request: &Request, exchange: &mut Exchange) -> Result<(), NoMemory>
-    ensures { OnOk result ((keep : List ℕ → declared.Kept) → Keeps keep → exchange.new ≡ record exchange.old {
-      facts = record exchange.old.facts {
-        request = asks.kept_if (shows.request_due exchange.old.level exchange.old.facts.info) (keep request.now.body);
-      };
-      asked = asks.asked_by exchange.old.errand;
-    }) }
+// Notes the change that is asked for, and what waits to be offered of the arrival.
+fn complete(alloc: Global, setup: &CoreSetup, opened: &mut Open) -> Result<(), NoMemory>
+    ensures { OnOk result ((keep : Bool → List ℕ → declared.Kept)
+        → opened.new ≡ completed (setup_of setup.now keep) opened.old) }
 {
-    let due = request_due(exchange.level, &exchange.facts.info);
-    let body = kept_if(alloc, due, request.body.as_slice())?;
-    let asked = asked_by(alloc, &exchange.errand)?;
-    exchange.facts.request = body;
-    exchange.asked = asked;
-    Ok(())
-}
-
-// The exchange is looked into, and the offers of its arrival wait.
-fn complete(
-    alloc: Global,
-    setup: &CoreSetup,
-    request: &Request,
-    opened: &mut Open,
-) -> Result<(), NoMemory>
-    ensures { OnOk result ((keep : List ℕ → declared.Kept) → Keeps keep
-        → Completes (setup_of setup.now keep) (keep request.now.body) opened.old opened.new) }
-{
-    look_into(alloc, request, &mut opened.exchange)?;
+    let asked = asked_by(alloc, &opened.exchange.errand)?;
     let level = opened.exchange.level;
     let stage = Stage::RequestReceived;
     let waiting = due(alloc, setup, stage, level, &opened.exchange.facts)?;
+    opened.exchange.asked = asked;
     opened.waiting = waiting;
     Ok(())
 }
@@ -164,15 +141,14 @@ fn complete(
 fn complete_current(
     alloc: Global,
     setup: &CoreSetup,
-    request: &Request,
     current: &mut Option<Open>,
 ) -> Result<(), NoMemory>
-    ensures { OnOk result ((keep : List ℕ → declared.Kept) → Keeps keep
-        → CompletesCurrent (setup_of setup.now keep) (keep request.now.body) current.old current.new) }
+    ensures { OnOk result ((keep : Bool → List ℕ → declared.Kept)
+        → current.new ≡ option_map (completed (setup_of setup.now keep)) current.old) }
 {
     match current {
         None => Ok(()),
-        Some(opened) => complete(alloc, setup, request, opened),
+        Some(opened) => complete(alloc, setup, opened),
     }
 }
 
@@ -194,7 +170,7 @@ pub fn begin(
     moment: Moment,
     b: &mut Bay,
 ) -> Result<StepAnswer, NoMemory>
-    ensures ok { IfOk result (λ answer. (keep : List ℕ → declared.Kept) → Keeps keep → (sh : Shared)
+    ensures ok { IfOk result (λ answer. (keep : Bool → List ℕ → declared.Kept) → Keeps keep → (sh : Shared)
         → TurnsTo (spec.begin (setup_of setup.now keep) bay (asks.wish_of (setup_of setup.now keep) peer request.now)
         moment sh b.old) sh b.old sh b.new answer) }
     ensures err { OnErr result (b.new ≡ b.old) }
@@ -212,7 +188,7 @@ pub fn begin(
     };
     let opened = bare_open(alloc, setup, paths, request, id, peer, moment)?;
     put(&mut b.current, Some(opened));
-    match complete_current(alloc, setup, request, &mut b.current) {
+    match complete_current(alloc, setup, &mut b.current) {
         Ok(()) => {
             b.number += 1;
             Ok(StepAnswer::Begun)

@@ -577,7 +577,7 @@ finished_reply setup k link reply m o =
       link = λ e. ap (λ b. if b then link else NotUsed) e;
       reply = λ e.
           ap
-          (λ b. kept_if (reply_due o.exchange.level o.exchange.facts.info) (if b then reply else Steps.own_reply setup k o.exchange.is_head))
+          (λ b. kept_if (reply_due o.exchange.level o.exchange.facts.info) (if b then reply else Steps.own_reply setup k o.exchange.managed o.exchange.is_head))
           e;
     }
 

@@ -28,11 +28,13 @@ wished x =
       target = x.facts.target;
       info = x.facts.info;
       user = x.facts.user;
+      acting = x.facts.acting;
       peer = x.facts.peer;
       agent = x.facts.agent;
       errand = x.errand;
       asked = x.asked;
       is_head = x.is_head;
+      managed = x.managed;
       body = x.facts.request;
     }
 
@@ -50,7 +52,7 @@ handled setup changes x = handling_at setup changes (has_refused setup.set x.not
 
 -- what is kept of an answer of this server
 abbrev pub own_kept : Setup → Handling → Exchange → Kept
-own_kept setup handling x = kept_if (reply_due x.level x.facts.info) (own_reply setup handling x.is_head)
+own_kept setup handling x = kept_if (reply_due x.level x.facts.info) (own_reply setup handling x.managed x.is_head)
 
 -- it was answered as it was handled
 pub record HasReply (setup : Setup) (handling : Handling) (x : Exchange) : Type 0 where

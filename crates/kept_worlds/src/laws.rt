@@ -1,4 +1,4 @@
-ghost use Rattle.std.specs.Prelude.{◌≡◌, ◌⊎◌, ℕ, List};
+ghost use Rattle.std.specs.Prelude.{◌≡◌, ◌⊎◌, ℕ, Bool, List};
 ghost use Rattle.audit_steps.specs.Machine.{RunsTo};
 ghost use Rattle.json_span.specs.Value.{IsText};
 ghost use Rattle.sink_steps.specs.Fixed.{Fixed, Keeps};
@@ -14,13 +14,13 @@ use stage_event::one_kept;
 /// Whether bytes are one JSON text can be decided. So something is kept of every body.
 pub fn every_body_is_kept()
     ensures texts { (text : List ℕ) → IsText text ⊎ ¬ (IsText text) }
-    ensures bodies { (body : List ℕ) → (kept : Kept) × IsKept body kept }
+    ensures bodies { (omit : Bool) (body : List ℕ) → (kept : Kept) × IsKept omit body kept }
 {}
 
 /// Some function says what is kept of every body. The contracts of steps speak of each such function, and the laws of
 /// `two_worlds` and `core_laws` of any.
 pub fn some_function_keeps()
-    ensures { (keep : List ℕ → Kept) × Keeps keep }
+    ensures { (keep : Bool → List ℕ → Kept) × Keeps keep }
 {
     one_kept();
 }

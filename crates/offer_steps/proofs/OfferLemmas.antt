@@ -1,5 +1,5 @@
 -- What an offer leaves, as the code makes it.
-use Rattle.std.proofs.Common.{◌≡◌, ◌∙◌, ℕ, ◌<◌, true, false, ◌||◌, length, arith, List, [], ◌∷◌, ◌++◌, drop, slice_index_or, Option, Some, None, ap, sym, refl, subst}
+use Rattle.std.proofs.Common.{◌≡◌, ◌∙◌, ℕ, ◌<◌, true, false, ◌||◌, length, arith, Bool, List, [], ◌∷◌, ◌++◌, drop, slice_index_or, Option, Some, None, ap, sym, refl, subst}
 use Rattle.std.specs.Prelude.{if◌then◌else◌}
 use Rattle.audit_core.specs.Offers.{Due, refuses}
 use Rattle.audit_core.specs.declared.offers.OfferNote.{OfferNote}
@@ -60,9 +60,9 @@ current_waits sink current o at can =
 pub current_offered : (own : Fixed) (bay : ℕ) (works : TryTold) (sh new_sh : Shared)
     (closed same new_closed : List Exchange) (current after : Option Open) (o new : Open) (became : Outcome)
     → current ≡ Some o → same ≡ closed
-    → ((keep : List ℕ → Kept) → OffersFirst (setup_of own keep) bay works sh o became new_sh new o.waiting)
+    → ((keep : Bool → List ℕ → Kept) → OffersFirst (setup_of own keep) bay works sh o became new_sh new o.waiting)
     → SettledTo new same new_closed after
-    → (keep : List ℕ → Kept) → OffersCurrent (setup_of own keep) bay works sh closed current became new_sh new_closed after
+    → (keep : Bool → List ℕ → Kept) → OffersCurrent (setup_of own keep) bay works sh closed current became new_sh new_closed after
 current_offered own bay works sh new_sh closed same new_closed current after o new became at is offers settles keep =
     subst
     (λ c. OffersCurrent (setup_of own keep) bay works sh closed c became new_sh new_closed after)

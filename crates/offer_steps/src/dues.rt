@@ -1,7 +1,6 @@
 // What the sinks are due at a stage.
-ghost use Rattle.std.specs.Prelude.{◌≡◌, ◌≢◌, ◌≤◌, ◌++◌, ◌∷◌, [], ℕ, List, map, IfOk, OnOk};
+ghost use Rattle.std.specs.Prelude.{◌≡◌, ◌≢◌, ◌≤◌, ◌++◌, ◌∷◌, [], ℕ, Bool, List, map, IfOk, OnOk};
 ghost use Rattle.audit_core.specs.Offers as offers;
-ghost use Rattle.audit_core.specs.Owed as owed;
 ghost use Rattle.event_offers.specs.Offering.{IsShort};
 ghost use Rattle.front_base.specs.declared.line.TheConstants.{MOST_LINE_BYTES};
 ghost use Rattle.sink_steps.specs.Fixed.{setup_of};
@@ -9,34 +8,14 @@ ghost use Rattle.stage_event.specs.declared.facts.Kept.{Kept};
 ghost use Rattle.truncate_backend.specs.Fits.{fitted};
 ghost use Rattle.two_worlds.specs.Steps as spec;
 
-use audit_core::{Settings, Sink, SinkMode};
+use audit_core::{Settings, Sink, SinkMode, omits};
 use front_base::{Level, NoMemory, Stage};
-use policy_rules::{Omit, decide};
+use policy_rules::decide;
 use sink_steps::CoreSetup;
 use stage_event::{Event, Facts, event_at};
 use std::alloc::Global;
 use truncate_backend::{Fit, fit, what_fits};
 use two_worlds::{Items, Waiting};
-
-fn is_on(mode: SinkMode) -> bool
-    ensures { result ≡ offers.is_on mode }
-{
-    match mode {
-        SinkMode::Off => false,
-        SinkMode::Batch | SinkMode::Blocking | SinkMode::Strict => true,
-    }
-}
-
-fn omits(omit: Omit, stage: Stage) -> bool
-    ensures { result ≡ owed.omits omit stage }
-{
-    match stage {
-        Stage::RequestReceived => omit.received,
-        Stage::ResponseStarted => omit.started,
-        Stage::ResponseComplete => omit.complete,
-        Stage::Panic => true,
-    }
-}
 
 // What is written of an event, which is short enough for a line.
 fn short_fit(alloc: Global, settings: &Settings, event: &Event) -> Result<Fit, NoMemory>
@@ -62,7 +41,7 @@ fn push_due(
     ensures { OnOk result (dues.new.items
         ≡ dues.old.items ++ map (offers.due_at settings.now event.now) (offers.when_on settings.now sink)) }
 {
-    if is_on(mode) {
+    if mode.is_on() {
         let fit = short_fit(alloc, settings, event)?;
         let stage = event.stage;
         dues.push(Waiting { sink, stage, fit })?;
@@ -121,7 +100,7 @@ pub fn due(
     facts: &Facts,
 ) -> Result<Items<Waiting>, NoMemory>
     requires { stage ≢ Stage.Panic }
-    ensures { IfOk result (λ dues. (keep : List ℕ → Kept)
+    ensures { IfOk result (λ dues. (keep : Bool → List ℕ → Kept)
         → dues ≡ spec.due (setup_of setup.now keep) stage level facts.now) }
 {
     match level {

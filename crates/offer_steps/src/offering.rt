@@ -1,5 +1,5 @@
 // The step Offer: the next line that waits is offered to its sink.
-ghost use Rattle.std.specs.Prelude.{◌≡◌, ◌<◌, ◌||◌, true, length, drop, ◌++◌, ◌∷◌, [], ℕ, List, IfOk, OnOk, OnErr};
+ghost use Rattle.std.specs.Prelude.{◌≡◌, ◌<◌, ◌||◌, true, length, drop, ◌++◌, ◌∷◌, [], ℕ, Bool, List, IfOk, OnOk, OnErr};
 ghost use Rattle.audit_core.specs.Offers as offers;
 ghost use Rattle.offer_steps.specs.Turns.{OffersCurrent, OffersFirst, can_offer};
 ghost use Rattle.sink_steps.specs.Fixed.{setup_of};
@@ -8,9 +8,9 @@ ghost use Rattle.stage_event.specs.declared.facts.Kept.{Kept};
 ghost use Rattle.two_worlds.specs.Steps as spec;
 
 use crate::settling::settle;
-use audit_core::{OfferNote, Outcome, Settings, Sink, SinkMode};
-use front_base::{NoMemory, Stage};
-use sink_steps::{CoreSetup, mode_of, push_due};
+use audit_core::{OfferNote, Outcome, Settings, Sink};
+use front_base::NoMemory;
+use sink_steps::{CoreSetup, push_due};
 use std::alloc::Global;
 use two_worlds::{Bay, Exchange, Items, Open, Shared, StepAnswer, TryTold, Waiting};
 
@@ -23,40 +23,6 @@ fn same_sink(this: Sink, that: Sink) -> bool
     }
 }
 
-fn is_strict(mode: SinkMode) -> bool
-    ensures { result ≡ offers.is_strict mode }
-{
-    match mode {
-        SinkMode::Strict => true,
-        SinkMode::Off | SinkMode::Batch | SinkMode::Blocking => false,
-    }
-}
-
-fn is_failed(outcome: Outcome) -> bool
-    ensures { result ≡ offers.is_failed outcome }
-{
-    match outcome {
-        Outcome::Failed => true,
-        Outcome::Taken | Outcome::Full | Outcome::TooLarge { .. } => false,
-    }
-}
-
-fn is_first(stage: Stage) -> bool
-    ensures { result ≡ offers.is_first stage }
-{
-    match stage {
-        Stage::RequestReceived => true,
-        Stage::ResponseStarted | Stage::ResponseComplete | Stage::Panic => false,
-    }
-}
-
-// A strict sink could not write the event of a request's arrival.
-fn refuses(settings: &Settings, note: OfferNote) -> bool
-    ensures { result ≡ offers.refuses settings.now note }
-{
-    is_first(note.stage) && is_strict(mode_of(settings, note.sink)) && is_failed(note.outcome)
-}
-
 // Offers what waits to its sink, and notes what became of it behind the other notes.
 fn offer_noted(
     alloc: Global,
@@ -67,7 +33,7 @@ fn offer_noted(
     due: &Waiting,
     notes: &mut Vec<OfferNote>,
 ) -> Result<OfferNote, NoMemory>
-    ensures shared { IfOk result (λ note. (keep : List ℕ → Kept)
+    ensures shared { IfOk result (λ note. (keep : Bool → List ℕ → Kept)
         → PushedTo (spec.pushed (setup_of setup.now keep) bay works shared.old due.now) due.now.sink
         shared.old shared.new note.outcome) }
     ensures note { IfOk result (λ note. note ≡ spec.note_of due.now note.outcome) }
@@ -97,7 +63,7 @@ fn take_first(alloc: Global, settings: &Settings, opened: &mut Open, note: Offer
     let mut waiting = opened.waiting.take_all(alloc);
     waiting.remove(0);
     opened.waiting = Items::new(waiting);
-    if refuses(settings, note) {
+    if note.refuses(settings) {
         opened.phase.failed = true;
     }
 }
@@ -112,7 +78,7 @@ fn offer_first(
     opened: &mut Open,
 ) -> Result<Outcome, NoMemory>
     requires { 0 < length opened.old.waiting }
-    ensures ok { IfOk result (λ own. (keep : List ℕ → Kept) → OffersFirst (setup_of setup.now keep) bay works
+    ensures ok { IfOk result (λ own. (keep : Bool → List ℕ → Kept) → OffersFirst (setup_of setup.now keep) bay works
         shared.old opened.old own shared.new opened.new opened.old.waiting) }
     ensures err { OnErr result ((shared.new ≡ shared.old) × (opened.new ≡ opened.old)) }
 {
@@ -141,7 +107,7 @@ fn offer_current(
     current: &mut Option<Open>,
 ) -> Result<Outcome, NoMemory>
     requires { can_offer current.old sink ≡ true }
-    ensures ok { IfOk result (λ own. (keep : List ℕ → Kept) → OffersCurrent (setup_of setup.now keep) bay works
+    ensures ok { IfOk result (λ own. (keep : Bool → List ℕ → Kept) → OffersCurrent (setup_of setup.now keep) bay works
         shared.old closed.old.items current.old own shared.new closed.new.items current.new) }
     ensures shared { OnErr result (shared.new ≡ shared.old) }
     ensures closed { OnErr result (closed.new.items ≡ closed.old.items) }
@@ -184,7 +150,7 @@ pub fn offer(
     shared: &mut Shared,
     b: &mut Bay,
 ) -> Result<StepAnswer, NoMemory>
-    ensures ok { IfOk result (λ answer. (keep : List ℕ → Kept)
+    ensures ok { IfOk result (λ answer. (keep : Bool → List ℕ → Kept)
         → TurnsTo (spec.in_exchange (spec.offer (setup_of setup.now keep) bay sink works) shared.old b.old)
         shared.old b.old shared.new b.new answer) }
     ensures err { OnErr result ((shared.new ≡ shared.old) × (b.new ≡ b.old)) }

@@ -44,7 +44,7 @@ turn_taken s place (Some t) b new sh answer at h = rw (h.0, h.1, h.2) refl
 -- ---- the same of answers that may lack memory
 
 pub take_at : {E : Type 0} (own : Fixed) (s : State) (sink : Sink) (r : Result StepAnswer E) (new : SinkState)
-    → IfOk r (λ answer. (keep : List ℕ → Kept) → DrainsTo (take_line (setup_of own keep) sink (sink_at s.shared sink))
+    → IfOk r (λ answer. (keep : Bool → List ℕ → Kept) → DrainsTo (take_line (setup_of own keep) sink (sink_at s.shared sink))
     (sink_at s.shared sink) new answer)
     → IfOk r (StepsTo own s (Take sink) (record s { shared = with_sink s.shared sink new }))
 unfolding step
@@ -53,7 +53,7 @@ take_at own s sink (Err e) new h = tt
 
 pub cut_at : {E : Type 0} (own : Fixed) (s : State) (sink : Sink) (works : TryTold) (r : Result StepAnswer E)
     (new : SinkState)
-    → IfOk r (λ answer. (keep : List ℕ → Kept) → DrainsTo (cut_lines (setup_of own keep) works (sink_at s.shared sink))
+    → IfOk r (λ answer. (keep : Bool → List ℕ → Kept) → DrainsTo (cut_lines (setup_of own keep) works (sink_at s.shared sink))
     (sink_at s.shared sink) new answer)
     → IfOk r (StepsTo own s (Cut sink works) (record s { shared = with_sink s.shared sink new }))
 unfolding step
@@ -63,16 +63,16 @@ cut_at own s sink works (Err e) new h = tt
 -- ---- a line can be taken
 
 pub takes : {E : Type 0} (own : Fixed) (sink : Sink) (can : Bool) (s new : SinkState) (r : Result StepAnswer E)
-    → ((keep : List ℕ → Kept) → can ≡ can_take (setup_of own keep) sink s) → can ≡ true
+    → ((keep : Bool → List ℕ → Kept) → can ≡ can_take (setup_of own keep) sink s) → can ≡ true
     → IfOk r (λ answer. take_front s s.contents ≡ record { sink = new; answer = answer })
-    → IfOk r (λ answer. (keep : List ℕ → Kept) → DrainsTo (take_line (setup_of own keep) sink s) s new answer)
+    → IfOk r (λ answer. (keep : Bool → List ℕ → Kept) → DrainsTo (take_line (setup_of own keep) sink s) s new answer)
 takes own sink can s new (Ok answer) h taken e = λ keep. let is : can_take (setup_of own keep) sink s ≡ true = sym (h keep) ∙ taken in
     drains (can_take (setup_of own keep) sink s) (take_front s s.contents) s new answer is e
 takes own sink can s new (Err fault) h taken e = tt
 
 pub takes_not : (own : Fixed) (sink : Sink) (can : Bool) (s : SinkState)
-    → ((keep : List ℕ → Kept) → can ≡ can_take (setup_of own keep) sink s) → can ≡ false
-    → (keep : List ℕ → Kept) → DrainsTo (take_line (setup_of own keep) sink s) s s Idle
+    → ((keep : Bool → List ℕ → Kept) → can ≡ can_take (setup_of own keep) sink s) → can ≡ false
+    → (keep : Bool → List ℕ → Kept) → DrainsTo (take_line (setup_of own keep) sink s) s s Idle
 takes_not own sink can s h idle keep =
     let is : can_take (setup_of own keep) sink s ≡ false = sym (h keep) ∙ idle in
     drains_not (can_take (setup_of own keep) sink s) (take_front s s.contents) s is

@@ -1,5 +1,5 @@
 -- What stays as it is while steps are taken.
-use Rattle.std.specs.Prelude.{◌≡◌, ℕ, List}
+use Rattle.std.specs.Prelude.{◌≡◌, ℕ, Bool, List}
 use Rattle.apiservice_rows.specs.Row.{Row}
 use Rattle.audit_core.specs.declared.settings.Settings.{Settings}
 use Rattle.audit_core.specs.declared.sinks.Sink.{Sink}
@@ -23,7 +23,7 @@ capacity_of own Log = own.log_capacity
 capacity_of own Webhook = own.hook_capacity
 
 -- as the laws of steps have it, with what is kept of each body
-abbrev pub setup_of : Fixed → (List ℕ → Kept) → Setup
+abbrev pub setup_of : Fixed → (Bool → List ℕ → Kept) → Setup
 setup_of own keep =
     record {
       set = own.settings;
@@ -35,5 +35,5 @@ setup_of own keep =
     }
 
 -- what is kept of a body is what events keep of it
-abbrev pub Keeps : (List ℕ → Kept) → Type 0
-Keeps keep = (body : List ℕ) (kept : Kept) → IsKept body kept → keep body ≡ kept
+abbrev pub Keeps : (Bool → List ℕ → Kept) → Type 0
+Keeps keep = (omit : Bool) (body : List ℕ) (kept : Kept) → IsKept omit body kept → keep omit body ≡ kept

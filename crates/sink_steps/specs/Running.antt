@@ -1,5 +1,5 @@
 -- What code that takes steps leaves and answers, by the definition of steps.
-use Rattle.std.specs.Prelude.{◌≡◌, ℕ, List, Option, Some, None}
+use Rattle.std.specs.Prelude.{◌≡◌, ℕ, Bool, List, Option, Some, None}
 use Rattle.audit_core.specs.declared.offers.Outcome.{Outcome}
 use Rattle.audit_core.specs.declared.sinks.Sink.{Sink}
 use Rattle.sink_steps.specs.Fixed.{Fixed, Keeps, setup_of}
@@ -18,7 +18,7 @@ use Rattle.two_worlds.specs.declared.step.StepAnswer.TheVariants.{Idle}
 -- a step at a state leaves that state and answers so
 abbrev pub StepsTo : Fixed → State → Step → State → StepAnswer → Type 0
 StepsTo own s taken t answer =
-    (keep : List ℕ → Kept) → Keeps keep → step (setup_of own keep) s taken ≡ record { state = t; answer = answer }
+    (keep : Bool → List ℕ → Kept) → Keeps keep → step (setup_of own keep) s taken ≡ record { state = t; answer = answer }
 
 -- ---- a sink
 

@@ -1,21 +1,10 @@
 // When a batch is complete.
 ghost use Rattle.std.specs.Prelude.{◌≡◌, nat_lt};
-ghost use Rattle.audit_core.specs.Offers.{mode_of};
 ghost use Rattle.truncate_backend.specs.Tries.{bytes_of};
 ghost use Rattle.two_worlds.specs.Steps as spec;
 
-use audit_core::{Settings, Sink, SinkMode};
+use audit_core::SinkMode;
 use front_base::Line;
-
-/// How events go to a sink.
-pub fn mode_of(settings: &Settings, sink: Sink) -> SinkMode
-    ensures { result ≡ mode_of settings.now sink }
-{
-    match sink {
-        Sink::Log => settings.log,
-        Sink::Webhook => settings.hook,
-    }
-}
 
 pub fn is_batch(mode: SinkMode) -> bool
     ensures { result ≡ spec.is_batch mode }

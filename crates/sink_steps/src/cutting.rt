@@ -1,5 +1,5 @@
 // The step Cut: the writer of a sink writes the lines that it took.
-ghost use Rattle.std.specs.Prelude.{◌≡◌, ◌≤◌, ◌++◌, ◌∷◌, [], ℕ, List, length, take, drop, IfOk, OnOk, OnErr};
+ghost use Rattle.std.specs.Prelude.{◌≡◌, ◌≤◌, ◌++◌, ◌∷◌, [], ℕ, Bool, List, length, take, drop, IfOk, OnOk, OnErr};
 ghost use Rattle.sink_steps.specs.Fixed.{setup_of};
 ghost use Rattle.sink_steps.specs.Running.{DrainsTo, StepsTo};
 ghost use Rattle.stage_event.specs.declared.facts.Kept.{Kept};
@@ -92,7 +92,7 @@ fn cut_lines(
     works: TryTold,
     s: &mut SinkState,
 ) -> Result<StepAnswer, NoMemory>
-    ensures ok { IfOk result (λ answer. (keep : List ℕ → Kept)
+    ensures ok { IfOk result (λ answer. (keep : Bool → List ℕ → Kept)
         → DrainsTo (spec.cut_lines (setup_of setup.now keep) works s.old) s.old s.new answer) }
     ensures err { OnErr result (s.new ≡ s.old) }
 {

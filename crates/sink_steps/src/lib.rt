@@ -16,7 +16,6 @@ mod pushing;
 mod setup;
 mod taking;
 
-pub use batches::mode_of;
 pub use cutting::cut;
 pub use laws::turns_are_steps;
 pub use lists::push_at;

@@ -1,5 +1,5 @@
 // What a sink does with a line that is offered to it.
-ghost use Rattle.std.specs.Prelude.{◌≡◌, ◌+◌, ◌≤◌, ◌++◌, ◌∷◌, [], ℕ, List, length, slice_set, IfOk, IfSome, OnOk, OnErr};
+ghost use Rattle.std.specs.Prelude.{◌≡◌, ◌+◌, ◌≤◌, ◌++◌, ◌∷◌, [], ℕ, Bool, List, length, slice_set, IfOk, IfSome, OnOk, OnErr};
 ghost use Rattle.audit_core.specs.Offers.{mode_of};
 ghost use Rattle.event_offers.specs.Offering.{IsShort};
 ghost use Rattle.front_base.specs.declared.line.TheConstants.{MOST_LINE_BYTES};
@@ -8,7 +8,6 @@ ghost use Rattle.sink_steps.specs.Running.{PushesTo, PushedTo};
 ghost use Rattle.stage_event.specs.declared.facts.Kept.{Kept};
 ghost use Rattle.two_worlds.specs.Steps as spec;
 
-use crate::batches::mode_of;
 use crate::lists::push_at;
 use crate::setup::CoreSetup;
 use audit_core::{Outcome, Sink, SinkMode};
@@ -175,7 +174,7 @@ fn push_text(
     let line = Line { bay, number, bytes };
     push_line(
         alloc,
-        mode_of(&setup.settings, sink),
+        setup.settings.mode_of(sink),
         setup.capacity(sink),
         works,
         line,
@@ -214,7 +213,7 @@ pub fn push_due(
     shared: &mut Shared,
     due: &Waiting,
 ) -> Result<Outcome, NoMemory>
-    ensures ok { IfOk result (λ own. (keep : List ℕ → Kept)
+    ensures ok { IfOk result (λ own. (keep : Bool → List ℕ → Kept)
         → PushedTo (spec.pushed (setup_of setup.now keep) bay works shared.old due.now) due.now.sink shared.old shared.new own) }
     ensures err { OnErr result (shared.new ≡ shared.old) }
 {

@@ -1,12 +1,12 @@
 // The step Take: the writer of a sink takes a line from its buffer.
-ghost use Rattle.std.specs.Prelude.{◌≡◌, ◌<◌, ◌++◌, ◌∷◌, [], ℕ, List, length, take, drop, IfOk, OnOk, OnErr};
+ghost use Rattle.std.specs.Prelude.{◌≡◌, ◌<◌, ◌++◌, ◌∷◌, [], ℕ, Bool, List, length, take, drop, IfOk, OnOk, OnErr};
 ghost use Rattle.sink_steps.specs.Fixed.{setup_of};
 ghost use Rattle.sink_steps.specs.Running.{DrainsTo, StepsTo};
 ghost use Rattle.stage_event.specs.declared.facts.Kept.{Kept};
 ghost use Rattle.two_worlds.specs.Steps as spec;
 ghost use Rattle.two_worlds.specs.declared.step.Step.TheVariants.{Take};
 
-use crate::batches::{is_batch, is_over, mode_of};
+use crate::batches::{is_batch, is_over};
 use crate::setup::CoreSetup;
 use audit_core::Sink;
 use front_base::{Line, NoMemory};
@@ -15,9 +15,9 @@ use two_worlds::{Items, SinkState, State, StepAnswer};
 
 // The batch is not complete.
 fn can_take(setup: &CoreSetup, sink: Sink, s: &SinkState) -> bool
-    ensures { (keep : List ℕ → Kept) → result ≡ spec.can_take (setup_of setup.now keep) sink s.now }
+    ensures { (keep : Bool → List ℕ → Kept) → result ≡ spec.can_take (setup_of setup.now keep) sink s.now }
 {
-    is_batch(mode_of(&setup.settings, sink))
+    is_batch(setup.settings.mode_of(sink))
         && s.pending.as_slice().len() < setup.limits.lines as usize
         && !is_over(s.pending.as_slice(), setup.limits.bytes)
 }
@@ -69,7 +69,7 @@ fn take_line(
     sink: Sink,
     s: &mut SinkState,
 ) -> Result<StepAnswer, NoMemory>
-    ensures ok { IfOk result (λ answer. (keep : List ℕ → Kept)
+    ensures ok { IfOk result (λ answer. (keep : Bool → List ℕ → Kept)
         → DrainsTo (spec.take_line (setup_of setup.now keep) sink s.old) s.old s.new answer) }
     ensures err { OnErr result (s.new ≡ s.old) }
 {

@@ -1,5 +1,5 @@
 -- What a Started leaves, as the code makes it.
-use Rattle.std.proofs.Common.{◌≡◌, ℕ, true, false, List, Option, Some, None, Result, Ok, Err, IfOk, refl, ap, sym, ◌∙◌, subst}
+use Rattle.std.proofs.Common.{◌≡◌, ℕ, true, false, Bool, List, Option, Some, None, Result, Ok, Err, IfOk, refl, ap, sym, ◌∙◌, subst}
 use Rattle.audit_core.specs.Offers.{Due}
 use Rattle.audit_core.specs.declared.routed.Handling.{Handling}
 use Rattle.front_base.specs.declared.stage.Stage.TheVariants.{ResponseStarted}
@@ -59,10 +59,10 @@ start_none setup status moment sh b at =
 
 pub start_some : {E : Type 0} (own : Fixed) (status moment : ℕ) (sh : Shared) (b : Bay) (o new : Open)
     (r : Result StepAnswer E) → b.current ≡ Some o
-    → IfOk r (λ answer. (keep : List ℕ → Kept) (any : Bay)
+    → IfOk r (λ answer. (keep : Bool → List ℕ → Kept) (any : Bay)
     → TurnsTo (started (setup_of own keep) status moment sh any o) sh (record any { current = Some o }) sh
     (record any { current = Some new }) answer)
-    → IfOk r (λ answer. (keep : List ℕ → Kept)
+    → IfOk r (λ answer. (keep : Bool → List ℕ → Kept)
     → TurnsTo (in_exchange (started (setup_of own keep) status moment) sh b) sh b sh
     (record b { current = Some new }) answer)
 start_some own status moment sh b o new (Ok answer) at h = λ keep.

@@ -1,5 +1,5 @@
 // How an exchange is handled, and when it can be answered.
-ghost use Rattle.std.specs.Prelude.{◌≡◌, ℕ, List, take, length, ◌≤◌, IfOk};
+ghost use Rattle.std.specs.Prelude.{◌≡◌, ℕ, Bool, List, take, length, ◌≤◌, IfOk};
 ghost use Rattle.apiservice_table.specs.Changes.{after};
 ghost use Rattle.audit_core.specs.Routing.{handling_of};
 ghost use Rattle.sink_steps.specs.Fixed.{setup_of};
@@ -80,6 +80,7 @@ fn copy_errand(alloc: Global, errand: &Errand) -> Result<Errand, NoMemory>
             let version = version.copy(alloc)?;
             Ok(Errand::Route { group, version })
         }
+        Errand::Other => Ok(Errand::Other),
     }
 }
 
@@ -121,7 +122,7 @@ pub fn handling(
     shared: &Shared,
     opened: &Open,
 ) -> Result<Handling, NoMemory>
-    ensures { IfOk result (λ handling. (keep : List ℕ → Kept)
+    ensures { IfOk result (λ handling. (keep : Bool → List ℕ → Kept)
         → handling ≡ spec.handling_in (setup_of setup.now keep) shared.now opened.now) }
 {
     if opened.phase.failed {

@@ -1,5 +1,5 @@
 // The step Started: a long-running request's reply starts with a status.
-ghost use Rattle.std.specs.Prelude.{◌≡◌, ℕ, List, Some, IfOk, OnOk, OnErr};
+ghost use Rattle.std.specs.Prelude.{◌≡◌, ℕ, Bool, List, Some, IfOk, OnOk, OnErr};
 ghost use Rattle.sink_steps.specs.Fixed.{setup_of};
 ghost use Rattle.sink_steps.specs.Running.{TurnsTo};
 ghost use Rattle.stage_event.specs.declared.facts.Kept.{Kept};
@@ -41,7 +41,7 @@ fn note_started(
     moment: Moment,
     opened: &mut Open,
 ) -> Result<(), NoMemory>
-    ensures ok { OnOk result ((keep : List ℕ → Kept)
+    ensures ok { OnOk result ((keep : Bool → List ℕ → Kept)
         → opened.new ≡ spec.started_with (setup_of setup.now keep) status moment opened.old) }
     ensures err { OnErr result (opened.new ≡ opened.old) }
 {
@@ -79,7 +79,7 @@ fn start_open(
     shared: &Shared,
     opened: &mut Open,
 ) -> Result<StepAnswer, NoMemory>
-    ensures ok { IfOk result (λ answer. (keep : List ℕ → Kept) → (b : Bay)
+    ensures ok { IfOk result (λ answer. (keep : Bool → List ℕ → Kept) → (b : Bay)
         → TurnsTo (spec.started (setup_of setup.now keep) status moment shared.now b opened.old)
         shared.now (record b { current = Some opened.old }) shared.now (record b { current = Some opened.new }) answer) }
     ensures err { OnErr result (opened.new ≡ opened.old) }
@@ -107,7 +107,7 @@ pub fn start(
     shared: &Shared,
     b: &mut Bay,
 ) -> Result<StepAnswer, NoMemory>
-    ensures ok { IfOk result (λ answer. (keep : List ℕ → Kept)
+    ensures ok { IfOk result (λ answer. (keep : Bool → List ℕ → Kept)
         → TurnsTo (spec.in_exchange (spec.started (setup_of setup.now keep) status moment) shared.now b.old)
         shared.now b.old shared.now b.new answer) }
     ensures err { OnErr result (b.new ≡ b.old) }

@@ -1,5 +1,5 @@
 -- What a turn leaves, as the code makes it.
-use Rattle.std.proofs.Common.{◌≡◌, ℕ, true, List, Option, Some, length, take, refl}
+use Rattle.std.proofs.Common.{◌≡◌, ℕ, true, Bool, List, Option, Some, length, take, refl}
 use Rattle.std.specs.Prelude.{option_map}
 use Rattle.apiservice_rows.specs.Row.{Row}
 use Rattle.apiservice_table.specs.Changes.{after, refusal}
@@ -15,7 +15,7 @@ use Rattle.two_worlds.specs.declared.state.Open.{Open}
 use Rattle.two_worlds.specs.declared.state.Shared.{Shared}
 use Rattle.two_worlds.specs.declared.step.StepAnswer.TheVariants.{Found, Changed}
 
-pub found_turn : (own : Fixed) (keep : List ℕ → Kept) (seen : ℕ) (sh : Shared) (b : Bay) (o : Open)
+pub found_turn : (own : Fixed) (keep : Bool → List ℕ → Kept) (seen : ℕ) (sh : Shared) (b : Bay) (o : Open)
     (current : Option Open) (row : Option Row) → b.current ≡ Some o → can_find seen sh b o ≡ true
     → row ≡ row_for (after own.opening (take seen sh.changes)) o.exchange.errand
     → current ≡ option_map (found_with seen) b.current
@@ -24,7 +24,7 @@ pub found_turn : (own : Fixed) (keep : List ℕ → Kept) (seen : ℕ) (sh : Sha
 unfolding row_at
 found_turn own keep seen sh b o current row at can is now = rw (is, now, at, can) (refl, refl, refl)
 
-pub changed_turn : (own : Fixed) (keep : List ℕ → Kept) (sh new : Shared) (b : Bay) (o : Open) (change : Change)
+pub changed_turn : (own : Fixed) (keep : Bool → List ℕ → Kept) (sh new : Shared) (b : Bay) (o : Open) (change : Change)
     (current : Option Open) (seen : ℕ) (fault : Option ChangeFault) → b.current ≡ Some o
     → o.exchange.asked ≡ Some change → can_decide o ≡ true
     → fault ≡ refusal (after own.opening sh.changes) change

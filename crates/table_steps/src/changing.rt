@@ -1,5 +1,5 @@
 // The step Change: the change that a request asks for is made, unless the rows refuse it.
-ghost use Rattle.std.specs.Prelude.{◌≡◌, ℕ, List, IfOk, OnOk, OnErr, option_map};
+ghost use Rattle.std.specs.Prelude.{◌≡◌, ℕ, Bool, List, IfOk, OnOk, OnErr, option_map};
 ghost use Rattle.apiservice_table.specs.Changes as table;
 ghost use Rattle.sink_steps.specs.Fixed.{setup_of};
 ghost use Rattle.sink_steps.specs.Running.{TurnsTo};
@@ -90,7 +90,7 @@ pub fn change(
     shared: &mut Shared,
     b: &mut Bay,
 ) -> Result<StepAnswer, NoMemory>
-    ensures ok { IfOk result (λ answer. (keep : List ℕ → Kept)
+    ensures ok { IfOk result (λ answer. (keep : Bool → List ℕ → Kept)
         → TurnsTo (spec.in_exchange (spec.changed (setup_of setup.now keep)) shared.old b.old)
         shared.old b.old shared.new b.new answer) }
     ensures err { OnErr result ((shared.new ≡ shared.old) × (b.new ≡ b.old)) }

@@ -1,5 +1,5 @@
 // The step Find: a bay looks at the table, as it was after so many changes.
-ghost use Rattle.std.specs.Prelude.{◌≡◌, ℕ, List, IfOk, OnErr, option_map};
+ghost use Rattle.std.specs.Prelude.{◌≡◌, ℕ, Bool, List, IfOk, OnErr, option_map};
 ghost use Rattle.apiservice_table.specs.Changes.{after};
 ghost use Rattle.audit_core.specs.Routing.{row_for};
 ghost use Rattle.sink_steps.specs.Fixed.{setup_of};
@@ -63,7 +63,7 @@ pub fn find(
     shared: &Shared,
     b: &mut Bay,
 ) -> Result<StepAnswer, NoMemory>
-    ensures ok { IfOk result (λ answer. (keep : List ℕ → Kept)
+    ensures ok { IfOk result (λ answer. (keep : Bool → List ℕ → Kept)
         → TurnsTo (spec.in_exchange (spec.found (setup_of setup.now keep) seen) shared.now b.old)
         shared.now b.old shared.now b.new answer) }
     ensures err { OnErr result (b.new ≡ b.old) }

@@ -1,4 +1,4 @@
-ghost use Rattle.std.specs.Prelude.{◌≡◌, ℕ, List, Some, slice_get, slice_set};
+ghost use Rattle.std.specs.Prelude.{◌≡◌, ℕ, Bool, List, Some, slice_get, slice_set};
 ghost use Rattle.sink_steps.specs.Fixed.{Fixed, setup_of};
 ghost use Rattle.sink_steps.specs.Running.{TurnsTo};
 ghost use Rattle.stage_event.specs.declared.facts.Kept.{Kept};
@@ -14,12 +14,12 @@ use sink_steps::turns_are_steps;
 /// What `find` and `change` leave of a bay and of what bays share is what the steps Find and Change leave of the whole, at the
 /// bay's place.
 pub fn looks_are_steps()
-    ensures find { (own : Fixed) (keep : List ℕ → Kept) (s : State) (place seen : ℕ) (b new : Bay) (sh : Shared)
+    ensures find { (own : Fixed) (keep : Bool → List ℕ → Kept) (s : State) (place seen : ℕ) (b new : Bay) (sh : Shared)
         (answer : StepAnswer) → slice_get s.bays place ≡ Some b
         → TurnsTo (spec.in_exchange (spec.found (setup_of own keep) seen) s.shared b) s.shared b sh new answer
         → spec.step (setup_of own keep) s (step.Find place seen)
         ≡ record { state = record { shared = sh; bays = slice_set s.bays place new }; answer = answer } }
-    ensures change { (own : Fixed) (keep : List ℕ → Kept) (s : State) (place : ℕ) (b new : Bay) (sh : Shared)
+    ensures change { (own : Fixed) (keep : Bool → List ℕ → Kept) (s : State) (place : ℕ) (b new : Bay) (sh : Shared)
         (answer : StepAnswer) → slice_get s.bays place ≡ Some b
         → TurnsTo (spec.in_exchange (spec.changed (setup_of own keep)) s.shared b) s.shared b sh new answer
         → spec.step (setup_of own keep) s (step.Change place)

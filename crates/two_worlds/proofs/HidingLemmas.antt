@@ -19,7 +19,7 @@ use Rattle.stage_event.specs.declared.facts.Kept.{Kept}
 use Rattle.stage_event.specs.declared.facts.Kept.TheVariants.{NotAsked, Compact, NotJson, Over, CutOff}
 use Rattle.two_worlds.specs.Setup.{Setup}
 use Rattle.two_worlds.specs.Steps.{due, events_due, event_unless, no_wait, settled}
-use Rattle.two_worlds.specs.Worlds.{low_closed, low_errand, low_head, low_exchange, low_open, low_bay, low}
+use Rattle.two_worlds.specs.Worlds.{low_closed, low_errand, low_head, low_managed, low_exchange, low_open, low_bay, low}
 use Rattle.two_worlds.specs.declared.state.Bay.{Bay}
 use Rattle.two_worlds.specs.declared.state.Exchange.{Exchange}
 use Rattle.two_worlds.specs.declared.state.Open.{Open}
@@ -111,13 +111,22 @@ head_twice level.Metadata f h = refl
 head_twice level.Request f h = refl
 head_twice level.RequestResponse f h = and_twice f.info.resource_request h
 
+pub managed_twice : (l : Level) (m : Bool) → low_managed l (low_managed l m) ≡ low_managed l m
+managed_twice level.None m = refl
+managed_twice level.Metadata m = refl
+managed_twice level.Request m = refl
+managed_twice level.RequestResponse m = refl
+
 pub exchange_twice : (x : Exchange) → low_exchange (low_exchange x) ≡ low_exchange x
 exchange_twice x =
     both
-    (λ (f : Facts) (h : Bool). record (low_exchange x) { facts = f; is_head = h; errand = low_errand x.level (low_errand x.level x.errand) })
+    (λ (f : Facts) (h : Bool). record (low_exchange x) { facts = f; is_head = h; errand = low_errand x.level (low_errand x.level x.errand); managed = low_managed x.level (low_managed x.level x.managed) })
     (view_twice x.level x.facts)
     (head_twice x.level x.facts x.is_head)
-    ∙ ap (λ e. record (low_exchange x) { errand = e }) (errand_twice x.level x.errand)
+    ∙ both
+    (λ (e : Errand) (m : Bool). record (low_exchange x) { errand = e; managed = m })
+    (errand_twice x.level x.errand)
+    (managed_twice x.level x.managed)
 
 open_twice : (o : Open) → low_open (low_open o) ≡ low_open o
 open_twice o = ap (λ x. record (low_open o) { exchange = x }) (exchange_twice o.exchange)

@@ -24,7 +24,7 @@ use Rattle.stage_event.specs.Views.{view, recorded, shown_if}
 use Rattle.stage_event.specs.declared.facts.Facts.{Facts}
 use Rattle.stage_event.specs.declared.facts.Kept.{Kept}
 use Rattle.stage_event.specs.declared.facts.Kept.TheVariants.{NotAsked}
-use Rattle.two_worlds.proofs.HidingLemmas.{both, and_twice, shown_twice, shown_if_twice, moment_twice, same_due, errand_twice, head_twice, exchange_twice, low_twice, bays_twice, current_low, settled_low}
+use Rattle.two_worlds.proofs.HidingLemmas.{both, and_twice, shown_twice, shown_if_twice, moment_twice, same_due, errand_twice, head_twice, managed_twice, exchange_twice, low_twice, bays_twice, current_low, settled_low}
 use Rattle.two_worlds.specs.Requests.{Wish, kept_if}
 use Rattle.two_worlds.specs.Setup.{Setup}
 use Rattle.two_worlds.specs.Steps
@@ -150,6 +150,9 @@ same_refacted o f g link link' ph ws vs p q e d =
     (λ (h : Bool) (u : Errand). record { exchange = record (Worlds.low_exchange o.exchange) { facts = view o.exchange.level g; is_head = h; errand = u }; phase = ph; waiting = vs })
     (same_heads o.exchange.level o.exchange.is_head f g o.exchange.facts p q)
     (sym (errand_twice o.exchange.level o.exchange.errand))
+    ∙ ap
+    (λ n. record { exchange = record (Worlds.low_exchange (refacted (Worlds.low_open o) g link' ph vs).exchange) { managed = n }; phase = ph; waiting = vs })
+    (sym (managed_twice o.exchange.level o.exchange.managed))
 
 -- ---- Begin
 
@@ -194,11 +197,18 @@ same_begun_level level.Metadata w = refl
 same_begun_level level.Request w = refl
 same_begun_level level.RequestResponse w = refl
 
+same_begun_managed : (l : Level) (w : Wish)
+    → Worlds.low_managed l w.managed ≡ Worlds.low_managed l (Worlds.low_wish l w).managed
+same_begun_managed level.None w = refl
+same_begun_managed level.Metadata w = refl
+same_begun_managed level.Request w = refl
+same_begun_managed level.RequestResponse w = refl
+
 -- what an exchange that has begun shows, by its parts
-shown_begun : Level → Facts → Errand → Option Change → Bool → ℕ → List Due → Open
-shown_begun l f e a h m ws =
+shown_begun : Level → Facts → Errand → Option Change → Bool → Bool → ℕ → List Due → Open
+shown_begun l f e a h n m ws =
     record {
-      exchange = record { level = l; facts = f; errand = e; asked = a; is_head = h; seen = 0; link = NotUsed; notes = [] };
+      exchange = record { level = l; facts = f; errand = e; asked = a; is_head = h; managed = n; seen = 0; link = NotUsed; notes = [] };
       phase = Steps.phase_begun m;
       waiting = ws;
     }
@@ -213,16 +223,17 @@ unfolding with_level shown_begun due_begun
 same_begun setup bay n m l w =
     let e = same_begun_facts setup bay n m l w in
     both
-    (λ (f : Facts) (ws : List Due). shown_begun l f (Worlds.low_errand l w.errand) w.asked (Worlds.low_head l w.info w.is_head) m ws)
+    (λ (f : Facts) (ws : List Due). shown_begun l f (Worlds.low_errand l w.errand) w.asked (Worlds.low_head l w.info w.is_head) (Worlds.low_managed l w.managed) m ws)
     e
     (same_due setup RequestReceived l _ _ e)
     ∙ both
-    (λ (u : Errand) (h : Bool). shown_begun l (view l (Steps.facts_begun setup bay n (Worlds.low_wish l w) m)) u w.asked h m (due_begun setup bay n m l w))
+    (λ (u : Errand) (h : Bool). shown_begun l (view l (Steps.facts_begun setup bay n (Worlds.low_wish l w) m)) u w.asked h (Worlds.low_managed l w.managed) m (due_begun setup bay n m l w))
     (same_begun_errand l w)
     (same_begun_head l w)
-    ∙ ap
-    (λ a. shown_begun l (view l (Steps.facts_begun setup bay n (Worlds.low_wish l w) m)) (Worlds.low_errand l (Worlds.low_wish l w).errand) a (Worlds.low_head l (Worlds.low_wish l w).info (Worlds.low_wish l w).is_head) m (due_begun setup bay n m l w))
+    ∙ both
+    (λ (a : Option Change) (k : Bool). shown_begun l (view l (Steps.facts_begun setup bay n (Worlds.low_wish l w) m)) (Worlds.low_errand l (Worlds.low_wish l w).errand) a (Worlds.low_head l (Worlds.low_wish l w).info (Worlds.low_wish l w).is_head) k m (due_begun setup bay n m l w))
     (sym (same_begun_asked l w))
+    (same_begun_managed l w)
 
 same_begun_wish : (setup : Setup) (bay n m : ℕ) (w : Wish)
     → Worlds.low_open (Steps.begun setup bay n w m)
@@ -442,7 +453,7 @@ same_finished setup sh link reply m level.RequestResponse o =
     (sym (shown_if_twice o.exchange.facts.info.resource_request o.exchange.facts.request))
     (same_reply o.exchange.facts.info.resource_request (is_long_running o.exchange.facts.info)
     (Steps.is_proxied (Steps.handling_in setup sh o)) o.exchange.is_head reply
-    (Steps.own_reply setup (Steps.handling_in setup sh o)))
+    (Steps.own_reply setup (Steps.handling_in setup sh o) o.exchange.managed))
 
 unfoldable pub low_link_at : LinkNote → Option Open → LinkNote
 low_link_at link None = NotUsed

@@ -26,7 +26,7 @@ example =
       boot = 1;
       capacity = λ sink. 2;
       limits = record { lines = 2; bytes = 8192 };
-      keep = λ body. NotAsked;
+      keep = λ omit body. NotAsked;
     }
 
 -- of a path that leads nowhere, with that body

@@ -1,7 +1,7 @@
 -- What the steps read of a request.
 use Rattle.std.specs.Prelude.{ℕ, Bool, true, false, List, Option, Some, None, codes, bytes_eq}
 use Rattle.apiservice_table.specs.declared.change.Change.{Change}
-use Rattle.audit_core.specs.Errand.{user_in, info_in, errand_in}
+use Rattle.audit_core.specs.Errand.{user_in, acting_in, info_in, errand_in}
 use Rattle.audit_core.specs.Exchange.{decision_in, agent_in}
 use Rattle.audit_core.specs.declared.errand.Errand.{Errand}
 use Rattle.audit_core.specs.declared.errand.Errand.TheVariants as errand
@@ -27,6 +27,7 @@ abbrev pub asked_by : Errand → Option Change
 asked_by (errand.Refuse code) = None
 asked_by (errand.Serve local own) = local_asked own
 asked_by (errand.Route group version) = None
+asked_by errand.Other = None
 
 -- ---- what it means
 
@@ -35,11 +36,14 @@ pub record Wish : Type 0 where
   pub target : List ℕ
   pub info : Info
   pub user : User
+  pub acting : Option User
   pub peer : List ℕ
   pub agent : List ℕ
   pub errand : Errand
   pub asked : Option Change
   pub is_head : Bool
+  -- managed fields are omitted
+  pub managed : Bool
   pub body : Kept
 
 -- a body that no event shows isn't looked at
@@ -55,10 +59,15 @@ wish_of setup peer r =
       target = r.head.target;
       info = info_in r;
       user = user_in setup.set r;
+      acting = acting_in setup.set r;
       peer = peer;
       agent = agent_in r.head.headers;
       errand = errand_in setup.set r;
       asked = asked_by (errand_in setup.set r);
       is_head = bytes_eq r.head.method (codes "HEAD");
-      body = kept_if (request_due (decision_in setup.set r).level (info_in r)) (setup.keep r.body);
+      managed = (decision_in setup.set r).omit_managed;
+      body =
+          kept_if
+          (request_due (decision_in setup.set r).level (info_in r))
+          (setup.keep (decision_in setup.set r).omit_managed r.body);
     }

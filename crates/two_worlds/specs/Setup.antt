@@ -1,5 +1,5 @@
 -- What stays as it is while the steps are taken.
-use Rattle.std.specs.Prelude.{ℕ, List}
+use Rattle.std.specs.Prelude.{ℕ, Bool, List}
 use Rattle.apiservice_rows.specs.Row.{Row}
 use Rattle.audit_core.specs.declared.settings.Settings.{Settings}
 use Rattle.audit_core.specs.declared.sinks.Sink.{Sink}
@@ -16,6 +16,6 @@ pub record Setup : Type 0 where
   pub capacity : Sink → ℕ
   -- how many lines its writer may try at once
   pub limits : Limits
-  -- what is kept of a body. The server keeps what `IsKept` says, which is one answer for each body (`one_kept`); no law
-  -- of this crate asks which it is
-  pub keep : List ℕ → Kept
+  -- what is kept of a body, by whether managed fields are omitted. The server keeps what `IsKept` says, which is one answer
+  -- for each body (`one_kept`); of the laws of this crate only one clause of `what_is_alike` asks for that
+  pub keep : Bool → List ℕ → Kept

@@ -124,6 +124,7 @@ facts_begun setup bay number w moment =
     w.target
     w.info
     w.user
+    w.acting
     w.peer
     w.agent
     moment)
@@ -142,6 +143,7 @@ begun setup bay number w moment =
         errand = w.errand;
         asked = w.asked;
         is_head = w.is_head;
+        managed = w.managed;
         seen = 0;
         link = NotUsed;
         notes = [];
@@ -305,16 +307,16 @@ can_finish level.RequestResponse o status = finishes o status
 abbrev pub sent : Bool → List ℕ → List ℕ
 sent is_head body = if is_head then [] else body
 
--- what is kept of the answer of this server, which HEAD requests get without a body
-unfoldable pub own_reply : Setup → Handling → Bool → Kept
-own_reply setup handling is_head = setup.keep (sent is_head (body_of handling NotUsed []))
+-- what is kept of the answer of this server, by whether managed fields are omitted. HEAD requests get it without a body
+unfoldable pub own_reply : Setup → Handling → Bool → Bool → Kept
+own_reply setup handling managed is_head = setup.keep managed (sent is_head (body_of handling NotUsed []))
 
 -- what is kept of the reply's body where an event shows it: of a backend's what the step says
 abbrev pub reply_in : Setup → Handling → Open → Kept → Kept
 reply_in setup handling o reply =
     kept_if
     (reply_due o.exchange.level o.exchange.facts.info)
-    (if is_proxied handling then reply else own_reply setup handling o.exchange.is_head)
+    (if is_proxied handling then reply else own_reply setup handling o.exchange.managed o.exchange.is_head)
 
 abbrev pub facts_finished : Setup → Handling → LinkNote → Kept → ℕ → Open → Facts
 facts_finished setup handling link reply moment o =

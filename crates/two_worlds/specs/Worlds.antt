@@ -40,6 +40,7 @@ low_closed x =
       errand = errand.Refuse 0;
       asked = None;
       is_head = false;
+      managed = false;
       seen = 0;
       link = NotUsed;
       notes = [];
@@ -58,6 +59,13 @@ low_head level.Metadata info is_head = false
 low_head level.Request info is_head = false
 low_head level.RequestResponse info is_head = info.resource_request && is_head
 
+-- whether managed fields are omitted is left where anything is
+abbrev pub low_managed : Level → Bool → Bool
+low_managed level.None managed = false
+low_managed level.Metadata managed = managed
+low_managed level.Request managed = managed
+low_managed level.RequestResponse managed = managed
+
 -- of an exchange that is not over: what the later steps need, too. The change that it asks for is left at every level,
 -- because it decides how later requests are routed
 abbrev pub low_exchange : Exchange → Exchange
@@ -68,6 +76,7 @@ low_exchange x =
       errand = low_errand x.level x.errand;
       asked = x.asked;
       is_head = low_head x.level x.facts.info x.is_head;
+      managed = low_managed x.level x.managed;
       seen = x.seen;
       link = NotUsed;
       notes = [];
@@ -99,11 +108,13 @@ low_wish level.None w =
       target = [];
       info = no_info;
       user = no_user;
+      acting = None;
       peer = [];
       agent = [];
       errand = errand.Refuse 0;
       asked = w.asked;
       is_head = false;
+      managed = false;
       body = NotAsked;
     }
 low_wish level.Metadata w = record w { is_head = false; body = NotAsked }

@@ -1,20 +1,25 @@
-ghost use Rattle.std.specs.Prelude.{◌≡◌, ◌≢◌, ℕ, List, ◌∷◌, ◌++◌, map, length, Option, Some, None, [], true, false};
+ghost use Rattle.std.specs.Prelude.{◌≡◌, ◌≢◌, ℕ, ◌≤◌, Bool, List, ◌∷◌, ◌++◌, map, length, Option, Some, None, [], true, false};
 ghost use Rattle.audit_core.specs.Answer.{link_status};
-ghost use Rattle.audit_core.specs.Errand.{errand_in, info_in};
+ghost use Rattle.audit_core.specs.Errand.{acting_in, errand_in, info_in};
 ghost use Rattle.audit_core.specs.Exchange.{decision_in};
 ghost use Rattle.audit_core.specs.declared.link_note.LinkNote.{LinkNote};
 ghost use Rattle.audit_core.specs.declared.sinks.Sink.{Sink};
 ghost use Rattle.front_base.specs.Line.{Line};
 ghost use Rattle.front_base.specs.declared.level.Level.{Level};
 ghost use Rattle.front_base.specs.declared.level.Level.TheVariants as level;
+ghost use Rattle.front_base.specs.declared.stage.Stage.{Stage};
 ghost use Rattle.front_base.specs.declared.stage.Stage.TheVariants as stage;
 ghost use Rattle.http_edge.specs.declared.request.Request.{Request};
+ghost use Rattle.json_prune.specs.Prune.{managed};
+ghost use Rattle.json_span.specs.Value.{Value, StandsFor};
 ghost use Rattle.local_replies.specs.Paths.{local_of};
 ghost use Rattle.stage_event.specs.Due.{reply_due};
 ghost use Rattle.stage_event.specs.Events.{event};
+ghost use Rattle.stage_event.specs.Kept.{IsKept};
 ghost use Rattle.stage_event.specs.Views.{shown};
 ghost use Rattle.stage_event.specs.declared.facts.Facts.{Facts};
 ghost use Rattle.stage_event.specs.declared.facts.Kept.{Kept};
+ghost use Rattle.stage_event.specs.declared.keeping.TheConstants.{MOST_KEPT_BYTES};
 ghost use Rattle.two_worlds.specs.Example.{example, example_steps};
 ghost use Rattle.two_worlds.specs.Parts.{Parts};
 ghost use Rattle.two_worlds.specs.Requests.{asked_by};
@@ -25,6 +30,8 @@ ghost use Rattle.two_worlds.specs.declared.state.Open.{Open};
 ghost use Rattle.two_worlds.specs.declared.state.State.{State};
 ghost use Rattle.two_worlds.specs.declared.step.Step.{Step};
 ghost use Rattle.two_worlds.specs.declared.step.Step.TheVariants as step;
+
+use stage_event::{both_users_are_shown, one_kept};
 
 /// Two worlds that look the same stay so over schedules that look the same: their tables and every sink are equal after
 /// any number of steps, in whatever order bays and sinks took turns; each step was taken in both or in neither; and the
@@ -78,8 +85,9 @@ pub fn one_secret_reaches_no_sink()
 
 /// Which steps look the same: at level None two requests that ask for the same change of the table, or for none; at every
 /// level two requests with one head that want the same, where the events show the same of their bodies, and at Metadata
-/// whatever their bodies are; and two answers with the same status where no event shows the reply. Two requests with one
-/// head want the same where it leads to an API.
+/// whatever their bodies are; and two answers with the same status where no event shows the reply. Where managed fields are
+/// omitted, and a body is kept as events keep it, events show the same of two bodies that differ in these alone. Two requests
+/// with one head want the same where its path isn't one that this server answers itself.
 pub fn what_is_alike()
     ensures none { (setup : Setup) (s t : State) (bay moment : ℕ) (peer other : List ℕ) (r q : Request)
         → (decision_in setup.set r).level ≡ level.None → (decision_in setup.set q).level ≡ level.None
@@ -91,7 +99,15 @@ pub fn what_is_alike()
         → shown_step setup s (step.Begin bay r peer moment) ≡ shown_step setup t (step.Begin bay q peer moment) }
     ensures bodies { (setup : Setup) (s t : State) (bay moment : ℕ) (peer : List ℕ) (r q : Request)
         → r.head ≡ q.head → errand_in setup.set r ≡ errand_in setup.set q
-        → shown (setup.keep r.body) ≡ shown (setup.keep q.body)
+        → shown (setup.keep (decision_in setup.set r).omit_managed r.body)
+        ≡ shown (setup.keep (decision_in setup.set r).omit_managed q.body)
+        → shown_step setup s (step.Begin bay r peer moment) ≡ shown_step setup t (step.Begin bay q peer moment) }
+    ensures managed { (setup : Setup) (s t : State) (bay moment : ℕ) (peer : List ℕ) (r q : Request) (v w : Value)
+        → r.head ≡ q.head → errand_in setup.set r ≡ errand_in setup.set q
+        → (decision_in setup.set r).omit_managed ≡ true
+        → ((omit : Bool) (body : List ℕ) → IsKept omit body (setup.keep omit body))
+        → length r.body ≤ MOST_KEPT_BYTES → length q.body ≤ MOST_KEPT_BYTES
+        → StandsFor r.body v → StandsFor q.body w → managed v ≡ managed w
         → shown_step setup s (step.Begin bay r peer moment) ≡ shown_step setup t (step.Begin bay q peer moment) }
     ensures replies { (setup : Setup) (s : State) (o : Open) (bay moment : ℕ) (link other : LinkNote) (reply text : Kept)
         → current_at s bay ≡ Some o → reply_due o.exchange.level o.exchange.facts.info ≡ false
@@ -99,17 +115,27 @@ pub fn what_is_alike()
         → shown_step setup s (step.Finish bay link reply moment) ≡ shown_step setup s (step.Finish bay other text moment) }
     ensures apis { (setup : Setup) (r q : Request) → r.head ≡ q.head → local_of (info_in r).path ≡ None
         → errand_in setup.set r ≡ errand_in setup.set q }
-{}
+{
+    one_kept();
+}
 
-/// Which steps don't look the same: two answers with statuses that differ, at any level but None. Their events differ too.
+/// Which steps don't look the same, at any level but None: two answers with statuses that differ, and two requests that act
+/// as other users, or of which one acts as another user and one doesn't. Their events differ too.
 pub fn what_is_not_alike()
     ensures status { (setup : Setup) (s : State) (o : Open) (bay moment : ℕ) (link other : LinkNote) (reply text : Kept)
         → current_at s bay ≡ Some o → o.exchange.level ≢ level.None → link_status link ≢ link_status other
         → shown_step setup s (step.Finish bay link reply moment) ≢ shown_step setup s (step.Finish bay other text moment) }
     ensures events { (own : Level) (these those : Facts) → own ≢ level.None → these.status ≢ those.status
         → event stage.ResponseComplete own these ≢ event stage.ResponseComplete own those }
+    ensures acting { (setup : Setup) (s t : State) (bay moment : ℕ) (peer other : List ℕ) (r q : Request)
+        → (decision_in setup.set r).level ≢ level.None → acting_in setup.set r ≢ acting_in setup.set q
+        → shown_step setup s (step.Begin bay r peer moment) ≢ shown_step setup t (step.Begin bay q other moment) }
+    ensures users { (stage : Stage) (own : Level) (these those : Facts) → own ≢ level.None → these.acting ≢ those.acting
+        → event stage own these ≢ event stage own those }
     ensures sinks { (s t : State) → low s ≡ low t → s.shared ≡ t.shared }
-{}
+{
+    both_users_are_shown();
+}
 
 /// After every list of steps from the start, both sinks hang together. Each line that a buffer took from a bay is in it or
 /// was taken from it, in the bay's order, and each line that was taken is in one try or waits for one. A buffer holds no

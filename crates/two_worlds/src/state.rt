@@ -77,6 +77,8 @@ pub struct Exchange {
     /// The change that it asks for, if it asks for one.
     pub asked: Option<Change>,
     pub is_head: bool,
+    /// Whether managed fields are left out of what is kept of its bodies.
+    pub managed: bool,
     /// How many changes the look at the table saw.
     pub seen: u64,
     pub link: LinkNote,

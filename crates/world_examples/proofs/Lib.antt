@@ -1,1 +1,5 @@
+mod ActingRuns
+mod Bodies
+mod ManagedRuns
 mod Runs
+mod Texts

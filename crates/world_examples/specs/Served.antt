@@ -1,4 +1,4 @@
--- One request for a secret that is sent on, from its arrival until its lines are written.
+-- A request that is sent on, from its arrival until its lines are written.
 use Rattle.std.specs.Prelude.{ℕ, true, List, [], ◌∷◌, None, codes}
 use Rattle.apiservice_rows.specs.Row.{Row}
 use Rattle.audit_core.specs.declared.link_note.LinkNote.TheVariants.{Whole}
@@ -6,6 +6,7 @@ use Rattle.audit_core.specs.declared.settings.Settings.{Settings}
 use Rattle.audit_core.specs.declared.sinks.Sink.TheVariants.{Log}
 use Rattle.audit_core.specs.declared.sinks.SinkMode.TheVariants.{Off, Batch}
 use Rattle.http_edge.specs.declared.request.Request.{Request}
+use Rattle.log_sink.specs.Texts.{log_text}
 use Rattle.policy_rules.specs.Policy.{all_metadata}
 use Rattle.service_endpoints.specs.Key.{delegate_key}
 use Rattle.service_endpoints.specs.declared.endpoint.Endpoint.{Endpoint}
@@ -13,6 +14,8 @@ use Rattle.stage_event.specs.declared.facts.Kept.{Kept}
 use Rattle.stage_event.specs.declared.facts.Kept.TheVariants.{Compact}
 use Rattle.truncate_backend.specs.declared.tries.TryAnswer.TheVariants as answers
 use Rattle.two_worlds.specs.Setup.{Setup}
+use Rattle.two_worlds.specs.Worlds.{tried_bytes}
+use Rattle.two_worlds.specs.declared.state.State.{State}
 use Rattle.two_worlds.specs.declared.step.Step.{Step}
 use Rattle.two_worlds.specs.declared.step.Step.TheVariants as step
 use Rattle.two_worlds.specs.declared.step.TryTold.{TryTold}
@@ -55,7 +58,7 @@ served =
       boot = 1;
       capacity = λ sink. 2;
       limits = record { lines = 2; bytes = 8192 };
-      keep = λ body. Compact body;
+      keep = λ omit body. Compact body;
     }
 
 -- it writes a secret, with that body
@@ -76,9 +79,9 @@ done = record { answer = answers.Done; sent = 0 }
 
 -- the backend answers with that status and body; the events are offered to the log, whose writer takes both lines and
 -- writes them
-abbrev pub served_steps : ℕ → List ℕ → Kept → List Step
-served_steps status body reply =
-    step.Begin 0 (secret_request body) (10 ∷ 0 ∷ 0 ∷ 7 ∷ []) 0
+abbrev pub steps_of : Request → ℕ → Kept → List Step
+steps_of request status reply =
+    step.Begin 0 request (10 ∷ 0 ∷ 0 ∷ 7 ∷ []) 0
     ∷ step.Offer 0 Log done
     ∷ step.Find 0 0
     ∷ step.Finish 0 (Whole status) reply 0
@@ -87,3 +90,10 @@ served_steps status body reply =
     ∷ step.Take Log
     ∷ step.Cut Log done
     ∷ []
+
+abbrev pub served_steps : ℕ → List ℕ → Kept → List Step
+served_steps status body reply = steps_of (secret_request body) status reply
+
+-- what the log was sent
+abbrev pub log_of : State → List ℕ
+log_of s = tried_bytes log_text s.shared.log.tries

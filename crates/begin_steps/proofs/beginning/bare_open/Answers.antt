@@ -7,6 +7,5 @@ pub returns : goal.returns
 returns c =
     let judged = rw c.settings.ensures.is at c.in_ok-judged.ensures in
     let none : c.new-2.result ≡ [] = cc in
-    λ keep. bare_as (setup_of c.args.setup.now keep) c.args.id c.args.peer c.args.request.now c.args.moment
-    c.in_ok-judged.judged _ _ _ _ _ none c.requires judged c.in_ok-target.ensures c.in_ok-agent.ensures c.begin-facts.ensures
-    c.bare_exchange-exchange.ensures
+    λ keep k. bare_as (setup_of c.args.setup.now keep) k c.args.id c.args.peer c.args.request.now c.args.moment
+    c.in_ok-judged.judged _ _ none c.requires judged c.in_ok-judged_exchange.ensures

@@ -13,7 +13,7 @@ returns-then-is_some-clause-ok c = λ keep k sh.
 
 pub returns-in-Ok-clause-ok : goal.returns-in-Ok-clause-ok
 returns-in-Ok-clause-ok c = λ keep k sh.
-    let done = rw c.put.ensures at (c.in-Ok.ensures keep k) in
+    let done = rw c.put.ensures at (c.in-Ok.ensures keep) in
     let few : c.args.b.now.number < MOST_REQUESTS = omega arith in
     begin_turn (setup_of c.args.setup.now keep) c.args.bay c.args.peer c.args.request.now c.args.moment sh c.args.b.now
-    c.in_ok-opened.opened _ (sym c.is_some.ensures ∙ c.if-is_some.false) few (c.in_ok-opened.ensures keep) done
+    c.in_ok-opened.opened _ (sym c.is_some.ensures ∙ c.if-is_some.false) few (c.in_ok-opened.ensures keep k) done

@@ -7,6 +7,6 @@ pub returns-in-Some : goal.returns-in-Some
 returns-in-Some c =
     on_ok_weaker
     c.complete.result
-    (λ h keep k. current_completed (setup_of c.args.setup.now keep) (keep c.args.request.now.body) c.args.current.now
-    c.in-Some.opened c.complete.new.opened c.in-Some.is (h keep k))
+    (λ h keep. current_completed (setup_of c.args.setup.now keep) c.args.current.now c.in-Some.opened c.complete.new.opened
+    c.in-Some.is (h keep))
     c.complete.ensures

@@ -3,7 +3,7 @@ use Rattle.kept_worlds.proofs.KeptLemmas.{keep, keep_keeps}
 use Rattle.kept_worlds.proofs.laws.steps_are_determined.Goals as goal
 
 pub returns-clause-step : goal.returns-clause-step
-returns-clause-step c own s t u taken answer other h k = one_step keep (keep_keeps c.one_kept.ensures) own s t u taken answer other h k
+returns-clause-step c own s t u taken answer other h k = one_step keep (keep_keeps c.one_kept.ensures.one) own s t u taken answer other h k
 
 pub returns-clause-run : goal.returns-clause-run
-returns-clause-run c own s t u steps answers others h k = one_run keep (keep_keeps c.one_kept.ensures) own s t u steps answers others h k
+returns-clause-run c own s t u steps answers others h k = one_run keep (keep_keeps c.one_kept.ensures.one) own s t u steps answers others h k

@@ -1,4 +1,3 @@
-use Rattle.std.proofs.Common.{◌∙◌, sym}
 use Rattle.offer_steps.proofs.OfferLemmas.{current_offered, current_waits}
 use Rattle.offer_steps.proofs.offering.offer_current.Goals as goal
 

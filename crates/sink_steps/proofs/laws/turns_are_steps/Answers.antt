@@ -1,4 +1,4 @@
-use Rattle.std.proofs.Common.{◌≡◌, ap, sym, ◌∙◌, Some}
+use Rattle.std.proofs.Common.{ap, ◌∙◌}
 use Rattle.std.proofs.lemmas.Option.{slice_get_past}
 use Rattle.sink_steps.proofs.StepLemmas.{turn_taken}
 use Rattle.sink_steps.proofs.laws.turns_are_steps.Goals as goal
