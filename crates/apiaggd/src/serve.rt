@@ -15,7 +15,7 @@ use proxy_runs::{can_run, settings_of};
 use proxy_server::{Status, SystemFiles};
 use route_history::NewRoutes;
 use serve_config::{ServeConfig, configure_serve};
-use serve_report::{begun_text, ended_text, strict_warnings};
+use serve_report::{begun_text, ended_text, size_warning, strict_warnings};
 use serve_runs::{Ended, RunStatus};
 use serve_words::{ServeWords, SinkWords};
 use std::alloc::Global;
@@ -187,6 +187,13 @@ fn say_warnings(host: &HostRuntime, words: &ServeWords, policy: &Policy) {
     }
 }
 
+fn say_sizes(host: &HostRuntime, settings: &Settings) {
+    if let Ok(text) = size_warning(host.alloc(), settings) {
+        let text = text.as_str();
+        let _ = eprint!(host; "{text}");
+    }
+}
+
 // Starts the threads that open and close the gate. Whether they run.
 fn watch_gate<R: Threads>(
     host: &HostRuntime,
@@ -230,6 +237,7 @@ fn ready_by<R: Threads + Net<Listener = TcpListener, Stream = TcpStream>>(
     let ServeConfig { words, loaded } = config;
     say_warnings(host, &words, &loaded.policy);
     let (settings, table) = settings_of(&words, loaded);
+    say_sizes(host, &settings);
     let services = table.rows().len();
     let Ok(routes) = NewRoutes::new(host.alloc(), table) else {
         return Err(no_memory());

@@ -1,5 +1,5 @@
-//! What `serve` tells an operator on standard error: what it begins with, which requests a strict sink doesn't stop, and what
-//! became of connections and audit lines.
+//! What `serve` tells an operator on standard error: what it begins with, which requests a strict sink doesn't stop, whether events
+//! can be too large, and what became of connections and audit lines.
 //!
 //! Nothing is promised of these texts. The counts of connections, of lines offered, and those of a sink in mode batch are those of the
 //! run; those of a blocking sink are its handles' own.
@@ -8,9 +8,11 @@
 mod begun;
 mod ended;
 mod ends;
+mod sizes;
 mod strict;
 
 pub use begun::begun_text;
 pub use ended::{ended_text, short_text};
 pub use ends::ends_text;
+pub use sizes::size_warning;
 pub use strict::strict_warnings;
