@@ -2,9 +2,10 @@
 """backend.py API_PORT HOOK_PORT HOOK_FILE [CERTIFICATE KEY CA]
 
 Two small servers on 127.0.0.1 for trying `apiaggd serve`. The first behaves as an API server does, for clients that ask
-for little: it keeps objects of any resource in memory, lists them in chunks, and sends a watch each change when it is made.
-A pod's log has no length, and ends when its connection does. The second takes the batches of an audit webhook. It appends
-one line of text for each of their events to HOOK_FILE. With three more files of PEM the first one takes TLS, from clients
+for little: it keeps objects of any resource in memory, with managed fields, lists them in chunks, and sends a watch each
+change when it is made. A pod's log has no length, and ends when its connection does. Its version and its OpenAPI documents
+are those of openapi.py. It believes X-Remote-User and X-Remote-Group. The second takes the batches of an audit webhook. It
+appends one line of text for each of their events to HOOK_FILE. With three more files of PEM the first one takes TLS, from clients
 alone that have a certificate of that authority.
 """
 
@@ -16,6 +17,8 @@ import sys
 import threading
 import time
 import urllib.parse
+
+import openapi
 
 VERBS = ["create", "delete", "get", "list", "patch", "update", "watch"]
 
@@ -33,13 +36,21 @@ SERVED = {
            {"name": "pods/exec", "singularName": "", "namespaced": True, "kind": "PodExecOptions", "verbs": ["create"]}],
     "apps/v1": [resource("deployments", "Deployment", short=("deploy",))],
     "widgets.example/v1": [resource("widgets", "Widget")],
+    "apiregistration.k8s.io/v1": [resource("apiservices", "APIService", False)],
 }
 OTHERS = [resource("things", "Thing")]
+# Widgets are another server's, so that this one doesn't describe them.
+DESCRIBED = {version: its for version, its in SERVED.items() if version != "widgets.example/v1"}
 
 
 def pod(name):
     return {"kind": "Pod", "apiVersion": "v1", "metadata": {"name": name, "namespace": "a"},
             "spec": {"containers": [{"name": "main", "image": "none"}]}, "status": {"phase": "Running"}}
+
+
+def fields(value):
+    """The names of all fields of a value, as managed fields have them (Kubernetes, "Server-Side Apply")."""
+    return {f"f:{name}": fields(it) for name, it in value.items()} if isinstance(value, dict) else {}
 
 
 class Store:
@@ -50,14 +61,18 @@ class Store:
         self.changes = []
         self.changed = threading.Condition()
 
-    def put(self, place, value):
-        """Adds or replaces an object, and returns it as it is kept."""
+    def put(self, place, value, manager="stand-in"):
+        """Adds or replaces an object, of which all fields are that manager's then, and returns it as it is kept."""
         with self.changed:
             value = copy.deepcopy(value)
             kind = "MODIFIED" if place in self.objects else "ADDED"
             meta = value.setdefault("metadata", {})
-            meta.setdefault("creationTimestamp", time.strftime("%Y-%m-%dT%H:%M:%SZ", time.gmtime()))
+            moment = time.strftime("%Y-%m-%dT%H:%M:%SZ", time.gmtime())
+            meta.setdefault("creationTimestamp", moment)
             meta.setdefault("uid", f"uid-{len(self.changes)}")
+            own = {name: it for name, it in value.items() if name not in ("apiVersion", "kind", "metadata")}
+            meta["managedFields"] = [{"manager": manager, "operation": "Update", "apiVersion": value.get("apiVersion"),
+                                      "time": moment, "fieldsType": "FieldsV1", "fieldsV1": fields(own)}]
             return self.note(place, kind, value)
 
     def note(self, place, kind, value):
@@ -141,6 +156,12 @@ class Api(http.server.BaseHTTPRequestHandler):
         self.start(status, ("Content-Length", str(len(body))))
         self.send(body)
 
+    def text(self, data, content):
+        """A reply that has no length, and ends when its connection does."""
+        self.start(200, ("Connection", "close"), content=content)
+        self.send(data)
+        self.close_connection = True
+
     def refuse(self, code, reason, message):
         self.whole(code, {"kind": "Status", "apiVersion": "v1", "metadata": {}, "status": "Failure", "message": message,
                           "reason": reason, "code": code})
@@ -159,6 +180,7 @@ class Api(http.server.BaseHTTPRequestHandler):
         self.version = self.api.removeprefix("/apis/").removeprefix("/api/")
         resource, name, self.sub = (rest + ["", "", ""])[:3]
         self.place = (self.api, space, resource, name)
+        self.manager = self.query.get("fieldManager") or self.headers.get("User-Agent", "unknown").partition("/")[0]
 
     def is_mine(self, place, value):
         """Whether an object is in the collection that was asked for, and has the labels NAME=VALUE,.. and the name."""
@@ -197,11 +219,24 @@ class Api(http.server.BaseHTTPRequestHandler):
             self.chunk(text[at : at + 1000])
         self.chunk(b"")
 
+    def told(self, path):
+        """What this server says of itself at a path, or None."""
+        version = path.removeprefix("/openapi/v3/").removeprefix("apis/").removeprefix("api/")
+        if path.startswith("/openapi/v3/") and version in DESCRIBED:
+            return openapi.document(version, DESCRIBED[version])
+        return {"/api": {"kind": "APIVersions", "versions": ["v1"]}, "/version": openapi.VERSION,
+                "/openapi/v3": openapi.index(DESCRIBED)}.get(path)
+
     def do_GET(self):
         self.read()
         of, name = self.place[2:]
-        if self.path.partition("?")[0] == "/api":
-            self.whole(200, {"kind": "APIVersions", "versions": ["v1"]})
+        path = self.path.partition("?")[0].rstrip("/")
+        if self.told(path):
+            self.whole(200, self.told(path))
+        elif path == "/openapi/v2":
+            self.text(openapi.document_2(DESCRIBED), "application/com.github.proto-openapi.spec.v2.v1.0+protobuf")
+        elif path == "/metrics":
+            self.text(b"standin_objects %d\n" % len(STORE.objects), "text/plain")
         elif not of:
             self.whole(200, {"kind": "APIResourceList", "apiVersion": "v1", "groupVersion": self.version,
                              "resources": SERVED.get(self.version, OTHERS)})
@@ -212,9 +247,7 @@ class Api(http.server.BaseHTTPRequestHandler):
         elif self.place not in STORE.objects:
             self.refuse(404, "NotFound", f'{of} "{name}" not found')
         elif self.sub == "log":
-            self.start(200, ("Connection", "close"), content="text/plain")
-            self.send(b"a line of a log\n")
-            self.close_connection = True
+            self.text(b"a line of a log\n", "text/plain")
         else:
             self.whole(200, STORE.objects[self.place])
 
@@ -225,14 +258,17 @@ class Api(http.server.BaseHTTPRequestHandler):
         value = object_of(self.body)
         if not isinstance(value, dict):
             return self.refuse(415, "UnsupportedMediaType", "the body is no object")
+        user = {"username": self.headers.get("X-Remote-User"), "groups": self.headers.get_all("X-Remote-Group")}
+        if self.place[2] == "selfsubjectreviews":
+            return self.whole(201, {**value, "status": {"userInfo": user}})
         place = (*self.place[:3], value.get("metadata", {}).get("name", ""))
         if place in STORE.objects:
             return self.refuse(409, "AlreadyExists", f'{place[2]} "{place[3]}" already exists')
         # who created it, as this server was told
-        value.setdefault("metadata", {}).setdefault("annotations", {})["for"] = self.headers.get("X-Remote-User")
+        value.setdefault("metadata", {}).setdefault("annotations", {})["for"] = user["username"]
         if place[1]:
             value["metadata"]["namespace"] = place[1]
-        self.whole(201, STORE.put(place, value) if "dryRun" not in self.query else value)
+        self.whole(201, STORE.put(place, value, self.manager) if "dryRun" not in self.query else value)
 
     def do_PUT(self):
         self.read()
@@ -243,7 +279,7 @@ class Api(http.server.BaseHTTPRequestHandler):
             return self.refuse(415, "UnsupportedMediaType", "the body is no object")
         if self.command == "PATCH":
             value = merged(STORE.objects[self.place], value)
-        self.whole(200, STORE.put(self.place, value))
+        self.whole(200, STORE.put(self.place, value, self.manager) if "dryRun" not in self.query else value)
 
     do_PATCH = do_PUT
 
@@ -266,7 +302,9 @@ class Hook(http.server.BaseHTTPRequestHandler):
         with open(sys.argv[3], "a", encoding="utf-8") as file:
             for event in events:
                 code = event.get("responseStatus", {}).get("code", "")
-                print(f"{event['stage']:16} {event['verb']:7} {event['requestURI']} {code}".rstrip(), file=file)
+                acting = event.get("impersonatedUser")
+                whom = f" {event['user']['username']} as {acting['username']}" if acting else ""
+                print(f"{event['stage']:16} {event['verb']:7} {event['requestURI']} {code}".rstrip() + whom, file=file)
         self.send_response(200)
         self.send_header("Content-Length", "0")
         self.end_headers()
