@@ -1,5 +1,5 @@
 -- What is mended of a text, byte after byte.
-use Rattle.std.proofs.Common.{◌≡◌, ℕ, suc, ◌+◌, ◌-◌, ◌≤◌, ◌<◌, ◌∷◌, [], ◌++◌, List, length, take, drop, get_or, Bool, true, false, cond, codes, refl, sym, ap, ◌∙◌, subst, inl, inr, arith, min, append_assoc, length-drop}
+use Rattle.std.proofs.Common.{◌≡◌, ℕ, zero, suc, ◌+◌, ◌-◌, ◌≤◌, ◌<◌, ◌∷◌, [], ◌++◌, List, length, take, drop, get_or, Bool, true, false, cond, codes, refl, sym, ap, ◌∙◌, subst, inl, inr, arith, min, append_assoc, length-drop, length-take}
 use Rattle.std.specs.Prelude.{◌==◌, ◌||◌, ◌⊎◌}
 use Rattle.std.proofs.Math.Seq.{take-add, drop-cons}
 use Rattle.std.proofs.lemmas.List.{append-nil, get_or-drop, take_all, drop_all, drop-drop, length-take-le, take_more, take_rest}
@@ -7,6 +7,7 @@ use Rattle.std.proofs.lemmas.Slice.{take-put_mid, drop-put_mid}
 use Rattle.std.proofs.lemmas.Bool.{cases_lt}
 use Rattle.std.proofs.lemmas.Bool.Decides.{nat_tests}
 use borrow.Rule.Slice.PartMut.{put_mid}
+use Rattle.memchr.specs.Find.{Nowhere, Passes, is_byte}
 use Rattle.json_span.specs.Strings.{is, is_hex}
 use Rattle.json_prune.specs.Mend.{is_d, is_high_digit, is_low_digit, begins, high, low, pair, instead, mend_behind, mend}
 use Rattle.json_prune.proofs.HalfLemmas.{begins_long, both_true}
@@ -43,6 +44,21 @@ plain_on text all at h e sum =
     ∙ (append_assoc (take at text) (get_or text at 0 ∷ []) (mend (drop (at + 1) text))
     ∙ (ap (λ i. take at text ++ (get_or text at 0 ∷ mend (drop i text))) next
     ∙ (ap (λ l. take at text ++ l) (sym (ap mend (drop-cons text at 0 h) ∙ mend_plain (get_or text at 0) (drop (suc at) text) test)) ∙ sum)))
+
+bytes_on : (text all : List ℕ) (at n : ℕ) → at + n ≤ length text → ((k : ℕ) → k < n → ¬ (get_or text (at + k) 0 ≡ 92)) → take at text ++ mend (drop at text) ≡ all → take (at + n) text ++ mend (drop (at + n) text) ≡ all
+bytes_on text all at zero within none sum = let here : at + 0 ≡ at = omega arith in ap (λ i. take i text ++ mend (drop i text)) here ∙ sum
+bytes_on text all at (suc n) within none sum =
+    let there : at + suc n ≡ at + n + 1 = omega arith in
+    ap (λ i. take i text ++ mend (drop i text)) there
+    ∙ plain_on text all (at + n) (omega (arith, within)) (none n (omega arith)) (bytes_on text all at n (omega (arith, within)) (λ k h. none k (omega (arith, h))) sum)
+
+-- what a search of the bytes from a place on passed over
+pub run_on : (text : List ℕ) (from n end : ℕ) → from ≤ length text → n ≤ length (take (length text - from) (drop from text)) → end ≡ from + n → Nowhere (Passes (is_byte 92) (take (length text - from) (drop from text))) 0 n →
+    take end text ++ mend (drop end text) ≡ take from text ++ mend (drop from text)
+run_on text from n end within few here passed =
+    ap (λ i. take i text ++ mend (drop i text)) here
+    ∙ bytes_on text (take from text ++ mend (drop from text)) from n (omega (arith, within, few, length-take (length text - from) (drop from text), length-drop from text))
+    (λ k below is. passed k (omega arith) below (ap (λ l. get_or l k 0 == 92) (take_rest text from) ∙ (ap (λ b. b == 92) (get_or-drop from text k 0 ∙ is)))) refl
 
 -- ---- an escape
 

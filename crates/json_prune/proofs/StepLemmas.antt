@@ -1,10 +1,11 @@
 -- One byte of a text, as strings and values are measured.
-use Rattle.std.proofs.Common.{◌≡◌, ℕ, zero, suc, ◌+◌, ◌-◌, ◌≤◌, ◌<◌, ◌∷◌, [], List, length, take, drop, get_or, true, false, cond, refl, sym, ap, ◌∙◌, inl, inr, arith, length-drop, min}
-use Rattle.std.specs.Prelude.{◌==◌}
+use Rattle.std.proofs.Common.{◌≡◌, ℕ, zero, suc, ◌+◌, ◌-◌, ◌≤◌, ◌<◌, ◌∷◌, [], List, length, take, drop, get_or, true, false, cond, refl, sym, ap, ◌∙◌, inl, inr, arith, length-drop, length-take, min}
+use Rattle.std.specs.Prelude.{◌==◌, ◌||◌}
 use Rattle.std.proofs.Math.Seq.{drop-cons}
-use Rattle.std.proofs.lemmas.List.{take_rest, drop-drop, drop_all}
+use Rattle.std.proofs.lemmas.List.{get_or-drop, take_rest, drop-drop, drop_all}
 use Rattle.std.proofs.lemmas.Bool.{cases_lt}
 use Rattle.std.proofs.lemmas.Bool.Decides.{nat_tests}
+use Rattle.memchr.specs.Find.{Nowhere, Passes, is_byte2}
 use Rattle.json_prune.specs.Skip.{string_size, outside, inside, unless_none, at_mark, size}
 use Rattle.json_prune.specs.Mark.{mark_of}
 use Rattle.json_prune.specs.declared.mark.Mark.{Mark}
@@ -51,6 +52,42 @@ string_escape_last text at h past e =
 
 pub string_none : (text : List ℕ) (at : ℕ) → length text ≤ at → string_size false (drop at text) ≡ 0
 string_none text at past = ap (string_size false) (drop_all at text past)
+
+-- bytes that are neither quotation mark nor backslash
+string_bytes : (text : List ℕ) (at n : ℕ) → at + n ≤ length text → ((k : ℕ) → k < n → ¬ (get_or text (at + k) 0 ≡ 34)) → ((k : ℕ) → k < n → ¬ (get_or text (at + k) 0 ≡ 92)) →
+    string_size false (drop at text) ≡ n + string_size false (drop (at + n) text)
+string_bytes text at zero h a b = let here : at ≡ at + 0 = omega arith in let same = ap (λ i. string_size false (drop i text)) here in omega (arith, same)
+string_bytes text at (suc n) h a b =
+    let before = string_bytes text at n (omega (arith, h)) (λ k l. a k (omega (arith, l))) (λ k l. b k (omega (arith, l))) in
+    let step = string_on text (at + n) (omega (arith, h)) (a n (omega arith)) (b n (omega arith)) in
+    let there : at + n + 1 ≡ at + suc n = omega arith in
+    let same = ap (λ i. string_size false (drop i text)) there in
+    omega (arith, before, step, same)
+
+-- what stands in the part of a text that is searched
+part_at : (text : List ℕ) (at k : ℕ) → get_or (take (length text - at) (drop at text)) k 0 ≡ get_or text (at + k) 0
+part_at text at k = ap (λ l. get_or l k 0) (take_rest text at) ∙ get_or-drop at text k 0
+
+-- what a search passed over
+pub string_passed : (text : List ℕ) (at n end all : ℕ) → at ≤ length text → n ≤ length (take (length text - at) (drop at text)) → end ≡ at + n →
+    Nowhere (Passes (is_byte2 34 92) (take (length text - at) (drop at text))) 0 n → all ≡ at + string_size false (drop at text) → all ≡ end + string_size false (drop end text)
+string_passed text at n end all within few here passed sum =
+    let size = length-take (length text - at) (drop at text) in
+    let part = length-drop at text in
+    let run = string_bytes text at n (omega (arith, within, few, size, part))
+    (λ k below is. passed k (omega arith) below (ap (λ b. b == 34 || b == 92) (part_at text at k ∙ is)))
+    (λ k below is. passed k (omega arith) below (ap (λ b. b == 34 || b == 92) (part_at text at k ∙ is))) in
+    let there = ap (λ i. string_size false (drop i text)) here in
+    omega (arith, sum, run, there, here)
+
+-- what it found, if that is no quotation mark
+pub slash_there : (text : List ℕ) (at n mark : ℕ) → mark ≡ at + n → Passes (is_byte2 34 92) (take (length text - at) (drop at text)) n → ¬ (get_or text mark 0 ≡ 34) → get_or text mark 0 ≡ 92
+slash_there text at n mark here found other =
+    let byte : get_or (take (length text - at) (drop at text)) n 0 ≡ get_or text mark 0 = part_at text at n ∙ ap (λ i. get_or text i 0) (sym here) in
+    let test : (get_or text mark 0 == 34 || get_or text mark 0 == 92) ≡ true = ap (λ b. b == 34 || b == 92) (sym byte) ∙ found in
+    let quote : (get_or text mark 0 == 34) ≡ false = grind (arith, nat_tests) in
+    let back : (get_or text mark 0 == 92) ≡ true = ap (λ c. c || (get_or text mark 0 == 92)) (sym quote) ∙ test in
+    grind (arith, nat_tests)
 
 -- ---- values
 

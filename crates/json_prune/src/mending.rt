@@ -2,6 +2,7 @@ ghost use Rattle.std.specs.Prelude.{◌≡◌, ◌≤◌, ◌<◌, ◌++◌, len
 ghost use Rattle.json_prune.specs.Mend as spec;
 
 use crate::halves::{is_half, is_pair};
+use memchr::memchr;
 
 // Mends the escape whose backslash is at a byte, and says where it ends.
 fn mend_escape(text: &mut [u8], at: usize) -> usize
@@ -28,11 +29,10 @@ fn next_escape(text: &[u8], from: usize) -> usize
     ensures mended { take result text.now ++ spec.mend (drop result text.now) ≡ take from text.now ++ spec.mend (drop from text.now) }
     ensures stops { result < length text.now → slice_index text.now result ≡ 92 }
 {
-    let mut at = from;
-    while at < text.len() && text[at] != b'\\' {
-        at += 1;
+    match memchr(b'\\', &text[from..]) {
+        Some(further) => from + further,
+        None => text.len(),
     }
-    at
 }
 
 /// Puts `\ufffd` in the place of each escape of half a surrogate pair.

@@ -2,6 +2,7 @@ ghost use Rattle.std.specs.Prelude.{◌≡◌, ◌≤◌, length, false};
 ghost use Rattle.json_prune.specs.Skip as spec;
 
 use crate::mark::{Mark, mark_of};
+use memchr::memchr2;
 
 // How many bytes are left of a string, its closing quotation mark among them.
 pub fn string_len(text: &[u8]) -> usize
@@ -9,14 +10,14 @@ pub fn string_len(text: &[u8]) -> usize
     ensures within { result ≤ length text.now }
 {
     let mut at = 0;
-    while at < text.len() {
-        match text[at] {
-            b'"' => return at + 1,
-            b'\\' => at = text.len().min(at + 2),
-            _ => at += 1,
+    while let Some(further) = memchr2(b'"', b'\\', &text[at..]) {
+        let mark = at + further;
+        if text[mark] == b'"' {
+            return mark + 1;
         }
+        at = text.len().min(mark + 2);
     }
-    at
+    text.len()
 }
 
 // How many bytes stand before the first comma or closing bracket that belongs to none of them: in compact text, a value.

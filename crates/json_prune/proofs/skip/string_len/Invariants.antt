@@ -3,8 +3,11 @@ use Rattle.json_prune.specs.Skip.{string_size}
 use Rattle.json_prune.proofs.skip.string_len.Given as goal
 
 -- what the bytes from here on add
-abbrev pub invariant-loop-at : goal.invariant-loop-at
-invariant-loop-at l = (l.at ≤ length l.text) × (string_size false l.text ≡ l.at + string_size false (drop l.at l.text))
+abbrev pub invariant-loop-further : goal.invariant-loop-further
+invariant-loop-further l = record {
+  within : l.at ≤ length l.text;
+  sum : string_size false l.text ≡ l.at + string_size false (drop l.at l.text);
+}
 
-abbrev pub decreases-loop-at : goal.decreases-loop-at
-decreases-loop-at l = length l.text - l.at
+abbrev pub decreases-loop-further : goal.decreases-loop-further
+decreases-loop-further l = length l.text - l.at
