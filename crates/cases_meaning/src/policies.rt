@@ -1,7 +1,8 @@
 use crate::sources::{source_of, text_of, word};
 use case_rows::fields;
 use front_base::{Info, MOST_FILE_BYTES, Texts, User};
-use policy_rules::{Decision, Policy, PolicyFault, decide, read_policy};
+use policy_json::{PolicyFault, read_policy};
+use policy_rules::{Decision, Policy, decide};
 use std::alloc::Global;
 use std::io;
 

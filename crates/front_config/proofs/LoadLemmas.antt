@@ -16,10 +16,10 @@ use Rattle.apiservice_rows.specs.Row.{Row}
 use Rattle.apiservice_rows.specs.RowList.{read_rows}
 use Rattle.apiservice_rows.specs.declared.fault.RowFault.{RowFault}
 use Rattle.apiservice_rows.specs.declared.fault.RowFault.TheVariants as row
-use Rattle.policy_rules.specs.Reading.{read_policy}
+use Rattle.policy_json.specs.Reading.{read_policy}
 use Rattle.policy_rules.specs.declared.policy.Policy.{Policy}
-use Rattle.policy_rules.specs.declared.fault.PolicyFault.{PolicyFault}
-use Rattle.policy_rules.specs.declared.fault.PolicyFault.TheVariants as policy
+use Rattle.policy_json.specs.declared.fault.PolicyFault.{PolicyFault}
+use Rattle.policy_json.specs.declared.fault.PolicyFault.TheVariants as policy
 use Rattle.command_options.specs.declared.files.FileNames.{FileNames}
 use Rattle.front_config.specs.declared.fault.LoadFault.{LoadFault}
 use Rattle.front_config.specs.declared.fault.LoadFault.TheVariants.{ReadFault, BadFile, NoMemory}

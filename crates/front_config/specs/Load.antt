@@ -17,10 +17,10 @@ use Rattle.apiservice_rows.specs.declared.fault.RowFault.{RowFault}
 use Rattle.apiservice_rows.specs.declared.fault.RowFault.TheVariants as row
 use Rattle.apiservice_table.specs.Table.{Table, with_rows}
 use Rattle.policy_rules.specs.Policy.{all_metadata}
-use Rattle.policy_rules.specs.Reading.{read_policy}
+use Rattle.policy_json.specs.Reading.{read_policy}
 use Rattle.policy_rules.specs.declared.policy.Policy.{Policy}
-use Rattle.policy_rules.specs.declared.fault.PolicyFault.{PolicyFault}
-use Rattle.policy_rules.specs.declared.fault.PolicyFault.TheVariants as policy
+use Rattle.policy_json.specs.declared.fault.PolicyFault.{PolicyFault}
+use Rattle.policy_json.specs.declared.fault.PolicyFault.TheVariants as policy
 use Rattle.service_endpoints.specs.File as ends
 use Rattle.service_endpoints.specs.declared.endpoint.Endpoint.{Endpoint}
 use Rattle.service_endpoints.specs.declared.fault.EndpointFault.{EndpointFault}

@@ -3,7 +3,7 @@ ghost use Rattle.front_config.specs.declared.fault.LoadFault.TheVariants as load
 
 use apiservice_rows::RowFault;
 use front_base::{Bytes, NoMemory as OutOfMemory};
-use policy_rules::PolicyFault;
+use policy_json::PolicyFault;
 use service_endpoints::BadEndpoint;
 use token_users::BadRecord;
 

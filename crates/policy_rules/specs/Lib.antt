@@ -1,5 +1,3 @@
 pub mod About
-pub mod Fault
 pub mod Matching
 pub mod Policy
-pub mod Reading

@@ -9,14 +9,6 @@ pub struct Omit {
     pub complete: bool,
 }
 
-/// What a policy, or one of its rules, says of omissions.
-#[derive(Clone, Copy)]
-pub struct Omissions {
-    pub stages: Omit,
-    /// None where it isn't given.
-    pub managed: Option<bool>,
-}
-
 impl Omit {
     pub const NOTHING: Omit = Omit {
         received: false,

@@ -6,8 +6,8 @@ use Rattle.apiservice_rows.specs.declared.fault.RowFault.{RowFault}
 use Rattle.apiservice_rows.specs.declared.fault.RowFault.TheVariants as row
 use Rattle.front_config.specs.declared.fault.FileFault.{FileFault}
 use Rattle.front_config.specs.declared.fault.FileFault.TheVariants.{TooLong, NotJson, Token, PolicyFile, RowsFile, Endpoint}
-use Rattle.policy_rules.specs.declared.fault.PolicyFault.{PolicyFault}
-use Rattle.policy_rules.specs.declared.fault.PolicyFault.TheVariants as policy
+use Rattle.policy_json.specs.declared.fault.PolicyFault.{PolicyFault}
+use Rattle.policy_json.specs.declared.fault.PolicyFault.TheVariants as policy
 
 -- `LIST[PLACE]`, counted from 0, or nothing for what stands in no list
 abbrev pub element : List ℕ → Option ℕ → List ℕ

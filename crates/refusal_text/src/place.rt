@@ -5,7 +5,7 @@ ghost use Rattle.refusal_text.specs.Place as spec;
 
 use apiservice_rows::RowFault;
 use front_config::FileFault;
-use policy_rules::PolicyFault;
+use policy_json::PolicyFault;
 use std::alloc::{AllocError, Global};
 
 // An element of a list, or nothing for what stands in no list.

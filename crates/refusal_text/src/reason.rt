@@ -1,6 +1,6 @@
 // Why a file is refused, in words.
 use apiservice_rows::RowFault;
-use policy_rules::PolicyFault;
+use policy_json::PolicyFault;
 use service_endpoints::BadEndpoint;
 use token_users::{BadRecord, Field};
 

@@ -9,7 +9,7 @@ use audit_steps::Core;
 use front_base::{Bytes, Moment};
 use http_edge::Request;
 use http_head::{HeadAnswer, read_request};
-use policy_rules::read_policy;
+use policy_json::read_policy;
 use service_endpoints::read_endpoints;
 use std::alloc::Global;
 use std::test::Fail;

@@ -1,7 +1,7 @@
 use Rattle.std.proofs.Common.{arith}
 use Rattle.serde_json.specs.View.{view}
-use Rattle.policy_rules.proofs.SizeLemmas.{list_inside}
-use Rattle.policy_rules.proofs.read.listed_rules.Goals as goal
+use Rattle.policy_json.proofs.SizeLemmas.{list_inside}
+use Rattle.policy_json.proofs.read.listed_rules.Goals as goal
 
 pub some_rules-requires : goal.some_rules-requires
 some_rules-requires c =

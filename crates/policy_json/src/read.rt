@@ -1,16 +1,16 @@
-ghost use Rattle.std.specs.Prelude.{◌≡◌, ◌<◌, ◌≤◌, ◌^◌, None, IfSome, codes, length, option_map, vec_len};
+ghost use Rattle.std.specs.Prelude.{◌≡◌, ◌<◌, ◌≤◌, ◌^◌, None, codes, length, vec_len};
 ghost use Rattle.serde_json.specs.View.{view, items_view};
-ghost use Rattle.json_value.specs.Members.{listed};
+ghost use Rattle.json_value.specs.Members.{listed, present};
 ghost use Rattle.json_value.specs.Size.{inside};
-ghost use Rattle.policy_rules.specs.Fault.{Gives};
-ghost use Rattle.policy_rules.specs.Reading as spec;
+ghost use Rattle.policy_json.specs.Fault.{Gives};
+ghost use Rattle.policy_json.specs.Reading as spec;
 
 use crate::fault::{PolicyFault, bad_field};
 use crate::members::omissions_of;
-use crate::policy::{Policy, Rules};
 use crate::reading::rule_of;
 use front_base::MOST_FILE_BYTES;
 use json_value::{head_fault, present, read_value};
+use policy_rules::{Policy, Rules};
 use serde_json::Value;
 use std::alloc::Global;
 
@@ -60,14 +60,29 @@ fn listed_rules(alloc: Global, value: &Value) -> Result<Rules, PolicyFault>
     }
 }
 
-fn rules_in(alloc: Global, found: Option<&Value>) -> Result<Rules, PolicyFault>
-    requires { IfSome found (λ v. inside (view v.now) < 2 ^ 32) }
-    ensures { Gives (λ r. r) result (spec.rules_in (option_map (λ v. view v.now) found.entry)) }
+fn rules_in(alloc: Global, value: &Value) -> Result<Rules, PolicyFault>
+    requires { inside (view value.now) < 2 ^ 32 }
+    ensures { Gives (λ r. r) result (spec.rules_in (present (codes "rules") (view value.now))) }
 {
-    match found {
+    match present(value, "rules") {
         None => Err(PolicyFault::NoRules),
         Some(value) => listed_rules(alloc, value),
     }
+}
+
+#[tactic(auto, unfolding(crate::specs::Reading::policy_of))]
+fn policy_of(alloc: Global, value: &Value) -> Result<Policy, PolicyFault>
+    requires { inside (view value.now) < 2 ^ 32 }
+    ensures { Gives (λ p. p) result (spec.policy_of (view value.now)) }
+{
+    check_head(alloc, value)?;
+    let omissions = omissions_of(alloc, None, value)?;
+    let rules = rules_in(alloc, value)?;
+    Ok(Policy {
+        omit: omissions.stages,
+        omit_managed: omissions.managed,
+        rules,
+    })
 }
 
 /// The policy of a text in JSON, or its first fault: of the policy's own members, then rule by rule. A file's bytes are few
@@ -78,12 +93,5 @@ pub fn read_policy(alloc: Global, bytes: &[u8]) -> Result<Policy, PolicyFault>
     ensures { Gives (λ p. p) result (spec.read_policy bytes.now) }
 {
     let value = read_value(alloc, bytes)?;
-    check_head(alloc, &value)?;
-    let omissions = omissions_of(alloc, None, &value)?;
-    let rules = rules_in(alloc, present(&value, "rules"))?;
-    Ok(Policy {
-        omit: omissions.stages,
-        omit_managed: omissions.managed,
-        rules,
-    })
+    policy_of(alloc, &value)
 }

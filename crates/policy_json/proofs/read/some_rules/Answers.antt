@@ -2,8 +2,8 @@ use Rattle.std.proofs.Common.{◌≡◌, List, [], ◌∷◌, length, false, tru
 use Rattle.std.specs.Prelude.{◌==◌}
 use Rattle.serde_json.specs.View.{items_view}
 use Rattle.serde_json.specs.declared.value.Value.{Value}
-use Rattle.policy_rules.specs.Reading.{rules_of, some_rules}
-use Rattle.policy_rules.proofs.read.some_rules.Goals as goal
+use Rattle.policy_json.specs.Reading.{rules_of, some_rules}
+use Rattle.policy_json.proofs.read.some_rules.Goals as goal
 
 -- a list that isn't empty has the rules of its items
 not_empty : (items : List Value) → (length items == 0) ≡ false → some_rules (items_view items) ≡ rules_of (items_view items)

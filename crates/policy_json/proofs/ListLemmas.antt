@@ -2,8 +2,8 @@
 use Rattle.std.proofs.Common.{◌≡◌, ℕ, ◌+◌, ◌∷◌, [], ◌++◌, List, Result, Ok, Err, refl, ap, ◌∙◌, append_assoc}
 use Rattle.serde_json.specs.Data.{Data, Items, item}
 use Rattle.json_value.specs.Results.{◌>>=◌}
-use Rattle.policy_rules.specs.Reading.{each_from}
-use Rattle.policy_rules.specs.declared.fault.PolicyFault.{PolicyFault}
+use Rattle.policy_json.specs.Reading.{each_from}
+use Rattle.policy_json.specs.declared.fault.PolicyFault.{PolicyFault}
 
 -- what is read of the others, behind what was read before
 abbrev pub with_front : {A : Type 0} → List A → Result (List A) PolicyFault → Result (List A) PolicyFault

@@ -15,13 +15,13 @@ use Rattle.front_base.specs.declared.level.Level.{Level}
 use Rattle.front_base.specs.declared.stage.Stage.TheVariants as stage
 use Rattle.policy_rules.specs.Matching.{is_empty, is_about_resources, front}
 use Rattle.policy_rules.specs.Policy.{nothing}
-use Rattle.policy_rules.specs.declared.fault.PolicyFault.{PolicyFault}
-use Rattle.policy_rules.specs.declared.fault.PolicyFault.TheVariants.{NotJson, NoRules, BadField, BothKinds, BadUrl, NamesWithoutResources}
-use Rattle.policy_rules.specs.declared.omit.Omissions.{Omissions}
+use Rattle.policy_json.specs.declared.fault.PolicyFault.{PolicyFault}
+use Rattle.policy_json.specs.declared.fault.PolicyFault.TheVariants.{NotJson, NoRules, BadField, BothKinds, BadUrl, NamesWithoutResources}
+use Rattle.policy_json.specs.declared.members.Omissions.{Omissions}
 use Rattle.policy_rules.specs.declared.omit.Omit.{Omit}
 use Rattle.policy_rules.specs.declared.policy.Policy.{Policy}
-use Rattle.policy_rules.specs.declared.reading.Subjects.{Subjects}
-use Rattle.policy_rules.specs.declared.reading.Targets.{Targets}
+use Rattle.policy_json.specs.declared.reading.Subjects.{Subjects}
+use Rattle.policy_json.specs.declared.reading.Targets.{Targets}
 use Rattle.policy_rules.specs.declared.rule.GroupResources.{GroupResources}
 use Rattle.policy_rules.specs.declared.rule.Rule.{Rule}
 
@@ -209,11 +209,16 @@ some_rules (item d ds) = rules_of (item d ds)
 abbrev pub rules_in : Option Data → Result (List Rule) PolicyFault
 rules_in found = list_or (BadField None (codes "rules")) (Err NoRules) some_rules found
 
--- the policy of a text, or the first of its faults in this order
-unfoldable pub read_policy : List ℕ → Result Policy PolicyFault
-read_policy bytes = do
-  d ← found_or NotJson (value_of bytes)
+-- the policy of a value, or the first of its faults in this order
+unfoldable pub policy_of : Data → Result Policy PolicyFault
+policy_of d = do
   head ← head_of d
   omissions ← omissions_of None d
   rules ← rules_in (present (codes "rules") d)
   Ok (record { omit = omissions.stages; omit_managed = omissions.managed; rules = rules })
+
+-- the policy of a text
+unfoldable pub read_policy : List ℕ → Result Policy PolicyFault
+read_policy bytes = do
+  d ← found_or NotJson (value_of bytes)
+  policy_of d

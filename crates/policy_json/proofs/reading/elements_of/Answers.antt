@@ -1,9 +1,9 @@
 use Rattle.std.proofs.Common.{◌≡◌, ◌+◌, ◌∷◌, drop, sym, ap, ◌∙◌}
 use Rattle.std.proofs.lemmas.List.{drop_more}
 use Rattle.serde_json.specs.View.{view, items_view}
-use Rattle.policy_rules.specs.Reading.{each_from, element_of}
-use Rattle.policy_rules.proofs.ListLemmas.{with_front, each_more}
-use Rattle.policy_rules.proofs.reading.elements_of.Goals as goal
+use Rattle.policy_json.specs.Reading.{each_from, element_of}
+use Rattle.policy_json.proofs.ListLemmas.{with_front, each_more}
+use Rattle.policy_json.proofs.reading.elements_of.Goals as goal
 
 pub loop-item-preserved : goal.loop-item-preserved
 loop-item-preserved c =

@@ -1,16 +1,25 @@
 // The members of a policy and of a rule, one check each.
-ghost use Rattle.std.specs.Prelude.{◌≡◌, Some, option_map};
+ghost use Rattle.std.specs.Prelude.{◌≡◌, Some, codes, option_map};
+ghost use Rattle.json_value.specs.Members.{present};
 ghost use Rattle.serde_json.specs.View.{view, items_view};
 ghost use Rattle.front_base.specs.Stage.{stage_name};
-ghost use Rattle.policy_rules.specs.Fault.{Gives};
-ghost use Rattle.policy_rules.specs.Reading as spec;
+ghost use Rattle.policy_json.specs.Fault.{Gives};
+ghost use Rattle.policy_json.specs.Reading as spec;
 
 use crate::fault::{PolicyFault, bad_field};
-use crate::omit::{Omissions, Omit};
 use front_base::{Level, Stage, Text, Texts};
 use json_value::{is_text, present, text_in};
+use policy_rules::Omit;
 use serde_json::Value;
 use std::alloc::Global;
+
+// What a policy, or one of its rules, says of omissions.
+#[derive(Clone, Copy)]
+pub struct Omissions {
+    pub stages: Omit,
+    // None where it isn't given.
+    pub managed: Option<bool>,
+}
 
 pub fn text_of(
     alloc: Global,
@@ -103,10 +112,11 @@ fn omit_of(alloc: Global, rule: Option<u32>, items: &Vec<Value>) -> Result<Omit,
     })
 }
 
-fn omit_in(alloc: Global, rule: Option<u32>, found: Option<&Value>) -> Result<Omit, PolicyFault>
-    ensures { Gives (λ o. o) result (spec.omit_in rule (option_map (λ v. view v.now) found.entry)) }
+fn omit_in(alloc: Global, rule: Option<u32>, value: &Value) -> Result<Omit, PolicyFault>
+    ensures { Gives (λ o. o) result
+        (spec.omit_in rule (present (codes "omitStages") (view value.now))) }
 {
-    match found {
+    match present(value, "omitStages") {
         None => Ok(Omit::NOTHING),
         Some(Value::Array(items)) => omit_of(alloc, rule, items),
         Some(_) => Err(bad_field(alloc, rule, "omitStages")),
@@ -114,14 +124,11 @@ fn omit_in(alloc: Global, rule: Option<u32>, found: Option<&Value>) -> Result<Om
 }
 
 // Whether managed fields are left out, where that is given.
-fn managed_in(
-    alloc: Global,
-    rule: Option<u32>,
-    found: Option<&Value>,
-) -> Result<Option<bool>, PolicyFault>
-    ensures { Gives (λ b. b) result (spec.managed_in rule (option_map (λ v. view v.now) found.entry)) }
+fn managed_in(alloc: Global, rule: Option<u32>, value: &Value) -> Result<Option<bool>, PolicyFault>
+    ensures { Gives (λ b. b) result
+        (spec.managed_in rule (present (codes "omitManagedFields") (view value.now))) }
 {
-    match found {
+    match present(value, "omitManagedFields") {
         None => Ok(None),
         Some(Value::Bool(truth)) => Ok(Some(*truth)),
         Some(_) => Err(bad_field(alloc, rule, "omitManagedFields")),
@@ -137,22 +144,22 @@ pub fn omissions_of(
 ) -> Result<Omissions, PolicyFault>
     ensures { Gives (λ o. o) result (spec.omissions_of rule (view value.now)) }
 {
-    let stages = omit_in(alloc, rule, present(value, "omitStages"))?;
-    let managed = managed_in(alloc, rule, present(value, "omitManagedFields"))?;
+    let stages = omit_in(alloc, rule, value)?;
+    let managed = managed_in(alloc, rule, value)?;
     Ok(Omissions { stages, managed })
 }
 
-fn level_in(found: Option<&Value>) -> Option<Level>
-    ensures { result ≡ spec.level_in (option_map (λ v. view v.now) found.entry) }
+fn level_in(value: &Value) -> Option<Level>
+    ensures { result ≡ spec.level_in (present (codes "level") (view value.now)) }
 {
-    Level::of_name(text_in(found)?)
+    Level::of_name(text_in(present(value, "level"))?)
 }
 
 #[tactic(auto, unfolding(crate::specs::Reading::level_of))]
 pub fn level_of(alloc: Global, rule: u32, value: &Value) -> Result<Level, PolicyFault>
     ensures { Gives (λ l. l) result (spec.level_of rule (view value.now)) }
 {
-    match level_in(present(value, "level")) {
+    match level_in(value) {
         Some(level) => Ok(level),
         None => Err(bad_field(alloc, Some(rule), "level")),
     }

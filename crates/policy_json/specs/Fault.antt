@@ -3,8 +3,8 @@ use Rattle.std.specs.Prelude.{Bool, true, false, Option, Result}
 use Rattle.json_value.specs.Results as results
 use Rattle.json_value.specs.declared.fault.ValueError.{ValueError}
 use Rattle.json_value.specs.declared.fault.ValueError.TheVariants as value
-use Rattle.policy_rules.specs.declared.fault.PolicyFault.{PolicyFault}
-use Rattle.policy_rules.specs.declared.fault.PolicyFault.TheVariants.{NotJson, NoRules, BadField, BothKinds, BadUrl, NamesWithoutResources, NoMemory}
+use Rattle.policy_json.specs.declared.fault.PolicyFault.{PolicyFault}
+use Rattle.policy_json.specs.declared.fault.PolicyFault.TheVariants.{NotJson, NoRules, BadField, BothKinds, BadUrl, NamesWithoutResources, NoMemory}
 
 abbrev pub is_memory : PolicyFault → Bool
 is_memory NotJson = false

@@ -1,8 +1,8 @@
 use Rattle.std.proofs.Common.{◌≡◌, drop}
 use Rattle.serde_json.specs.View.{items_view}
-use Rattle.policy_rules.specs.Reading.{each_from, element_of}
-use Rattle.policy_rules.proofs.ListLemmas.{with_front}
-use Rattle.policy_rules.proofs.reading.elements_of.Given as goal
+use Rattle.policy_json.specs.Reading.{each_from, element_of}
+use Rattle.policy_json.proofs.ListLemmas.{with_front}
+use Rattle.policy_json.proofs.reading.elements_of.Given as goal
 
 abbrev pub invariant-loop-item : goal.invariant-loop-item
 invariant-loop-item l =

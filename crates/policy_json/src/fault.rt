@@ -1,6 +1,6 @@
 ghost use Rattle.std.specs.Prelude.{◌≡◌, Some};
-ghost use Rattle.policy_rules.specs.Fault.{Fails, no_value};
-ghost use Rattle.policy_rules.specs.declared.fault.PolicyFault.TheVariants as fault;
+ghost use Rattle.policy_json.specs.Fault.{Fails, no_value};
+ghost use Rattle.policy_json.specs.declared.fault.PolicyFault.TheVariants as fault;
 
 use front_base::{NoMemory as OutOfMemory, Text};
 use json_value::ValueError;

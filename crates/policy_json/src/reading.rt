@@ -1,40 +1,56 @@
 // A rule of a policy.
-ghost use Rattle.std.specs.Prelude.{◌≡◌, not, option_map};
+ghost use Rattle.std.specs.Prelude.{◌≡◌, Some, codes, not};
+ghost use Rattle.json_value.specs.Members.{present};
 ghost use Rattle.serde_json.specs.View.{view, items_view};
-ghost use Rattle.policy_rules.specs.Fault.{Gives};
-ghost use Rattle.policy_rules.specs.Reading as spec;
+ghost use Rattle.policy_json.specs.Fault.{Gives};
+ghost use Rattle.policy_json.specs.Reading as spec;
 
 use crate::fault::{PolicyFault, bad_field};
-use crate::members::{level_of, omissions_of, text_of, texts_in};
-use crate::omit::Omissions;
-use crate::rule::{GroupResources, Resources, Rule};
+use crate::members::{Omissions, level_of, omissions_of, text_of, texts_in};
 use front_base::{Level, Text, Texts};
 use json_value::present;
+use policy_rules::{GroupResources, Resources, Rule};
 use serde_json::Value;
 use std::alloc::Global;
 
 // Absent is the core group, whose name is empty.
-fn group_in(alloc: Global, rule: u32, found: Option<&Value>) -> Result<Text, PolicyFault>
-    ensures { Gives (λ t. t) result (spec.group_in rule (option_map (λ v. view v.now) found.entry)) }
+fn group_in(alloc: Global, rule: u32, element: &Value) -> Result<Text, PolicyFault>
+    ensures { Gives (λ t. t) result (spec.group_in rule (present (codes "group") (view element.now))) }
 {
-    match found {
+    match present(element, "group") {
         None => Ok(Text::new(String::new(alloc))),
         Some(value) => text_of(alloc, Some(rule), "resources", value),
     }
+}
+
+// The list of texts that is the rule's, or the element's, member of that name.
+fn texts_at(alloc: Global, rule: u32, name: &str, value: &Value) -> Result<Texts, PolicyFault>
+    ensures { Gives (λ t. t) result
+        (spec.texts_in (Some rule) name.now (present name.now (view value.now))) }
+{
+    texts_in(alloc, Some(rule), name, present(value, name))
+}
+
+// Its faults are those of `resources`.
+fn names_in(alloc: Global, rule: u32, element: &Value) -> Result<Texts, PolicyFault>
+    ensures { Gives (λ t. t) result
+        (spec.texts_in (Some rule) (codes "resources") (present (codes "resourceNames") (view element.now))) }
+{
+    texts_in(
+        alloc,
+        Some(rule),
+        "resources",
+        present(element, "resourceNames"),
+    )
 }
 
 #[tactic(auto, unfolding(crate::specs::Reading::element_members))]
 fn element_members(alloc: Global, rule: u32, value: &Value) -> Result<GroupResources, PolicyFault>
     ensures { Gives (λ e. e) result (spec.element_members rule (view value.now)) }
 {
-    let group = group_in(alloc, rule, present(value, "group"))?;
-    let resources = texts_in(alloc, Some(rule), "resources", present(value, "resources"))?;
-    let resource_names = texts_in(
-        alloc,
-        Some(rule),
-        "resources",
-        present(value, "resourceNames"),
-    )?;
+    let group = group_in(alloc, rule, value)?;
+    let resources = texts_at(alloc, rule, "resources", value)?;
+    let resource_names = names_in(alloc, rule, value)?;
     Ok(GroupResources {
         group,
         resources,
@@ -63,10 +79,11 @@ fn elements_of(alloc: Global, rule: u32, items: &Vec<Value>) -> Result<Resources
     Ok(Resources::new(elements))
 }
 
-fn elements_in(alloc: Global, rule: u32, found: Option<&Value>) -> Result<Resources, PolicyFault>
-    ensures { Gives (λ r. r) result (spec.elements_in rule (option_map (λ v. view v.now) found.entry)) }
+fn elements_in(alloc: Global, rule: u32, value: &Value) -> Result<Resources, PolicyFault>
+    ensures { Gives (λ r. r) result
+        (spec.elements_in rule (present (codes "resources") (view value.now))) }
 {
-    match found {
+    match present(value, "resources") {
         None => Ok(Resources::new(Vec::new(alloc))),
         Some(Value::Array(items)) => elements_of(alloc, rule, items),
         Some(_) => Err(bad_field(alloc, Some(rule), "resources")),
@@ -139,10 +156,9 @@ struct Targets {
 fn subjects_of(alloc: Global, place: u32, value: &Value) -> Result<Subjects, PolicyFault>
     ensures { Gives (λ s. s) result (spec.subjects_of place (view value.now)) }
 {
-    let rule = Some(place);
-    let users = texts_in(alloc, rule, "users", present(value, "users"))?;
-    let user_groups = texts_in(alloc, rule, "userGroups", present(value, "userGroups"))?;
-    let verbs = texts_in(alloc, rule, "verbs", present(value, "verbs"))?;
+    let users = texts_at(alloc, place, "users", value)?;
+    let user_groups = texts_at(alloc, place, "userGroups", value)?;
+    let verbs = texts_at(alloc, place, "verbs", value)?;
     Ok(Subjects {
         users,
         user_groups,
@@ -154,11 +170,9 @@ fn subjects_of(alloc: Global, place: u32, value: &Value) -> Result<Subjects, Pol
 fn targets_of(alloc: Global, place: u32, value: &Value) -> Result<Targets, PolicyFault>
     ensures { Gives (λ t. t) result (spec.targets_of place (view value.now)) }
 {
-    let rule = Some(place);
-    let resources = elements_in(alloc, place, present(value, "resources"))?;
-    let namespaces = texts_in(alloc, rule, "namespaces", present(value, "namespaces"))?;
-    let urls = present(value, "nonResourceURLs");
-    let non_resource_urls = texts_in(alloc, rule, "nonResourceURLs", urls)?;
+    let resources = elements_in(alloc, place, value)?;
+    let namespaces = texts_at(alloc, place, "namespaces", value)?;
+    let non_resource_urls = texts_at(alloc, place, "nonResourceURLs", value)?;
     Ok(Targets {
         resources,
         namespaces,
