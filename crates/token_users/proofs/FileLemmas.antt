@@ -1,6 +1,6 @@
 -- The records of a file, row by row.
 use Rattle.std.proofs.Common.{◌≡◌, ℕ, zero, suc, ◌+◌, ◌≤◌, ◌∷◌, [], ◌++◌, List, length, Bool, true, false, cond, Option, Some, None, Result, Ok, Err, refl, sym, ap, ◌∙◌, append_assoc, arith}
-use Rattle.std.specs.Prelude.{◌==◌}
+use Rattle.std.specs.Prelude.{◌==◌, if◌then◌else◌}
 use Rattle.csv.specs.Machine.{Read, next_record}
 use Rattle.csv.specs.Reading as csv
 use Rattle.csv.specs.Reading.{default_config, is_bom, records_next, strip_bom}
@@ -9,7 +9,7 @@ use Rattle.csv.specs.declared.parser.State.{State}
 use Rattle.csv.specs.declared.parser.State.TheVariants as st
 use Rattle.json_value.specs.Results.{◌>>=◌, fault_of, Unless}
 use Rattle.token_users.specs.Fault.{is_free, Fails}
-use Rattle.token_users.specs.File.{record_of, records_from, rows_of}
+use Rattle.token_users.specs.File.{record_of, records_from, rows_of, with_record}
 use Rattle.token_users.specs.declared.record.Record.{Record}
 use Rattle.token_users.specs.declared.fault.TokenFault.{TokenFault}
 
@@ -21,19 +21,18 @@ with_records-append : (a b : List Record) (r : Result (List Record) TokenFault) 
 with_records-append a b (Ok rs) = ap Ok (append_assoc a b rs)
 with_records-append a b (Err e) = refl
 
-pub records_more : (done : List Record) (i : ℕ) (row : List (List ℕ)) (rows : List (List (List ℕ))) (r : Record) → record_of i row ≡ Ok r → (length r.token == 0) ≡ false
-    → with_records (done ++ r ∷ []) (records_from (i + 1) rows) ≡ with_records done (records_from i (row ∷ rows))
+-- a record that is read, which may have no token
+pub records_more : (done next : List Record) (i : ℕ) (row : List (List ℕ)) (rows : List (List (List ℕ))) (r : Record) → record_of i row ≡ Ok r → next ≡ done ++ with_record r []
+    → with_records next (records_from (i + 1) rows) ≡ with_records done (records_from i (row ∷ rows))
 unfolding records_from
-records_more done i row rows r is kept = with_records-append done (r ∷ []) (records_from (i + 1) rows) ∙ rw (is, kept) refl
-
-pub records_skip : (done : List Record) (i : ℕ) (row : List (List ℕ)) (rows : List (List (List ℕ))) (r : Record) → record_of i row ≡ Ok r → (length r.token == 0) ≡ true
-    → with_records done (records_from (i + 1) rows) ≡ with_records done (records_from i (row ∷ rows))
-unfolding records_from
-records_skip done i row rows r is empty = rw (is, empty) (same (records_from (i + 1) rows))
+records_more done next i row rows r is added =
+    ap (λ l. with_records l (records_from (i + 1) rows)) added
+    ∙ (with_records-append done (with_record r []) (records_from (i + 1) rows) ∙ rw is (ap (with_records done) (later (length r.token == 0) (records_from (i + 1) rows))))
   where
-    same : (q : Result (List Record) TokenFault) → with_records done q ≡ with_records done (q >>= (λ rs. Ok rs))
-    same (Ok rs) = refl
-    same (Err f) = refl
+    later : (b : Bool) (q : Result (List Record) TokenFault) → (q >>= (λ rs. Ok ((if b then [] else r ∷ []) ++ rs))) ≡ (q >>= (λ rs. Ok (if b then rs else r ∷ rs)))
+    later true (Ok rs) = refl
+    later false (Ok rs) = refl
+    later b (Err e) = refl
 
 records_stop : (done : List Record) (i : ℕ) (row : List (List ℕ)) (rows : List (List (List ℕ))) (f : TokenFault) → record_of i row ≡ Err f → with_records done (records_from i (row ∷ rows)) ≡ Err f
 unfolding records_from

@@ -1,6 +1,7 @@
 mod ActLemmas
 mod CarriedLemmas
 mod FileLemmas
+mod KeptLemmas
 mod PlaceLemmas
 mod RecordLemmas
 mod RowLemmas

@@ -1,10 +1,12 @@
 -- The records of a token file (Kubernetes, "Authenticating": static token file).
-use Rattle.std.specs.Prelude.{ℕ, ◌+◌, ◌==◌, List, [], ◌∷◌, length, Bool, not, Option, Some, None, option_and_then, Result, Ok, Err, nat_lt, filter, map, if◌then◌else◌}
+use Rattle.std.specs.Prelude.{◌≢◌, ℕ, ◌+◌, ◌==◌, List, [], ◌∷◌, length, Bool, not, Option, Some, None, option_and_then, Result, Ok, Err, nat_lt, filter, map, if◌then◌else◌}
 use Rattle.std.specs.Borrow.{Bor}
 use Rattle.std.specs.List.{list_any, slice_split}
 use Rattle.std.specs.Str.{is_utf8}
 use Rattle.csv.specs.Reading.{default_config, records, strip_bom}
 use Rattle.csv.specs.Records.{field_at}
+use Rattle.csv.specs.declared.error.Error.{Error}
+use Rattle.csv.specs.declared.error.ErrorKind.TheVariants as kind
 use Rattle.json_value.specs.Results.{◌>>=◌, faultless, found_or}
 use Rattle.front_base.specs.declared.user.User.{User}
 use Rattle.token_users.specs.Carried.{has_blank_ends, is_plain}
@@ -116,6 +118,10 @@ records_from number (row ∷ rows) = do
 -- the rows of a file, as `csv` reads them without headers and with any number of fields
 abbrev pub rows_of : List ℕ → List (List (List ℕ))
 rows_of bytes = records default_config (strip_bom bytes)
+
+-- the reader failed for want of memory, or of its input
+abbrev pub IsNotOfRow : Error → Type 0
+IsNotOfRow error = ((e : _) → error.kind ≢ kind.Io e) → error.kind ≢ kind.OutOfMemory → ⊥
 
 -- the records of a file in their order, or the first fault
 abbrev pub file_records : List ℕ → Result (List Record) TokenFault

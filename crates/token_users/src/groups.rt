@@ -2,6 +2,7 @@
 ghost use Rattle.std.specs.Prelude.{◌≡◌, IfOk, filter};
 ghost use Rattle.token_users.specs.File as spec;
 
+use crate::user::push_copy;
 use front_base::{NoMemory, Text, Texts};
 use std::alloc::{AllocError, Global};
 
@@ -18,7 +19,7 @@ fn kept_parts(alloc: Global, parts: &[&str]) -> Result<Texts, NoMemory>
     let mut groups = Vec::new(alloc);
     for part in parts {
         if !part.is_empty() {
-            groups.push(Text::copy_of(alloc, part)?)?;
+            push_copy(alloc, &mut groups, part)?;
         }
     }
     Ok(Texts::new(groups))

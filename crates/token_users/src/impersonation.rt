@@ -6,7 +6,7 @@ ghost use Rattle.token_users.specs.Act as spec;
 use crate::acting::Act;
 use crate::asker::Who;
 use crate::carried::is_plain;
-use crate::user::AUTHENTICATED;
+use crate::user::{AUTHENTICATED, push_copy, user_named, with_group};
 use front_base::{NoMemory, Text, Texts, User};
 use http_head::{Head, Header};
 use std::alloc::Global;
@@ -76,7 +76,7 @@ fn names(alloc: Global, name: &str, headers: &[Header]) -> Result<Option<Texts>,
     for header in headers {
         if header.is_named(name) {
             match name_in(header.value.as_slice()) {
-                Some(value) => names.push(Text::copy_of(alloc, value)?)?,
+                Some(value) => push_copy(alloc, &mut names, value)?,
                 None => return Ok(None),
             }
         }
@@ -97,23 +97,14 @@ fn with_authenticated(alloc: Global, groups: Texts) -> Result<Texts, NoMemory>
     if has_group(groups.as_slice(), AUTHENTICATED) {
         return Ok(groups);
     }
-    let mut groups = groups.into_vec();
-    groups.push(Text::copy_of(alloc, AUTHENTICATED)?)?;
-    Ok(Texts::new(groups))
+    with_group(alloc, groups, AUTHENTICATED)
 }
 
 fn user_with(alloc: Global, name: &Text, groups: Texts) -> Result<User, NoMemory>
     ensures { IfOk result (λ user. user ≡ spec.user_with name.now groups) }
 {
     let groups = with_authenticated(alloc, groups)?;
-    match name.copy(alloc) {
-        Ok(name) => Ok(User {
-            name,
-            uid: Text::new(String::new(alloc)),
-            groups,
-        }),
-        Err(NoMemory) => Err(NoMemory),
-    }
+    user_named(alloc, name.as_str(), groups)
 }
 
 fn one_user(alloc: Global, users: &[Text], groups: Texts) -> Result<Option<User>, NoMemory>

@@ -1,15 +1,40 @@
 // A whole token file.
-ghost use Rattle.std.specs.Prelude.{◌≡◌, ◌⊎◌, ◌+◌, ◌<◌, ◌≤◌, ◌^◌, IfOk, IsOk, Err, length, map};
+ghost use Rattle.std.specs.Prelude.{◌≡◌, ◌⊎◌, ◌+◌, ◌<◌, ◌≤◌, ◌^◌, [], ◌∷◌, ◌++◌, IfErr, IfOk, IsOk, OnOk, Err, Ok, length, map};
 ghost use Rattle.csv.specs.Records.{fields_of};
+ghost use Rattle.csv.specs.declared.record.ByteRecord.{ByteRecord};
 ghost use Rattle.token_users.specs.Fault.{Gives};
 ghost use Rattle.token_users.specs.File as spec;
 
 use crate::fault::TokenFault;
 use crate::record::{Record, record_of};
 use crate::tokens::Tokens;
-use csv::{ByteRecord, ErrorKind, ReaderBuilder};
-use front_base::MOST_FILE_BYTES;
+use csv::{ByteRecord, Error, ErrorKind, ReaderBuilder};
+use front_base::{MOST_FILE_BYTES, NoMemory};
 use std::alloc::Global;
+
+// Why a file isn't read to its end.
+fn fault_of(error: Error) -> TokenFault
+    requires { spec.IsNotOfRow error }
+    ensures { (result ≡ TokenFault.NoMemory) ⊎ (result ≡ TokenFault.Input) }
+{
+    match error.into_kind() {
+        ErrorKind::OutOfMemory => TokenFault::NoMemory,
+        ErrorKind::Io(_) => TokenFault::Input,
+        _ => unreachable!(),
+    }
+}
+
+// Adds a row that was read.
+fn add_row(rows: &mut Vec<ByteRecord>, row: Result<ByteRecord, Error>) -> Result<(), TokenFault>
+    requires { IfErr row spec.IsNotOfRow }
+    ensures added { OnOk result ((read : ByteRecord) × (row ≡ Ok read) × (rows.new.items ≡ rows.old.items ++ read ∷ [])) }
+    ensures free { (result ≡ Err TokenFault.NoMemory) ⊎ (result ≡ Err TokenFault.Input) ⊎ IsOk result }
+{
+    match row {
+        Ok(row) => Ok(rows.push(row)?),
+        Err(error) => Err(fault_of(error)),
+    }
+}
 
 // The rows of a file, with any number of fields.
 fn rows_of(alloc: Global, bytes: &[u8]) -> Result<Vec<ByteRecord>, TokenFault>
@@ -22,16 +47,19 @@ fn rows_of(alloc: Global, bytes: &[u8]) -> Result<Vec<ByteRecord>, TokenFault>
         .from_reader(alloc, bytes);
     let mut rows = Vec::new(alloc);
     for row in rdr.into_byte_records() {
-        match row {
-            Ok(row) => rows.push(row)?,
-            Err(error) => match error.into_kind() {
-                ErrorKind::OutOfMemory => return Err(TokenFault::NoMemory),
-                ErrorKind::Io(_) => return Err(TokenFault::Input),
-                _ => unreachable!(),
-            },
-        }
+        add_row(&mut rows, row)?;
     }
     Ok(rows)
+}
+
+// Adds a record, unless it has no token.
+fn add_record(records: &mut Vec<Record>, read: Record) -> Result<(), NoMemory>
+    ensures { OnOk result (records.new.items ≡ records.old.items ++ spec.with_record read []) }
+{
+    if read.token.as_str().is_empty() {
+        return Ok(());
+    }
+    Ok(records.push(read)?)
 }
 
 // The records of rows, without those that have no token.
@@ -41,10 +69,7 @@ fn records_of(alloc: Global, rows: &[ByteRecord]) -> Result<Vec<Record>, TokenFa
 {
     let mut records = Vec::new(alloc);
     for (i, row) in rows.iter().enumerate() {
-        let record = record_of(alloc, i as u32, row)?;
-        if !record.token.as_str().is_empty() {
-            records.push(record)?;
-        }
+        add_record(&mut records, record_of(alloc, i as u32, row)?)?;
     }
     Ok(records)
 }

@@ -28,17 +28,27 @@ impl Model for Tokens {
     ghost invariant = { λ t. HasPlaces t.places t.records.items };
 }
 
+// The place of each token's last record.
+fn places_of(alloc: Global, records: &[Record]) -> Result<BTreeMap<String, usize>, NoMemory>
+    ensures { IfOk result (λ places. spec.HasPlaces places records.now) }
+{
+    let mut places = BTreeMap::new(alloc);
+    for i in 0..records.len() {
+        let token = String::from_str(alloc, records[i].token.as_str())?;
+        places.insert(token, i)?;
+    }
+    Ok(places)
+}
+
 impl Tokens {
     /// The tokens of records, in the order of a file.
     pub fn new(alloc: Global, records: Vec<Record>) -> Result<Tokens, NoMemory>
         ensures { IfOk result (λ tokens. tokens ≡ records.items) }
     {
-        let mut places = BTreeMap::new(alloc);
-        for i in 0..records.len() {
-            let token = String::from_str(alloc, records[i].token.as_str())?;
-            places.insert(token, i)?;
+        match places_of(alloc, records.as_slice()) {
+            Ok(places) => Ok(Tokens { records, places }),
+            Err(NoMemory) => Err(NoMemory),
         }
-        Ok(Tokens { records, places })
     }
 
     /// The records of the file, in its order.

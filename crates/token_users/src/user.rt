@@ -1,5 +1,5 @@
 // The user that a request counts as.
-ghost use Rattle.std.specs.Prelude.{◌≡◌, IfOk};
+ghost use Rattle.std.specs.Prelude.{◌≡◌, [], ◌∷◌, ◌++◌, IfOk, OnOk};
 ghost use Rattle.std.specs.List.{list_any};
 ghost use Rattle.token_users.specs.Who as spec;
 
@@ -31,6 +31,40 @@ fn is_settled(user: &User) -> bool
     user.name.as_str() == ANONYMOUS || has_settled_group(user.groups.as_slice())
 }
 
+// Adds a copy of a text.
+pub fn push_copy(alloc: Global, texts: &mut Vec<Text>, text: &str) -> Result<(), NoMemory>
+    ensures { OnOk result (texts.new.items ≡ texts.old.items ++ text.now ∷ []) }
+{
+    let text = Text::copy_of(alloc, text)?;
+    match texts.push(text) {
+        Ok(()) => Ok(()),
+        Err(_) => Err(NoMemory),
+    }
+}
+
+// One more group.
+pub fn with_group(alloc: Global, groups: Texts, name: &str) -> Result<Texts, NoMemory>
+    ensures { IfOk result (λ more. more ≡ groups ++ name.now ∷ []) }
+{
+    let mut groups = groups.into_vec();
+    push_copy(alloc, &mut groups, name)?;
+    Ok(Texts::new(groups))
+}
+
+// Somebody without an ID.
+pub fn user_named(alloc: Global, name: &str, groups: Texts) -> Result<User, NoMemory>
+    ensures { IfOk result (λ user. (user.name ≡ name.now) × (user.uid ≡ []) × (user.groups ≡ groups)) }
+{
+    match Text::copy_of(alloc, name) {
+        Ok(name) => Ok(User {
+            name,
+            uid: Text::new(String::new(alloc)),
+            groups,
+        }),
+        Err(NoMemory) => Err(NoMemory),
+    }
+}
+
 // A group more for those who are known by a token alone.
 fn known_user(alloc: Global, user: User) -> Result<User, NoMemory>
     ensures { IfOk result (λ known. known ≡ spec.known_user user) }
@@ -39,35 +73,27 @@ fn known_user(alloc: Global, user: User) -> Result<User, NoMemory>
         return Ok(user);
     }
     let User { name, uid, groups } = user;
-    let mut groups = groups.into_vec();
-    groups.push(Text::copy_of(alloc, AUTHENTICATED)?)?;
-    Ok(User {
-        name,
-        uid,
-        groups: Texts::new(groups),
-    })
+    match with_group(alloc, groups, AUTHENTICATED) {
+        Ok(groups) => Ok(User { name, uid, groups }),
+        Err(NoMemory) => Err(NoMemory),
+    }
 }
 
 fn nobody(alloc: Global) -> Result<User, NoMemory>
     ensures { IfOk result (λ user. user ≡ spec.nobody) }
 {
-    let mut groups = Vec::new(alloc);
-    groups.push(Text::copy_of(alloc, UNAUTHENTICATED)?)?;
-    Ok(User {
-        name: Text::copy_of(alloc, ANONYMOUS)?,
-        uid: Text::copy_of(alloc, "")?,
-        groups: Texts::new(groups),
-    })
+    let groups = with_group(alloc, Texts::new(Vec::new(alloc)), UNAUTHENTICATED)?;
+    user_named(alloc, ANONYMOUS, groups)
 }
 
-fn unknown(alloc: Global) -> Result<User, NoMemory>
-    ensures { IfOk result (λ user. user ≡ spec.unknown) }
+fn unknown(alloc: Global) -> User
+    ensures { result ≡ spec.unknown }
 {
-    Ok(User {
-        name: Text::copy_of(alloc, "")?,
-        uid: Text::copy_of(alloc, "")?,
+    User {
+        name: Text::new(String::new(alloc)),
+        uid: Text::new(String::new(alloc)),
         groups: Texts::new(Vec::new(alloc)),
-    })
+    }
 }
 
 impl Who {
@@ -79,7 +105,7 @@ impl Who {
         match self {
             Who::Known(user) => known_user(alloc, user),
             Who::Anonymous => nobody(alloc),
-            Who::BadToken => unknown(alloc),
+            Who::BadToken => Ok(unknown(alloc)),
         }
     }
 }
@@ -91,6 +117,6 @@ pub fn user_of(alloc: Global, who: &Who) -> Result<User, NoMemory>
     match who {
         Who::Known(user) => known_user(alloc, user.copy(alloc)?),
         Who::Anonymous => nobody(alloc),
-        Who::BadToken => unknown(alloc),
+        Who::BadToken => Ok(unknown(alloc)),
     }
 }

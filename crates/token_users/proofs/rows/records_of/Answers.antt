@@ -1,21 +1,20 @@
-use Rattle.std.proofs.Common.{◌≡◌, ◌==◌, ◌+◌, ◌∷◌, drop, map, length, sym, ap, ◌∙◌}
+use Rattle.std.proofs.Common.{◌≡◌, ◌+◌, ◌∷◌, drop, map, sym, ap, ◌∙◌}
 use Rattle.std.proofs.lemmas.List.{append-nil, drop_more, drop_all}
 use Rattle.std.proofs.lemmas.Result.{err_from_is_err_and}
 use Rattle.csv.specs.Records.{fields_of}
 use Rattle.token_users.specs.File.{records_from}
-use Rattle.token_users.proofs.FileLemmas.{with_records, records_more, records_skip, records_end, fault_stops}
+use Rattle.token_users.proofs.FileLemmas.{with_records, records_more, records_end, fault_stops}
 use Rattle.token_users.proofs.rows.records_of.Goals as goal
-use Rattle.token_users.proofs.rows.records_of.Goals.{then-not-is_empty+in_ok-push, else-not-is_empty}
 
-pub returns-in_err-record : goal.returns-in_err-record
-returns-in_err-record c =
+pub returns-in_err-record_of : goal.returns-in_err-record_of
+returns-in_err-record_of c =
     let rows = c.args.rows.now in
     let i = c.loop-i.i in
     let row = c.index-rows-i.result in
     let p = err_from_is_err_and c.from_residual.result c.from_residual.ensures.1 in
     let here : drop i rows ≡ row ∷ drop (i + 1) rows = drop_more rows i row c.loop-i-test.true ∙ ap (λ y. y ∷ drop (i + 1) rows) (sym c.index-rows-i.is) in
     let invariant = ap (λ ys. with_records c.loop-i.records.items (records_from i (map fields_of ys))) (sym here) ∙ c.loop-i.invariant in
-    rw (p.1, p.2) (fault_stops c.loop-i.records.items i (fields_of row) (map fields_of (drop (i + 1) rows)) _ c.in_err-record.field-0.0 c.in_err-record.ensures invariant)
+    rw (p.1, p.2) (fault_stops c.loop-i.records.items i (fields_of row) (map fields_of (drop (i + 1) rows)) _ c.in_err-record_of.field-0.0 c.in_err-record_of.ensures invariant)
 
 pub loop-i-preserved : goal.loop-i-preserved
 loop-i-preserved c =
@@ -23,16 +22,9 @@ loop-i-preserved c =
     let i = c.loop-i.i in
     let row = c.index-rows-i.result in
     let done = c.loop-i.records.items in
-    let r = c.in_ok-record.record in
     let here : drop i rows ≡ row ∷ drop (i + 1) rows = drop_more rows i row c.loop-i-test.true ∙ ap (λ y. y ∷ drop (i + 1) rows) (sym c.index-rows-i.is) in
     let invariant = ap (λ ys. with_records done (records_from i (map fields_of ys))) (sym here) ∙ c.loop-i.invariant in
-    let tested : (length r.token == 0) ≡ c.is_empty.result = sym (c.is_empty.ensures ∙ ap (λ t. length t == 0) c.as_str.ensures) in
-    elim c.if-not-is_empty.branch [
-      | then-not-is_empty+in_ok-push w ↦
-          rw (w.records-is, w.in_ok-push.ensures.items) (records_more done i (fields_of row) (map fields_of (drop (i + 1) rows)) r c.in_ok-record.ensures (tested ∙ w.if-not-is_empty.true) ∙ invariant)
-      | else-not-is_empty w ↦
-          rw w.records-is (records_skip done i (fields_of row) (map fields_of (drop (i + 1) rows)) r c.in_ok-record.ensures (tested ∙ w.if-not-is_empty.false) ∙ invariant)
-    ]
+    records_more done c.add_record.new.records.items i (fields_of row) (map fields_of (drop (i + 1) rows)) c.in_ok-record_of.field-0 c.in_ok-record_of.ensures c.in_ok-add_record.ensures ∙ invariant
 
 pub returns : goal.returns
 returns c =

@@ -1,9 +1,14 @@
-use Rattle.std.proofs.Common.{Bor, List, ℕ, ◌∙◌, sym, refl, inl, inr, map, Some, ◌∷◌, []}
+use Rattle.std.proofs.Common.{◌≡◌, Bor, List, ℕ, ◌∙◌, sym, refl, inl, inr, map, true, Option, Some, Result, Ok, Err, ◌∷◌, []}
+use Rattle.std.specs.Prelude.{IfErr}
 use Rattle.std.proofs.lemmas.List.{map-append}
-use Rattle.csv.specs.Reading.{Reached, default_config, strip_bom}
+use Rattle.csv.specs.Reading.{Reached, RowStep, default_config, strip_bom}
 use Rattle.csv.specs.Records.{fields_of}
+use Rattle.csv.specs.declared.error.Error.{Error}
 use Rattle.csv.specs.declared.parser.State.TheVariants as st
+use Rattle.csv.specs.declared.reader.Reader.{Reader}
+use Rattle.csv.specs.declared.record.ByteRecord.{ByteRecord}
 use Rattle.csv.proofs.ReadFacts.{rows-end, rows-more}
+use Rattle.token_users.specs.File.{IsNotOfRow}
 use Rattle.token_users.proofs.RowLemmas.{records_are, fails_for_memory}
 use Rattle.token_users.proofs.rows.rows_of.Goals as goal
 
@@ -28,16 +33,17 @@ pub loop-row-preserved : goal.loop-row-preserved
 loop-row-preserved c =
     let inv = c.loop-row.invariant in
     let all = c.next.ensures.steps inv.turns inv.plain in
-    let s = rw (c.in-Some.is, c.in-Ok.is) at (all.0 inv.ready) in
-    let keeps = rw (c.in-Some.is, c.in-Ok.is) at all.3 in
-    let m = rows-more (λ (s : Bor (List ℕ)). Some s.now) c.loop-row.row-iterator.rdr c.next.new.self.rdr (fields_of c.in-Ok.row) default_config st.StartRecord (strip_bom c.args.bytes.now) inv.left.0 (map fields_of c.loop-row.rows.items) inv.config inv.left.1 inv.left.2 s.0 in
+    let added = c.in_ok-add_row.ensures.added in
+    let s = rw (c.in-Some.is, added.1) at (all.0 inv.ready) in
+    let keeps = rw (c.in-Some.is, added.1) at all.3 in
+    let m = rows-more (λ (s : Bor (List ℕ)). Some s.now) c.loop-row.row-iterator.rdr c.next.new.self.rdr (fields_of added.0) default_config st.StartRecord (strip_bom c.args.bytes.now) inv.left.0 (map fields_of c.loop-row.rows.items) inv.config inv.left.1 inv.left.2 s.0 in
     record {
       plain = s.0.3 ∙ inv.plain;
       flexible = keeps ∙ inv.flexible;
       ready = inl s.1;
       turns = s.2;
       config = s.0.2 ∙ inv.config;
-      left = (m.0, m.1, rw (c.in_ok-push-in-Ok.ensures.items, map-append fields_of c.loop-row.rows.items (c.in-Ok.row ∷ [])) m.2);
+      left = (m.0, m.1, rw (added.2, map-append fields_of c.loop-row.rows.items (added.0 ∷ [])) m.2);
     }
 
 pub returns-clause-rows : goal.returns-clause-rows
@@ -47,9 +53,12 @@ returns-clause-rows c =
     let end = rows-end (λ (s : Bor (List ℕ)). Some s.now) c.loop-row.row-iterator.rdr c.next.new.self.rdr [] default_config inv.left.0 inv.config inv.left.1 s in
     sym (records_are default_config (strip_bom c.args.bytes.now) (map fields_of c.loop-row.rows.items) (c.loop-row.row-iterator.rdr.state, inv.left.0, inv.left.2, end))
 
-pub unreachable-requires : goal.unreachable-requires
-unreachable-requires c =
+not_of_row : {R : Type 0} (rem : R → Option (List ℕ)) (a b : Reader R) (left : ℕ) (row : Result ByteRecord Error) → RowStep rem a b left (Some row) → a.flexible ≡ true → IfErr row IsNotOfRow
+not_of_row rem a b left (Ok read) h flexible = tt
+not_of_row rem a b left (Err error) h flexible = λ io memory. fails_for_memory rem a b error.kind h flexible io memory
+
+pub add_row-requires : goal.add_row-requires
+add_row-requires c =
     let inv = c.loop-row.invariant in
-    let s = rw (c.in-Some.is, c.in-Err.is) at ((c.next.ensures.steps inv.turns inv.plain).0 inv.ready) in
-    fails_for_memory (λ (s : Bor (List ℕ)). Some s.now) c.loop-row.row-iterator.rdr c.next.new.self.rdr c.in-Err.error.kind s inv.flexible
-    (λ e is. c.in_default.not-Io e (c.into_kind.ensures ∙ is)) (λ is. c.in_default.not-OutOfMemory (c.into_kind.ensures ∙ is))
+    let s = rw c.in-Some.is at ((c.next.ensures.steps inv.turns inv.plain).0 inv.ready) in
+    not_of_row (λ (s : Bor (List ℕ)). Some s.now) c.loop-row.row-iterator.rdr c.next.new.self.rdr _ c.in-Some.row s inv.flexible
