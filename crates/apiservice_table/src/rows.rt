@@ -138,7 +138,7 @@ pub fn change_rows(rows: &mut Vec<Row>, change: Change) -> Result<(), NoMemory>
         Change::Create(row) => put(rows, row),
         Change::Replace(row) => put(rows, row),
         Change::Delete(name) => {
-            take_out(rows, name.as_str());
+            drop(take_out(rows, name.as_str()));
             Ok(())
         }
     }

@@ -150,6 +150,7 @@ impl RouteTable {
     {
         tells_names(&change);
         if let Some(fault) = refusal_of(self.rows.as_slice(), &change) {
+            drop(change);
             return Err(fault);
         }
         // The documents come first, so that nothing has changed where memory runs out.

@@ -65,6 +65,7 @@ fn keep_change(
 {
     let len = seen.len();
     if note(alloc, seen, &change).is_err() {
+        drop(change);
         return Err(ChangeFault::NoMemory);
     }
     match table.apply(alloc, change) {
@@ -82,7 +83,10 @@ impl TableRoutes {
         ensures opening { IfOk result (λ routes. routes.opening ≡ table.rows) }
         ensures seen { IfOk result (λ routes. routes.seen ≡ []) }
     {
-        let opening = copy_rows(alloc, table.rows())?;
+        let Ok(opening) = copy_rows(alloc, table.rows()) else {
+            drop(table);
+            return Err(NoMemory);
+        };
         Ok(TableRoutes {
             opening,
             seen: Vec::new(alloc),

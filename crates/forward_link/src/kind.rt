@@ -12,7 +12,7 @@ pub const MOST_INTERIM: usize = 8;
 pub const MOST_WHOLE_BYTES: u64 = 4194304;
 
 // What a head of a reply is to its reader.
-#[derive(Clone, Copy, Debug, PartialEq, Eq)]
+#[derive(Clone, Copy)]
 pub enum HeadKind {
     // Another head follows (RFC 9110, section 15.2).
     Interim,

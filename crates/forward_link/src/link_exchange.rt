@@ -11,7 +11,6 @@ use http_head::ReplyHead;
 use std::alloc::Global;
 
 /// What came of an exchange.
-#[derive(Debug)]
 pub enum LinkAnswer<K> {
     /// A whole reply, which nobody has seen a byte of yet.
     Whole {

@@ -15,14 +15,14 @@ use wire_intake::{BlockStop, Intake, ReadStop, next_block};
 const MOST_BODY_READ_BYTES: usize = 65536;
 
 // Why no reply came.
-#[derive(Clone, Copy, Debug, PartialEq, Eq)]
+#[derive(Clone, Copy)]
 pub enum ReplyStop {
     BadReply,
     Input(ReadStop),
 }
 
 // A final head, and the frame of the body that follows it.
-#[derive(Debug, Drop)]
+#[derive(Drop)]
 pub struct FinalHead {
     pub head: ReplyHead,
     pub frame: Frame,

@@ -1,5 +1,5 @@
 // What is said over a link: the request, and the reply or its head.
-ghost use Rattle.std.specs.Prelude.{◌≡◌, ◌≤◌, ◌<◌, ◌+◌, ◌++◌, true, IfOk, OnOk, OnErr};
+ghost use Rattle.std.specs.Prelude.{◌≡◌, ◌≤◌, ◌<◌, ◌+◌, ◌++◌, [], true, IfOk, OnOk, OnErr};
 ghost use Rattle.std.specs.Io.KnownBytes.{Appends};
 ghost use Rattle.front_ports.specs.Cause.{Rose};
 ghost use Rattle.front_ports.specs.Written.{AppendsFront};
@@ -15,7 +15,7 @@ use std::alloc::Global;
 use wire_intake::{Intake, ReadStop};
 
 // What comes of a link that was opened.
-#[derive(Debug, Drop)]
+#[derive(Drop)]
 pub enum Talk {
     Whole {
         head: ReplyHead,
@@ -67,6 +67,47 @@ fn held_bytes(alloc: Global, intake: &Intake) -> Result<Bytes, NoMemory>
     Ok(Bytes::new(intake.as_slice().to_vec(alloc)?))
 }
 
+// Reads the reply, or its head where it is streamed, into an intake that holds nothing yet.
+fn read_into<K: Source>(
+    alloc: Global,
+    link: &mut K,
+    intake: &mut Intake,
+    is_head: bool,
+    streamed: bool,
+) -> Result<Talk, NoMemory>
+    requires { intake.old ≡ [] }
+    ensures ok { IfOk result (λ talk.
+        spec.ReadsBy is_head streamed (K.left link.old) (K.left link.new)
+        (Rose (K.read_faults link.old) (K.read_faults link.new)) (spec.said_by (K.left link.new) talk)) }
+    ensures status { IfOk result spec.TalksFinal }
+    ensures calm { IfOk result (λ talk.
+        spec.is_reply talk ≡ true → K.read_faults link.new ≡ K.read_faults link.old) }
+    ensures aside { K.outward link.new ≡ K.outward link.old }
+{
+    let found = match final_head(alloc, link, intake, is_head) {
+        Ok(found) => found,
+        Err(stop) => return stopped(stop),
+    };
+    let size = match whole_size(streamed, found.frame) {
+        Some(size) => size,
+        None => {
+            let rest = held_bytes(alloc, intake)?;
+            return Ok(Talk::Streamed {
+                head: found.head,
+                frame: found.frame,
+                rest,
+            });
+        }
+    };
+    match whole_body(alloc, link, intake.as_slice(), size) {
+        Ok(body) => Ok(Talk::Whole {
+            head: found.head,
+            body: Bytes::new(body),
+        }),
+        Err(stop) => stopped(ReplyStop::Input(stop)),
+    }
+}
+
 // Reads the reply, or its head where it is streamed.
 fn read_reply<K: Source>(
     alloc: Global,
@@ -83,28 +124,7 @@ fn read_reply<K: Source>(
     ensures aside { K.outward link.new ≡ K.outward link.old }
 {
     let mut intake = Intake::new(alloc)?;
-    let found = match final_head(alloc, link, &mut intake, is_head) {
-        Ok(found) => found,
-        Err(stop) => return stopped(stop),
-    };
-    let size = match whole_size(streamed, found.frame) {
-        Some(size) => size,
-        None => {
-            let rest = held_bytes(alloc, &intake)?;
-            return Ok(Talk::Streamed {
-                head: found.head,
-                frame: found.frame,
-                rest,
-            });
-        }
-    };
-    match whole_body(alloc, link, intake.as_slice(), size) {
-        Ok(body) => Ok(Talk::Whole {
-            head: found.head,
-            body: Bytes::new(body),
-        }),
-        Err(stop) => stopped(ReplyStop::Input(stop)),
-    }
+    read_into(alloc, link, &mut intake, is_head, streamed)
 }
 
 // Sends the request and reads the reply, or its head where it is streamed.

@@ -75,8 +75,14 @@ fn replace(alloc: Global, name: &str, body: &[u8], user: &User) -> Result<LocalE
         return Ok(LocalErrand::Deny(403));
     }
     match row_in(alloc, body)? {
-        Some(row) if row.name.as_str() == name => Ok(LocalErrand::Write(Change::Replace(row))),
-        _ => Ok(LocalErrand::Deny(422)),
+        Some(row) => {
+            if row.name.as_str() == name {
+                return Ok(LocalErrand::Write(Change::Replace(row)));
+            }
+            drop(row);
+            Ok(LocalErrand::Deny(422))
+        }
+        None => Ok(LocalErrand::Deny(422)),
     }
 }
 

@@ -1,5 +1,5 @@
 // The local paths, found by a router.
-ghost use Rattle.std.specs.Prelude.{◌≡◌, IfOk, OnOk};
+ghost use Rattle.std.specs.Prelude.{◌≡◌, [], IfOk, OnOk};
 ghost use Rattle.local_replies.specs.Kind.{found_at};
 ghost use Rattle.local_replies.specs.Paths.{first_of, local_of, table};
 ghost use Rattle.local_replies.specs.Router.{rows_with, IsFree, IsLocalRouter};
@@ -23,36 +23,45 @@ fn add(router: &mut Router<Kind>, route: &str, kind: Kind) -> Result<(), NoMemor
     }
 }
 
-fn router(alloc: Global) -> Result<Router<Kind>, NoMemory>
-    ensures { IfOk result IsLocalRouter }
+fn fill(router: &mut Router<Kind>) -> Result<(), NoMemory>
+    requires { router.old ≡ [] }
+    ensures { OnOk result (IsLocalRouter router.new) }
 {
-    let mut router = Router::new(alloc);
-    add(&mut router, "healthz", Kind::Health)?;
-    add(&mut router, "livez", Kind::Health)?;
-    add(&mut router, "readyz", Kind::Health)?;
-    add(&mut router, "apis", Kind::GroupList)?;
-    add(&mut router, "apis/{group}", Kind::OneGroup)?;
+    add(router, "healthz", Kind::Health)?;
+    add(router, "livez", Kind::Health)?;
+    add(router, "readyz", Kind::Health)?;
+    add(router, "apis", Kind::GroupList)?;
+    add(router, "apis/{group}", Kind::OneGroup)?;
+    add(router, "apis/apiregistration.k8s.io/v1", Kind::ResourceList)?;
     add(
-        &mut router,
-        "apis/apiregistration.k8s.io/v1",
-        Kind::ResourceList,
-    )?;
-    add(
-        &mut router,
+        router,
         "apis/apiregistration.k8s.io/v1/apiservices",
         Kind::AllServices,
     )?;
     add(
-        &mut router,
+        router,
         "apis/apiregistration.k8s.io/v1/apiservices/{name}",
         Kind::OneService,
     )?;
     add(
-        &mut router,
+        router,
         "apis/apiregistration.k8s.io/v1/{*rest}",
         Kind::Unserved,
     )?;
-    Ok(router)
+    Ok(())
+}
+
+fn router(alloc: Global) -> Result<Router<Kind>, NoMemory>
+    ensures { IfOk result IsLocalRouter }
+{
+    let mut router = Router::new(alloc);
+    match fill(&mut router) {
+        Ok(()) => Ok(router),
+        Err(fault) => {
+            drop(router);
+            Err(fault)
+        }
+    }
 }
 
 /// The paths that this server answers itself.

@@ -49,7 +49,13 @@ fn reply_and_copy(alloc: Global, change: &Change) -> Result<(LocalReply, Change)
     ensures { IfOk result (λ both. (both.0 ≡ spec.done change.now) × (both.1 ≡ change.now)) }
 {
     let reply = done(alloc, change)?;
-    Ok((reply, change.copy(alloc)?))
+    match change.copy(alloc) {
+        Ok(copy) => Ok((reply, copy)),
+        Err(fault) => {
+            drop(reply);
+            Err(fault)
+        }
+    }
 }
 
 fn prepare(alloc: Global, change: Change) -> Result<Prepared, NoMemory>
@@ -61,7 +67,10 @@ fn prepare(alloc: Global, change: Change) -> Result<Prepared, NoMemory>
             made,
             change,
         }),
-        Err(_) => Err(NoMemory),
+        Err(fault) => {
+            drop(change);
+            Err(fault)
+        }
     }
 }
 
@@ -69,12 +78,14 @@ fn prepare(alloc: Global, change: Change) -> Result<Prepared, NoMemory>
 fn instead(
     alloc: Global,
     fault: ChangeFault,
-    _: LocalReply,
-    _: Change,
+    reply: LocalReply,
+    made: Change,
 ) -> Result<LocalReply, NoMemory>
     ensures reply { IfOk result (λ reply. reply ≡ spec.refused fault) }
     ensures due { IfOk result (λ _. (due : Option ChangeFault) → IsDue fault due → due ≡ Some fault) }
 {
+    drop(reply);
+    drop(made);
     refused(alloc, fault)
 }
 

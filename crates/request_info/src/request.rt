@@ -1,4 +1,4 @@
-ghost use Rattle.std.specs.Prelude.{◌≡◌, ◌<◌, IfOk, length};
+ghost use Rattle.std.specs.Prelude.{◌≡◌, ◌<◌, [], IfOk, length};
 ghost use Rattle.request_info.specs.Parts.{texts_of, parts_of};
 ghost use Rattle.request_info.specs.Resource.{api_view, named_view, api_of};
 ghost use Rattle.request_info.specs.Request as spec;
@@ -17,6 +17,13 @@ fn text(alloc: Global, text: &str) -> Result<Text, NoMemory>
     Ok(Text::new(String::from_str(alloc, text)?))
 }
 
+// It takes no memory.
+fn empty(alloc: Global) -> Text
+    ensures { result ≡ [] }
+{
+    Text::new(String::new(alloc))
+}
+
 // A request that is for no resource.
 fn other_info(alloc: Global, method: &str, path: &str) -> Result<Info, NoMemory>
     ensures { IfOk result (λ info. info ≡ spec.other_info method.now path.now) }
@@ -25,13 +32,41 @@ fn other_info(alloc: Global, method: &str, path: &str) -> Result<Info, NoMemory>
         resource_request: false,
         path: text(alloc, path)?,
         verb: Text::new(method.to_ascii_lowercase(alloc)?),
-        group: text(alloc, "")?,
-        version: text(alloc, "")?,
-        namespace: text(alloc, "")?,
-        resource: text(alloc, "")?,
-        subresource: text(alloc, "")?,
-        name: text(alloc, "")?,
+        group: empty(alloc),
+        version: empty(alloc),
+        namespace: empty(alloc),
+        resource: empty(alloc),
+        subresource: empty(alloc),
+        name: empty(alloc),
     })
+}
+
+fn two(alloc: Global, first: &str, second: &str) -> Result<(Text, Text), NoMemory>
+    ensures { IfOk result (λ texts. (texts.0 ≡ first.now) × (texts.1 ≡ second.now)) }
+{
+    let first = text(alloc, first)?;
+    let Ok(second) = text(alloc, second) else {
+        drop(first);
+        return Err(NoMemory);
+    };
+    Ok((first, second))
+}
+
+fn three(
+    alloc: Global,
+    first: &str,
+    second: &str,
+    third: &str,
+) -> Result<(Text, Text, Text), NoMemory>
+    ensures { IfOk result (λ texts. (texts.0 ≡ first.now) × (texts.1 ≡ second.now) × (texts.2 ≡ third.now)) }
+{
+    let (first, second) = two(alloc, first, second)?;
+    let Ok(third) = text(alloc, third) else {
+        drop(first);
+        drop(second);
+        return Err(NoMemory);
+    };
+    Ok((first, second, third))
 }
 
 // A request for a resource.
@@ -57,16 +92,33 @@ fn resource_info(
     } else {
         named.subresource
     };
+    let (path, verb, name) = three(alloc, path, told, named.name)?;
+    let Ok((group, version, namespace)) = three(alloc, api.group, api.version, named.namespace)
+    else {
+        drop(path);
+        drop(verb);
+        drop(name);
+        return Err(NoMemory);
+    };
+    let Ok((resource, subresource)) = two(alloc, named.resource, subresource) else {
+        drop(path);
+        drop(verb);
+        drop(name);
+        drop(group);
+        drop(version);
+        drop(namespace);
+        return Err(NoMemory);
+    };
     Ok(Info {
         resource_request: true,
-        path: text(alloc, path)?,
-        verb: text(alloc, told)?,
-        group: text(alloc, api.group)?,
-        version: text(alloc, api.version)?,
-        namespace: text(alloc, named.namespace)?,
-        resource: text(alloc, named.resource)?,
-        subresource: text(alloc, subresource)?,
-        name: text(alloc, named.name)?,
+        path,
+        verb,
+        group,
+        version,
+        namespace,
+        resource,
+        subresource,
+        name,
     })
 }
 

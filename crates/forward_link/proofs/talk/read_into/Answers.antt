@@ -3,7 +3,7 @@ use Rattle.std.proofs.lemmas.Result.{IfOk-weaker}
 use Rattle.forward_link.specs.declared.reply.ReplyStop.TheVariants as reply_stop
 use Rattle.forward_link.proofs.TalkLemmas.{came_stream, came_whole, body_stops, head_stops, stops_status, stops_reply, final_status}
 use Rattle.forward_link.proofs.ReadingLemmas.{rose_same}
-use Rattle.forward_link.proofs.talk.read_reply.Goals as goal
+use Rattle.forward_link.proofs.talk.read_into.Goals as goal
 
 pub returns-in-Err-clause-ok : goal.returns-in-Err-clause-ok
 returns-in-Err-clause-ok g c =
@@ -25,7 +25,7 @@ returns-in-None-clause-status g c = final_status c.args.is_head c.in-Ok.found.he
 pub returns-in-Ok-whole_body-clause-ok : goal.returns-in-Ok-whole_body-clause-ok
 returns-in-Ok-whole_body-clause-ok g c =
     came_whole c.args.is_head c.args.streamed _ _ _ c.final_head.new.intake c.as_slice.result.now c.in-Ok.found c.in-Some.size c.in-Ok.ensures.ok
-    (sym c.whole_size.ensures ∙ c.in-Some.is) c.as_slice.ensures.value _ _ c.new-in-Ok-whole_body.ensures c.in-Ok-whole_body.ensures.ok
+    (sym c.whole_size.ensures ∙ c.in-Some.is) c.as_slice.ensures.value _ _ c.new.ensures c.in-Ok-whole_body.ensures.ok
 
 pub returns-in-Ok-whole_body-clause-status : goal.returns-in-Ok-whole_body-clause-status
 returns-in-Ok-whole_body-clause-status g c = final_status c.args.is_head c.in-Ok.found.head c.in-Ok.found.frame c.in-Ok.ensures.ok.kind
@@ -33,17 +33,17 @@ returns-in-Ok-whole_body-clause-status g c = final_status c.args.is_head c.in-Ok
 pub returns-in-Ok-whole_body-clause-calm : goal.returns-in-Ok-whole_body-clause-calm
 returns-in-Ok-whole_body-clause-calm g c = λ e. c.in-Ok-whole_body.ensures.calm ∙ c.in-Ok.ensures.calm
 
-pub returns-clause-ok : goal.returns-clause-ok
-returns-clause-ok g c =
+pub returns-in-Err-whole_body-clause-ok : goal.returns-in-Err-whole_body-clause-ok
+returns-in-Err-whole_body-clause-ok g c =
     IfOk-weaker c.stopped-in-Err-whole_body.result _ _
     (λ t z. body_stops c.args.is_head c.args.streamed _ _ _ c.final_head.new.intake c.as_slice.result.now c.in-Ok.found c.in-Some.size c.in-Ok.ensures.ok
     (sym c.whole_size.ensures ∙ c.in-Some.is) c.as_slice.ensures.value _ _ c.in-Err-whole_body.stop t (rose_same _ _ _ c.in-Ok.ensures.calm) c.in-Err-whole_body.ensures.err z)
     c.stopped-in-Err-whole_body.ensures.ok
 
-pub returns-clause-status : goal.returns-clause-status
-returns-clause-status g c =
+pub returns-in-Err-whole_body-clause-status : goal.returns-in-Err-whole_body-clause-status
+returns-in-Err-whole_body-clause-status g c =
     IfOk-weaker c.stopped-in-Err-whole_body.result _ _ (λ t z. stops_status (reply_stop.Input c.in-Err-whole_body.stop) t z) c.stopped-in-Err-whole_body.ensures.ok
 
-pub returns-clause-calm : goal.returns-clause-calm
-returns-clause-calm g c =
+pub returns-in-Err-whole_body-clause-calm : goal.returns-in-Err-whole_body-clause-calm
+returns-in-Err-whole_body-clause-calm g c =
     IfOk-weaker c.stopped-in-Err-whole_body.result _ _ (λ t z. stops_reply _ (reply_stop.Input c.in-Err-whole_body.stop) t z) c.stopped-in-Err-whole_body.ensures.ok
