@@ -1,5 +1,5 @@
 -- As whom a request is served, and whom its events show.
-use Rattle.std.proofs.Common.{◌≡◌, ◌≢◌, ℕ, List, [], ◌∷◌, map, Option, Some, None, codes, refl, sym, ap, ◌∙◌}
+use Rattle.std.proofs.Common.{◌≡◌, ◌≢◌, List, [], ◌∷◌, map, Some, codes, sym, ◌∙◌}
 use Rattle.std.specs.List.{AllByRecursion as All}
 use Rattle.std.specs.Prelude.{Contains}
 use Rattle.front_base.specs.declared.level.Level.{Level}
@@ -17,15 +17,9 @@ use Rattle.token_users.specs.Who.{user_of}
 use Rattle.token_users.specs.declared.acting.Act.{Act}
 use Rattle.token_users.specs.declared.acting.Act.TheVariants.{Own, As, Unserved, Bad, Forbidden}
 use Rattle.token_users.specs.declared.asker.Who.{Who}
-use Rattle.audit_core.specs.Answer.{status_of, body_of}
 use Rattle.audit_core.specs.Errand.{asker, user_in, act_in, other_of, acting_in, effective_in}
-use Rattle.audit_core.specs.Exchange.{IsAnswered}
-use Rattle.audit_core.specs.Owed.{owed, owed_at, events_at, stages_due}
-use Rattle.audit_core.specs.declared.answered.Answered.{Answered}
-use Rattle.audit_core.specs.declared.link_note.LinkNote.{LinkNote}
-use Rattle.audit_core.specs.declared.routed.Handling.{Handling}
+use Rattle.audit_core.specs.Owed.{owed_at, stages_due}
 use Rattle.audit_core.specs.declared.settings.Settings.{Settings}
-use Rattle.audit_core.specs.declared.stamp.Stamp.{Stamp}
 use Rattle.audit_core.proofs.JudgedLemmas.{effective_is}
 
 pub effective_acts : (set : Settings) (r : Request) → effective_in set r ≡ acting (asker set r) r.head

@@ -51,6 +51,11 @@ pub fn path_errand(
     let Some(local) = paths.local(alloc, path)? else {
         return route_errand(alloc, path);
     };
-    let errand = local_errand(alloc, &local, info, method, body, user)?;
-    Ok(Errand::Serve(local, errand))
+    match local_errand(alloc, &local, info, method, body, user) {
+        Ok(errand) => Ok(Errand::Serve(local, errand)),
+        Err(_) => {
+            drop(local);
+            Err(NoMemory)
+        }
+    }
 }

@@ -106,7 +106,10 @@ pub fn first_facts(
             started: stamp.started,
             complete: stamp.complete,
         }),
-        Err(_) => Err(NoMemory),
+        Err(_) => {
+            drop(attributes);
+            Err(NoMemory)
+        }
     }
 }
 
@@ -134,6 +137,9 @@ pub fn facts_of(
             facts.reply = reply;
             Ok(facts)
         }
-        Err(_) => Err(NoMemory),
+        Err(_) => {
+            drop(facts);
+            Err(NoMemory)
+        }
     }
 }

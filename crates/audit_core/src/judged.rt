@@ -46,8 +46,13 @@ fn ask(alloc: Global, request: &Request) -> Result<Asked, NoMemory>
     let target = request.head.target.as_str();
     match info(alloc, method, target) {
         Ok(info) => {
-            let refused = is_unread(alloc, info.path.as_str(), target)?;
-            Ok(Asked { info, refused })
+            match is_unread(alloc, info.path.as_str(), target) {
+                Ok(refused) => Ok(Asked { info, refused }),
+                Err(_) => {
+                    drop(info);
+                    Err(NoMemory)
+                }
+            }
         }
         Err(InfoFault::BadTarget) => refused(alloc, method, target),
         Err(InfoFault::NoKind) => refused(alloc, method, target),
@@ -112,11 +117,17 @@ fn caller_of(alloc: Global, settings: &Settings, request: &Request) -> Result<Ca
         × (it.user ≡ spec.user_in settings.now request.now) × (it.act ≡ spec.act_in settings.now request.now)) }
 {
     let who = who(alloc, &settings.tokens, &request.head)?;
-    let act = act(alloc, &who, &request.head)?;
+    let Ok(act) = act(alloc, &who, &request.head) else {
+        drop(who);
+        return Err(NoMemory);
+    };
     let unknown = is_unknown(&who);
     match who.into_user(alloc) {
         Ok(user) => Ok(Caller { unknown, user, act }),
-        Err(_) => Err(NoMemory),
+        Err(_) => {
+            drop(act);
+            Err(NoMemory)
+        }
     }
 }
 
@@ -171,7 +182,10 @@ pub fn judge(
     ensures { IfOk result (IsJudged settings.now request.now) }
 {
     let asked = ask(alloc, request)?;
-    let caller = caller_of(alloc, settings, request)?;
+    let Ok(caller) = caller_of(alloc, settings, request) else {
+        drop(asked);
+        return Err(NoMemory);
+    };
     let decision = decide(&settings.policy, &caller.user, &asked.info);
     match errand_of(alloc, paths, request, &asked, &caller) {
         Ok(errand) => Ok(Judged {
@@ -183,6 +197,10 @@ pub fn judge(
             errand,
             decision,
         }),
-        Err(_) => Err(NoMemory),
+        Err(_) => {
+            drop(asked);
+            drop(caller);
+            Err(NoMemory)
+        }
     }
 }

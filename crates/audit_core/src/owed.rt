@@ -1,6 +1,7 @@
 // The audit lines that an exchange owes.
-ghost use Rattle.std.specs.Prelude.{◌≡◌, ◌≢◌, ◌++◌, OnErr, OnOk};
+ghost use Rattle.std.specs.Prelude.{◌≡◌, ◌≢◌, ◌++◌, OnErr, OnOk, nat_le, length, if◌then◌else◌};
 ghost use Rattle.truncate_backend.specs.Fits.{fitted, fitted_stripped};
+ghost use Rattle.truncate_backend.specs.declared.fitted.Fit.TheVariants.{Stripped, TooLarge};
 ghost use Rattle.audit_core.specs.Owed as spec;
 
 use crate::answered::Answered;
@@ -31,6 +32,21 @@ pub fn omits(omit: Omit, stage: Stage) -> bool
     }
 }
 
+// Adds a line and its end, if it fits.
+fn push_if_fits(line: &[u8], form: LineForm, out: &mut Vec<u8>) -> Result<(), NoMemory>
+    ensures ok { OnOk result (out.new.items
+        ≡ out.old.items ++ spec.ended form.end (spec.lines_in
+        (if nat_le (length line.now) form.most then Stripped line.now else TooLarge (length line.now)))) }
+    ensures err { OnErr result (spec.Extends out.old.items out.new.items) }
+{
+    if line.len() as u64 > form.most {
+        return Ok(());
+    }
+    out.extend_from_slice(line)?;
+    out.push(form.end)?;
+    Ok(())
+}
+
 // Adds the line of the event without its objects, if it fits.
 fn push_stripped(
     alloc: Global,
@@ -43,12 +59,7 @@ fn push_stripped(
     ensures err { OnErr result (spec.Extends out.old.items out.new.items) }
 {
     let line = stripped_line(alloc, event)?;
-    if line.as_slice().len() as u64 > form.most {
-        return Ok(());
-    }
-    out.extend_from_slice(line.as_slice())?;
-    out.push(form.end)?;
-    Ok(())
+    push_if_fits(line.as_slice(), form, out)
 }
 
 // Adds the line of an event as it fits. An event whose objects alone are too long isn't written with them first.
@@ -93,7 +104,9 @@ fn push_stage(
         return Ok(());
     }
     let event = event_at(alloc, stage, level, &answered.facts)?;
-    push_fitted(alloc, &event, form, out)
+    let pushed = push_fitted(alloc, &event, form, out);
+    drop(event);
+    pushed
 }
 
 // Adds the line of the reply's start, where the request is long-running.

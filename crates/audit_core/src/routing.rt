@@ -90,8 +90,13 @@ fn route_api<R: Routes>(
     ensures fixed { R.opening routes.new ≡ R.opening routes.old }
 {
     let row = routes.find(alloc, group.as_str(), version.as_str())?;
-    let handling = api_of(alloc, endpoints, &row)?;
-    Ok(Routed { row, handling })
+    match api_of(alloc, endpoints, &row) {
+        Ok(handling) => Ok(Routed { row, handling }),
+        Err(_) => {
+            drop(row);
+            Err(NoMemory)
+        }
+    }
 }
 
 fn route_local<R: Routes>(
@@ -106,15 +111,20 @@ fn route_local<R: Routes>(
     ensures later { IsLater (R.seen routes.old) (R.seen routes.new) }
     ensures fixed { R.opening routes.new ≡ R.opening routes.old }
 {
-    let (reply, change) = serve_errand(alloc, &local, own, routes)?;
-    Ok(Routed {
-        row: None,
-        handling: Handling::Served {
-            local,
-            reply,
-            change,
-        },
-    })
+    match serve_errand(alloc, &local, own, routes) {
+        Ok((reply, change)) => Ok(Routed {
+            row: None,
+            handling: Handling::Served {
+                local,
+                reply,
+                change,
+            },
+        }),
+        Err(_) => {
+            drop(local);
+            Err(NoMemory)
+        }
+    }
 }
 
 fn others_at(endpoints: &Endpoints) -> Handling

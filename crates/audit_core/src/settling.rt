@@ -6,6 +6,7 @@ use crate::answered::Answered;
 use crate::facts::facts_of;
 use crate::judged::{Judged, judge};
 use crate::link_note::LinkNote;
+use crate::routed::Routed;
 use crate::routing::handle_errand;
 use crate::settings::Settings;
 use crate::stamp::Stamp;
@@ -38,14 +39,23 @@ pub fn settle<R: Routes>(
         errand,
         decision,
     } = judged;
-    let routed = handle_errand(alloc, &settings.endpoints, errand, routes)?;
-    let handling = routed.handling;
-    let facts = facts_of(
+    let Ok(routed) = handle_errand(alloc, &settings.endpoints, errand, routes) else {
+        drop(attributes);
+        return Err(NoMemory);
+    };
+    let Routed { row, handling } = routed;
+    drop(row);
+    match facts_of(
         alloc, stamp, request, attributes, decision, &handling, note, body,
-    )?;
-    Ok(Answered {
-        handling,
-        decision,
-        facts,
-    })
+    ) {
+        Ok(facts) => Ok(Answered {
+            handling,
+            decision,
+            facts,
+        }),
+        Err(_) => {
+            drop(handling);
+            Err(NoMemory)
+        }
+    }
 }

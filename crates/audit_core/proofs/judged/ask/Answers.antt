@@ -5,10 +5,10 @@ use Rattle.audit_core.specs.Unread.{is_unread}
 use Rattle.audit_core.proofs.JudgedLemmas.{asked_info, asked_fault}
 use Rattle.audit_core.proofs.judged.ask.Goals as goal
 
-pub returns-in_ok-refused-in-Ok : goal.returns-in_ok-refused-in-Ok
-returns-in_ok-refused-in-Ok c =
-    asked_info c.args.request.now c.as_str-method.result.now c.as_str-target.result.now c.in-Ok.info c.in_ok-refused-in-Ok.refused
-    c.as_str-method.ensures c.as_str-target.ensures c.in-Ok.ensures (c.in_ok-refused-in-Ok.ensures ∙ ap (λ x. is_unread x c.as_str-target.result.now) c.as_str.ensures)
+pub returns-in-Ok-is_unread : goal.returns-in-Ok-is_unread
+returns-in-Ok-is_unread c =
+    asked_info c.args.request.now c.as_str-method.result.now c.as_str-target.result.now c.in-Ok.info c.in-Ok-is_unread.refused
+    c.as_str-method.ensures c.as_str-target.ensures c.in-Ok.ensures (c.in-Ok-is_unread.ensures ∙ ap (λ x. is_unread x c.as_str-target.result.now) c.as_str.ensures)
 
 pub returns-in-Err-BadTarget : goal.returns-in-Err-BadTarget
 returns-in-Err-BadTarget c =

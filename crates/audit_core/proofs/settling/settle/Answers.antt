@@ -2,17 +2,17 @@ use Rattle.std.proofs.Common.{refl, subst}
 use Rattle.audit_core.specs.Routing.{Decides}
 use Rattle.audit_core.proofs.settling.settle.Goals as goal
 
-pub returns : goal.returns
-returns g c =
+pub returns-in-Ok-facts_of : goal.returns-in-Ok-facts_of
+returns-in-Ok-facts_of g c =
     let judged = c.in_ok-judged.ensures in
     let old = c.args.routes.now in
     let new = c.handle_errand.new.routes in
-    let facts = rw (judged.0, judged.2) at c.in_ok-facts.ensures in
+    let facts = rw (judged.0, judged.2) at c.in-Ok-facts_of.ensures in
     record {
       settles = (
-        c.in_ok-routed.routed,
+        c.in-Ok.routed,
         subst (λ errand. Decides c.args.settings.now.endpoints errand (g.R.Routes.opening old) (g.R.Routes.seen old) (g.R.Routes.own old)
-            (g.R.Routes.seen new) (g.R.Routes.own new) c.in_ok-routed.routed) judged.1 c.in_ok-routed.ensures.decides,
+            (g.R.Routes.seen new) (g.R.Routes.own new) c.in-Ok.routed) judged.1 c.in-Ok.ensures.decides,
         record { handling_is = refl; decision_is = judged.2; facts_are = facts },
       );
       later = c.handle_errand.ensures.later;
