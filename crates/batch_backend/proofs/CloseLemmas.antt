@@ -1,11 +1,11 @@
 -- Tries that end for their number or their bytes.
-use Rattle.std.proofs.Common.{◌≡◌, ◌+◌, ◌-◌, ◌<◌, ◌≤◌, ℕ, List, [], ◌∷◌, ◌++◌, length, length-append, append-nil, append_assoc, refl, sym, ap, ◌∙◌, subst, arith, Bool, true, false, ◌||◌, ◌&&◌, nat_le, nat_lt, Some, None, Option}
+use Rattle.std.proofs.Common.{◌≡◌, ◌-◌, ◌<◌, ◌≤◌, ℕ, List, [], ◌∷◌, ◌++◌, length, length-append, append-nil, append_assoc, refl, sym, subst, arith, Bool, true, false, ◌||◌, ◌&&◌, nat_le, Some}
 use Rattle.std.specs.Prelude.{if◌then◌else◌}
 use Rattle.std.proofs.lemmas.Bool.Decides.{nat_tests}
 use Rattle.front_base.specs.Line.{Line}
-use Rattle.truncate_backend.specs.Tries.{Try, bytes_of}
+use Rattle.truncate_backend.specs.Tries.{Try}
 use Rattle.batch_backend.specs.Batches.{Pending, Move, is_any, is_due, is_over, is_whole, since_of, after_pop, add_line}
-use Rattle.batch_backend.specs.Closes.{carries_over, is_full_before, first_lines, AllFull, FullButLast, IsSoon, StaysFull}
+use Rattle.batch_backend.specs.Closes.{carries_over, is_full_before, AllFull, FullButLast, IsSoon, StaysFull}
 use Rattle.batch_backend.specs.declared.limits.Limits.{Limits}
 
 or_left : (a b : Bool) → a ≡ true → (a || b) ≡ true

@@ -2,12 +2,12 @@
 use Rattle.std.proofs.Common.{◌≡◌, ◌+◌, ◌-◌, ◌<◌, ◌^◌, min, ℕ, List, [], ◌∷◌, ◌++◌, length, append-nil, append_assoc, refl, sym, ap, ◌∙◌, subst, arith, true, false, is_some}
 use Rattle.std.proofs.lemmas.List.Elements.{All-cons, All-nil}
 use Rattle.front_base.specs.Line.{Line}
-use Rattle.truncate_backend.specs.Tries.{Try, SinkTells}
+use Rattle.truncate_backend.specs.Tries.{Try, SinkTells, IsNoted}
 use Rattle.truncate_backend.specs.Outlets.{OutletTells}
 use Rattle.batch_backend.specs.declared.limits.Limits.{Limits}
 use Rattle.batch_backend.specs.declared.pumped.Pumped.{Pumped}
 use Rattle.batch_backend.specs.Batches.{Drained, WithinLimits, PendsWithin}
-use Rattle.batch_backend.specs.Closes.{AllFull, FullButLast, IsSoon}
+use Rattle.batch_backend.specs.Closes.{FullButLast}
 use Rattle.batch_backend.specs.Pumps.{PumpedAs, Put, Moved, PumpMoved, wrote, lost, is_rest}
 use Rattle.batch_backend.specs.Flushes.{Pumps, PutRest, FlushedAs, FlushMoved, PumpedOn, PumpedOut, written_of, lost_of}
 use Rattle.batch_backend.proofs.LossLemmas.{none_counted}
@@ -81,6 +81,8 @@ stayed d e o n s t f g h =
       taken = joined-none o.taken;
       all = sym (append-nil d.pending.lines);
       within = All-nil (λ (t : Try). WithinLimits d.limits t.lines);
+      text_is = refl;
+      noted = All-nil (IsNoted s.text);
       were_written = refl;
       were_lost = refl;
       counted = none_counted s s refl;

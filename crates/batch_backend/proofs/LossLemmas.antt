@@ -1,7 +1,6 @@
 -- What a sink counts where lines are lost.
 use Rattle.std.proofs.Common.{◌≡◌, ◌<◌, ◌+◌, ℕ, zero, suc, Ok, Err, sym, subst, arith}
 use Rattle.batch_backend.specs.Pumps.{CountsLoss}
-use Rattle.truncate_backend.specs.Told.{Rises}
 use Rattle.truncate_backend.specs.Tries.{Counted, SinkTells}
 use Rattle.truncate_backend.specs.declared.tries.SinkFault.{SinkFault}
 use Rattle.truncate_backend.specs.declared.tries.SinkFault.TheVariants as faults

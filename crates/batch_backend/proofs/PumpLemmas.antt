@@ -4,7 +4,7 @@ use Rattle.std.specs.Prelude.{if◌then◌else◌}
 use Rattle.std.proofs.lemmas.List.Elements.{All-append, All-cons, All-nil}
 use Rattle.front_base.specs.Line.{Line}
 use Rattle.truncate_backend.specs.Told.{Joined}
-use Rattle.truncate_backend.specs.Tries.{Try, SinkTells, answer_of, try_of, lines_of, done_of}
+use Rattle.truncate_backend.specs.Tries.{Try, SinkTells, IsNoted, answer_of, try_of, lines_of, done_of}
 use Rattle.truncate_backend.specs.Outlets.{OutletTells, Popped, TakesFrom, NoneLeft, count_all, count_left}
 use Rattle.batch_backend.specs.declared.limits.Limits.{Limits}
 use Rattle.batch_backend.specs.declared.pumped.Pumped.{Pumped}
@@ -43,6 +43,8 @@ module _ (law : TryLaws) where
         taken = j;
         all = ap (λ l. l ++ e.pending.lines) q ∙ g;
         within = All-cons (λ (t : Try). WithinLimits d.limits t.lines) _ [] w (All-nil (λ (t : Try). WithinLimits d.limits t.lines));
+        text_is = p.1.is.text_is;
+        noted = All-cons (IsNoted s.text) _ [] (record { lines = refl; sent = p.1.is.whole }) (All-nil (IsNoted s.text));
         were_written = omega arith;
         were_lost = omega arith;
         counted = done_counted s t p.1.is.counts;
@@ -63,6 +65,8 @@ module _ (law : TryLaws) where
         taken = j;
         all = ap (λ l. l ++ e.pending.lines) q ∙ g;
         within = All-cons (λ (t : Try). WithinLimits d.limits t.lines) _ [] w (All-nil (λ (t : Try). WithinLimits d.limits t.lines));
+        text_is = x.is.text_is;
+        noted = All-cons (IsNoted s.text) _ [] (record { lines = refl; sent = x.is.whole }) (All-nil (IsNoted s.text));
         were_written = omega arith;
         were_lost = omega arith;
         counted = lost_counted s t fault k x.is.counts;
@@ -109,6 +113,8 @@ module _ (law : TryLaws) where
         taken = j;
         all = g;
         within = All-nil (λ (t : Try). WithinLimits d.limits t.lines);
+        text_is = ap (λ (z : SinkTells). z.text) h;
+        noted = All-nil (IsNoted s.text);
         were_written = sym w;
         were_lost = omega arith;
         counted = subst (λ l. CountsLoss s l t) (sym l) (none_counted s t h);
@@ -203,6 +209,9 @@ module _ (law : TryLaws) where
             ∙ append_assoc d.pending.lines x.popped y.popped;
         within = All-append (λ (t : Try). WithinLimits d.limits t.lines) x.tries y.tries x.within
             (subst (λ (z : Limits). All (λ (t : Try). WithinLimits z t.lines) y.tries) x.limits y.within);
+        text_is = y.text_is ∙ x.text_is;
+        noted = All-append (IsNoted s.text) x.tries y.tries x.noted
+            (subst (λ (text : List Line → List ℕ). All (IsNoted text) y.tries) x.text_is y.noted);
         were_written = omega arith;
         were_lost = omega arith;
         counted = counted_then s t u l k x.counted y.counted;

@@ -1,12 +1,12 @@
 -- What the sink's port was given stays what the tries sent.
-use Rattle.std.proofs.Common.{◌≡◌, ◌+◌, ℕ, List, [], ◌∷◌, Option, Ok, Err, inl, inr, sym, subst}
+use Rattle.std.proofs.Common.{◌≡◌, ℕ, List, [], ◌∷◌, Option, Ok, Err, inl, inr, sym, subst}
 use Rattle.std.specs.Prelude.{Result, ⊤}
 use Rattle.front_base.specs.Line.{Line}
 use Rattle.truncate_backend.specs.Outlets.{OutletTells}
 use Rattle.truncate_backend.specs.Tries.{SinkTells, KeepsSent, Tried}
 use Rattle.truncate_backend.specs.declared.tries.SinkFault.{SinkFault}
 use Rattle.batch_backend.specs.Batches.{Pending, Drained}
-use Rattle.batch_backend.specs.Flushes.{Pumps, PutRest}
+use Rattle.batch_backend.specs.Flushes.{Pumps}
 use Rattle.batch_backend.specs.Pumps.{PumpedAs, Put, PutAfter}
 use Rattle.batch_backend.specs.declared.pumped.Pumped.{Pumped}
 use Rattle.batch_backend.specs.declared.pumped.Pumped.TheVariants.{Took, Wrote, Lost, Waiting, Idle}

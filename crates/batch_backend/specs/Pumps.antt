@@ -2,7 +2,7 @@
 use Rattle.std.specs.Prelude.{◌≡◌, ◌<◌, ◌≤◌, ◌+◌, ℕ, List, [], ◌∷◌, ◌++◌, length, Option, Some, None, IfSome, Ok, Err, ⊤, Bool, true, false, ◌⊎◌, if◌then◌else◌, All}
 use Rattle.front_base.specs.Line.{Line}
 use Rattle.truncate_backend.specs.Told.{Joined}
-use Rattle.truncate_backend.specs.Tries.{Try, SinkTells, Tried, lines_of, done_of}
+use Rattle.truncate_backend.specs.Tries.{Try, SinkTells, Tried, IsNoted, lines_of, done_of}
 use Rattle.truncate_backend.specs.Outlets.{OutletTells, Popped}
 use Rattle.truncate_backend.specs.declared.tries.SinkFault.{SinkFault}
 use Rattle.batch_backend.specs.declared.pumped.Pumped.{Pumped}
@@ -89,7 +89,7 @@ pub record CountsLoss (s : SinkTells) (lost : ℕ) (t : SinkTells) : Type 0 wher
   pub cause : 0 < lost → 0 < t.faults + t.refusals
 
 -- some tries and some pops: the lines of the tries, joined, followed by those that wait now, are those that waited,
--- followed by those that were popped. So many lines of the tries were written, and so many lost
+-- followed by those that were popped. So many lines of the tries were written, and so many lost. Each try is noted as it was
 pub record Moved (d : Drained) (o : OutletTells) (s : SinkTells) (written lost : ℕ) (e : Drained) (n : OutletTells) (t : SinkTells) : Type 0 where
   pub limits : e.limits ≡ d.limits
   pub tries : List Try
@@ -98,6 +98,8 @@ pub record Moved (d : Drained) (o : OutletTells) (s : SinkTells) (written lost :
   pub taken : Joined o.taken popped n.taken
   pub all : lines_of tries ++ e.pending.lines ≡ d.pending.lines ++ popped
   pub within : All (λ (t : Try). WithinLimits d.limits t.lines) tries
+  pub text_is : t.text ≡ s.text
+  pub noted : All (IsNoted s.text) tries
   pub were_written : length (done_of tries) ≡ written
   pub were_lost : length (done_of tries) + lost ≡ length (lines_of tries)
   pub counted : CountsLoss s lost t

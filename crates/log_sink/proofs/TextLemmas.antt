@@ -5,19 +5,19 @@ use Rattle.std.proofs.lemmas.List.{take-append-drop, drop_all}
 use Rattle.std.specs.Io.KnownBytes.{Appends}
 use Rattle.front_base.specs.Line.{Line}
 use Rattle.front_ports.specs.Told.{Grows}
-use Rattle.truncate_backend.specs.Tries.{Try}
+use Rattle.truncate_backend.specs.Tries.{Try, lines_of, texts_of}
 use Rattle.log_sink.specs.Texts.{log_text, log_bytes, Accounts}
 
-log_append : (xs ys : List Line) → log_text (xs ++ ys) ≡ log_text xs ++ log_text ys
-log_append [] ys = refl
-log_append (x ∷ xs) ys =
-    ap (λ z. x.bytes ++ 10 ∷ z) (log_append xs ys) ∙ sym (append_assoc x.bytes (10 ∷ log_text xs) (log_text ys))
+pub log-append : (xs ys : List Line) → log_text (xs ++ ys) ≡ log_text xs ++ log_text ys
+log-append [] ys = refl
+log-append (x ∷ xs) ys =
+    ap (λ z. x.bytes ++ 10 ∷ z) (log-append xs ys) ∙ sym (append_assoc x.bytes (10 ∷ log_text xs) (log_text ys))
 
 -- the next line is added
 pub log-next : (ls : List Line) (i : ℕ) (d : Line) → i < length ls → d ≡ get_or ls i d → log_text (take (i + 1) ls) ≡ log_text (take i ls) ++ (d.bytes ++ 10 ∷ [])
 log-next ls i d h e =
     let t : take (i + 1) ls ≡ take i ls ++ d ∷ [] = rw (add-one, take-suc ls i d h, ← e) refl in
-    ap log_text t ∙ log_append (take i ls) (d ∷ [])
+    ap log_text t ∙ log-append (take i ls) (d ∷ [])
 
 pub log-length : (ls : List Line) (i : ℕ) (d : Line) → i < length ls → d ≡ get_or ls i d → length (log_text (take (i + 1) ls)) ≡ length (log_text (take i ls)) + length d.bytes + 1
 log-length ls i d h e =
@@ -30,7 +30,7 @@ log-length ls i d h e =
 pub log-split : (ls : List Line) (i : ℕ) (d : Line) → i < length ls → d ≡ get_or ls i d → (log_text (take i ls) ++ (d.bytes ++ 10 ∷ [])) ++ log_text (drop (i + 1) ls) ≡ log_text ls
 log-split ls i d h e =
     ap (λ z. z ++ log_text (drop (i + 1) ls)) (sym (log-next ls i d h e))
-    ∙ sym (log_append (take (i + 1) ls) (drop (i + 1) ls))
+    ∙ sym (log-append (take (i + 1) ls) (drop (i + 1) ls))
     ∙ ap log_text (take-append-drop (i + 1) ls)
 
 bytes_append : (ts us : List Try) → log_bytes (ts ++ us) ≡ log_bytes ts ++ log_bytes us
@@ -55,5 +55,10 @@ pub log-all : (ls : List Line) (i : ℕ) → length ls ≤ i → log_text (take 
 log-all ls i h =
     sym (append-nil (log_text (take i ls)))
     ∙ ap (λ z. log_text (take i ls) ++ log_text z) (sym (drop_all i ls h))
-    ∙ sym (log_append (take i ls) (drop i ls))
+    ∙ sym (log-append (take i ls) (drop i ls))
     ∙ ap log_text (take-append-drop i ls)
+
+-- the texts of tries are the text of all their lines
+pub texts-of : (ts : List Try) → texts_of log_text ts ≡ log_text (lines_of ts)
+texts-of [] = refl
+texts-of (t ∷ ts) = ap (λ z. log_text t.lines ++ z) (texts-of ts) ∙ sym (log-append t.lines (lines_of ts))

@@ -1,5 +1,5 @@
 -- What a log does with a try.
-use Rattle.std.specs.Prelude.{◌≡◌, ◌≤◌, ℕ, List, length, take, Option, Some, None, option_map, Bool, true, false, Result, Ok, Err, ⊤}
+use Rattle.std.specs.Prelude.{◌≡◌, ℕ, List, take, Option, Some, None, option_map, Bool, true, false, Result, Err, ⊤}
 use Rattle.std.specs.Io.KnownBytes.{Appends}
 use Rattle.front_base.specs.Line.{Line}
 use Rattle.truncate_backend.specs.Tries.{Try, SinkTells, TriedAs}
@@ -30,16 +30,10 @@ log_tells written tries log = record {
   sent = option_map Some (written (log_out log));
 }
 
--- how many of so many bytes an answer allows: all of them, or at most these
-abbrev pub SentFor : Result ⊤ SinkFault → ℕ → ℕ → Type 0
-SentFor (Ok u) sent whole = sent ≡ whole
-SentFor (Err e) sent whole = sent ≤ whole
-
 -- one try of these lines: so many bytes of its text were written, and the note says so
 pub record Logged (m : SinkTells) (old : Option (List ℕ)) (lines : List Line) (result : Result ⊤ SinkFault)
     (n : SinkTells) (new : Option (List ℕ)) : Type 0 where
   pub sent : ℕ
-  pub sent_is : SentFor result sent (length (log_text lines))
   pub bytes : Appends old new (take sent (log_text lines))
   pub tried : TriedAs m lines sent result n
 

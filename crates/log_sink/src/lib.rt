@@ -9,7 +9,9 @@
 #![tactic(auto)]
 
 mod buffer;
+mod laws;
 mod log;
 
 pub use buffer::MOST_BUFFERED_BYTES;
+pub use laws::log_texts_join;
 pub use log::LogSink;

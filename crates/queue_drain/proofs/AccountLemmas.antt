@@ -1,8 +1,8 @@
 -- What a drainer has taken, through pumps and a flush.
-use Rattle.std.proofs.Common.{◌≡◌, ◌<◌, ◌≤◌, ◌+◌, ◌-◌, ◌^◌, min, true, ℕ, zero, suc, List, [], ◌∷◌, ◌++◌, take, length, length-append, append_assoc, append-nil, Option, Some, None, IfSome, All, refl, sym, ap, ◌∙◌, subst, arith, inl, inr, map, get_or, sum_by}
+use Rattle.std.proofs.Common.{◌≡◌, ◌<◌, ◌≤◌, ◌+◌, ◌-◌, ◌^◌, min, ℕ, zero, suc, List, [], ◌∷◌, ◌++◌, take, length, length-append, append_assoc, append-nil, Option, Some, None, IfSome, All, refl, sym, ap, ◌∙◌, subst, arith, inl, inr, map, get_or, sum_by}
 use Rattle.std.proofs.lemmas.List.Elements.{All-append, All-nil}
-use Rattle.batch_backend.specs.Batches.{Drained, Pending, WithinLimits, is_any}
-use Rattle.batch_backend.specs.Closes.{AllFull, FullButLast, IsSoon}
+use Rattle.batch_backend.specs.Batches.{Drained, WithinLimits, is_any}
+use Rattle.batch_backend.specs.Closes.{AllFull, IsSoon}
 use Rattle.batch_backend.specs.Flushes.{Pumps, FlushMoved}
 use Rattle.batch_backend.specs.Pumps.{CountsLoss, Moved, PumpMoved}
 use Rattle.batch_backend.specs.declared.limits.Limits.{Limits}
@@ -16,7 +16,7 @@ use Rattle.shared_queue.specs.Lanes.{lane_accepted, lane_fulls}
 use Rattle.shared_queue.specs.declared.lane.QueueLane.{QueueLane}
 use Rattle.truncate_backend.specs.Outlets.{OutletTells, Popped}
 use Rattle.truncate_backend.specs.Told.{Joined}
-use Rattle.truncate_backend.specs.Tries.{Try, SinkTells, lines_of, done_of}
+use Rattle.truncate_backend.specs.Tries.{Try, SinkTells, IsNoted, lines_of, done_of}
 
 -- nothing was taken yet
 pub accounts_none : (limits : Limits) (home : List ℕ) (taken waits : List Line) (since began : ℕ) (s : SinkTells)
@@ -27,6 +27,7 @@ accounts_none limits home taken waits since began s p q h = record {
   told = h;
   all = q ∙ sym p;
   within = All-nil (λ (t : Try). WithinLimits limits t.lines);
+  noted = All-nil (IsNoted s.text);
   unwritten = 0;
   each = refl;
   written_is = omega arith;
@@ -56,6 +57,7 @@ record Sums (limits : Limits) (taken waits : List Line) (s : SinkTells) (written
   pub told : IfSome s.tries (λ own. own ≡ tries)
   pub all : lines_of tries ++ waits ≡ taken
   pub within : All (λ (t : Try). WithinLimits limits t.lines) tries
+  pub noted : All (IsNoted s.text) tries
   pub unwritten : ℕ
   pub each : length (done_of tries) + unwritten ≡ length (lines_of tries)
   pub written_is : written ≡ min (length (done_of tries)) (2 ^ 64 - 1)
@@ -81,6 +83,7 @@ sums_of d a = record {
   told = a.told;
   all = a.all;
   within = a.within;
+  noted = a.noted;
   unwritten = a.unwritten;
   each = a.each;
   written_is = a.written_is;
@@ -118,6 +121,8 @@ module _ (lines : (these those : List Try) → lines_of (these ++ those) ≡ lin
             ∙ (ap (λ z. z ++ m.popped) a.all ∙ sym (taken_more o.taken n.taken taken more m.popped e f m.taken)))));
         within = subst (λ (z : Limits). All (λ (t : Try). WithinLimits z t.lines) (ts ++ ms)) (sym m.limits)
             (All-append (λ (t : Try). WithinLimits p.limits t.lines) ts ms a.within m.within);
+        noted = subst (λ (text : List Line → List ℕ). All (IsNoted text) (ts ++ ms)) (sym m.text_is)
+            (All-append (IsNoted s.text) ts ms a.noted m.noted);
         unwritten = a.unwritten + l;
         each = omega (arith, d, k, a.each, m.were_lost);
         written_is = omega (arith, d, a.written_is, m.were_written, g);
@@ -146,6 +151,7 @@ module _ (lines : (these those : List Try) → lines_of (these ++ those) ≡ lin
         told = sums.told;
         all = sums.all;
         within = sums.within;
+        noted = sums.noted;
         unwritten = sums.unwritten;
         each = sums.each;
         written_is = sums.written_is;
@@ -179,6 +185,7 @@ module _ (lines : (these those : List Try) → lines_of (these ++ those) ≡ lin
         told = sums.told;
         bays = λ bay. ap (λ z. get_or z bay []) (sym all) ∙ (each bay ∙ ap (of_bay bay) (sym same));
         within = subst (λ (z : Limits). All (λ (t : Try). WithinLimits z t.lines) ts) m.moved.limits sums.within;
+        noted = sums.noted;
         unwritten = sums.unwritten;
         each = sums.each;
         written_is = sums.written_is;

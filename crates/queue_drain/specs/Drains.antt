@@ -12,7 +12,7 @@ use Rattle.shared_queue.specs.Lanes.{lane_accepted, lane_fulls}
 use Rattle.shared_queue.specs.Queues.{outlet_taken, outlet_home}
 use Rattle.shared_queue.specs.declared.lane.QueueLane.{QueueLane}
 use Rattle.shared_queue.specs.declared.outlet.QueueOutlet.{QueueOutlet}
-use Rattle.truncate_backend.specs.Tries.{Try, SinkTells, KeepsSent, lines_of, done_of}
+use Rattle.truncate_backend.specs.Tries.{Try, SinkTells, KeepsSent, IsNoted, lines_of, done_of}
 use Rattle.truncate_backend.specs.declared.sink.BatchSink as sinks
 
 -- its queue, the lines that it took, those of them that still wait and since when, the first and the last moment that it went by,
@@ -48,13 +48,14 @@ drain_state s d = record {
 }
 
 -- Since the start these tries were made, which are those of the sink where it tells them. Their lines, joined, and those that
--- still wait are what was taken; and so many of their lines were written, and so many not, where the sink counted a fault or a refusal. Where less time than a line may wait has
--- passed, each of these tries ended for its number or its bytes
+-- still wait are what was taken; and so many of their lines were written, and so many not, where the sink counted a fault or a refusal. Each try is
+-- noted as it was. Where less time than a line may wait has passed, each of these tries ended for its number or its bytes
 pub record Accounts (d : DrainState) : Type 0 where
   pub tries : List Try
   pub told : IfSome d.sink.tries (λ own. own ≡ tries)
   pub all : lines_of tries ++ d.waits ≡ d.taken
   pub within : All (λ (t : Try). WithinLimits d.limits t.lines) tries
+  pub noted : All (IsNoted d.sink.text) tries
   pub unwritten : ℕ
   pub each : length (done_of tries) + unwritten ≡ length (lines_of tries)
   pub written_is : d.written ≡ min (length (done_of tries)) (2 ^ 64 - 1)
@@ -87,13 +88,14 @@ pub record RanDrain {S R K : Type 0} (s : sinks.Ghosts S) (k : clocks.Ghosts K) 
   pub timed : IsTimed k d → IsTimed k e
 
 -- Each bay's accepted lines are its lines among those that the tries have, in order and each once, and a number that is no
--- bay has none. A line stayed unwritten only where the sink counted a fault or a refusal. Where less time than a line may wait lies between the first and the last moment, each try but the last one ended for
--- its number or its bytes
+-- bay has none. Each try is noted as it was. A line stayed unwritten only where the sink counted a fault or a refusal. Where less time than
+-- a line may wait lies between the first and the last moment, each try but the last one ended for its number or its bytes
 pub record EndsDrain {R : Type 0} (limits : Limits) (lanes : List (QueueLane R)) (sink : SinkTells) (written lost fulls began ended : ℕ) : Type 0 where
   pub tries : List Try
   pub told : IfSome sink.tries (λ own. own ≡ tries)
   pub bays : (bay : ℕ) → get_or (map lane_accepted lanes) bay [] ≡ of_bay bay (lines_of tries)
   pub within : All (λ (t : Try). WithinLimits limits t.lines) tries
+  pub noted : All (IsNoted sink.text) tries
   pub unwritten : ℕ
   pub each : length (done_of tries) + unwritten ≡ length (lines_of tries)
   pub written_is : written ≡ min (length (done_of tries)) (2 ^ 64 - 1)

@@ -4,7 +4,7 @@ use Rattle.front_base.specs.Line.{Line}
 use Rattle.front_ports.specs.Told.{Grows}
 use Rattle.truncate_backend.specs.Told.{Joined, Rises}
 use Rattle.truncate_backend.specs.Tries.{Try, SinkTells, Tried, Counted, answer_of, try_of, lines_of, lines_done, done_of}
-use Rattle.truncate_backend.proofs.SentLemmas.{keeps-one}
+use Rattle.truncate_backend.proofs.SentLemmas.{keeps-one, single-one}
 use Rattle.truncate_backend.proofs.TryLemmas.{lines-append, done-append, none-done}
 use Rattle.truncate_backend.specs.Owns.{own_tells}
 use Rattle.truncate_backend.specs.Lanes.{Offered}
@@ -31,7 +31,7 @@ sum_rises_right a b c d e r = record { later = let h = r.later in omega arith; r
 
 pub own_taken : (m n : SinkTells) (x : Line) → Tried m (x ∷ []) (Ok tt) n → Offered (own_tells m) x false Taken (own_tells n)
 own_taken m n x t =
-    (tried_done m.tries n.tries _ t.is.tries, tried_lines m.tries n.tries _ t.is.tries, refl, (let c = t.is.counts in let a = c.0 in let b = c.1 in omega arith), keeps-one m n (x ∷ []) (Ok tt) t)
+    (tried_done m.tries n.tries _ t.is.tries, tried_lines m.tries n.tries _ t.is.tries, refl, (let c = t.is.counts in let a = c.0 in let b = c.1 in omega arith), (keeps-one m n (x ∷ []) (Ok tt) t, single-one m n x (Ok tt) t))
 
 failed_rises : (m n : SinkTells) (e : SinkFault) → Counted m (Err e) n → Rises (own_tells m).faults (own_tells n).faults
 failed_rises m n faults.Port c = sum_rises m.faults m.refusals n.faults n.refusals c.0 (sym c.1)
@@ -41,4 +41,4 @@ failed_rises m n faults.BadAnswer c = sum_rises_right m.faults m.refusals n.faul
 pub own_failed : (m n : SinkTells) (x : Line) (e : SinkFault) → Tried m (x ∷ []) (Err e) n → Offered (own_tells m) x false (Failed x) (own_tells n)
 own_failed m n x e t =
     let d = tried_done m.tries n.tries (try_of (x ∷ []) t.sent (answer_of (Err e))) t.is.tries in
-    (refl, refl, subst (λ (l : List Line). Joined (option_map done_of m.tries) l (option_map done_of n.tries)) (none-done e (x ∷ [])) d, tried_lines m.tries n.tries _ t.is.tries, refl, failed_rises m n e t.is.counts, keeps-one m n (x ∷ []) (Err e) t)
+    (refl, refl, subst (λ (l : List Line). Joined (option_map done_of m.tries) l (option_map done_of n.tries)) (none-done e (x ∷ [])) d, tried_lines m.tries n.tries _ t.is.tries, refl, failed_rises m n e t.is.counts, (keeps-one m n (x ∷ []) (Err e) t, single-one m n x (Err e) t))

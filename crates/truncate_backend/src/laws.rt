@@ -1,11 +1,13 @@
-ghost use Rattle.std.specs.Prelude.{◌≡◌, ◌<◌, ◌≤◌, ◌+◌, ◌++◌, ◌∷◌, [], ℕ, List, Option, Result, Err, ⊤, length, false};
+ghost use Rattle.std.specs.Prelude.{◌≡◌, ◌<◌, ◌≤◌, ◌+◌, ◌++◌, ◌∷◌, [], ℕ, List, Option, Result, Err, ⊤, All, IfSome, length, false};
 ghost use Rattle.front_base.specs.Line as base;
 ghost use Rattle.event_text.specs.Line.{line_text, stripped};
 ghost use Rattle.event_text.specs.Members.{object};
 ghost use Rattle.stage_event.specs.declared.event.Event.{Event};
 ghost use Rattle.truncate_backend.specs.Fits.{fitted, before_objects, objects, after_objects, annotation};
-ghost use Rattle.truncate_backend.specs.Told.{Joined};
-ghost use Rattle.truncate_backend.specs.Tries.{Try, SinkTells, Tried, KeepsSent, try_of, answer_of, lines_of, done_of, bytes_of};
+ghost use Rattle.truncate_backend.specs.Lanes.{SinkStays};
+ghost use Rattle.truncate_backend.specs.Told.{Joined, JoinedEach};
+ghost use Rattle.truncate_backend.specs.Tries as tries;
+ghost use Rattle.truncate_backend.specs.Tries.{Try, SinkTells, Tried, KeepsSent, IsNoted, IsSingle, try_of, answer_of, lines_of, done_of, bytes_of};
 ghost use Rattle.truncate_backend.specs.declared.fitted.Fit.TheVariants as fits;
 ghost use Rattle.truncate_backend.specs.declared.tries.SinkFault.{SinkFault};
 ghost use Rattle.truncate_backend.specs.declared.tries.TryAnswer.{TryAnswer};
@@ -64,9 +66,30 @@ pub fn lists_join()
         → Joined a xs b → Joined b ys c → Joined a (xs ++ ys) c }
 {}
 
-/// What the port of a sink was given stays what its tries sent: over one try, over none, and over tries one after another.
+/// What the port of a sink was given stays what its tries sent, and each try is noted as it was: over one try, over none, and over tries one after another.
 pub fn tries_keep_what_was_sent()
     ensures one { (m n : SinkTells) (lines : List base.Line) (result : Result ⊤ SinkFault) → Tried m lines result n → KeepsSent m n }
     ensures none { (m : SinkTells) → KeepsSent m m }
     ensures join { (a b c : SinkTells) → KeepsSent a b → KeepsSent b c → KeepsSent a c }
+{}
+
+/// The sink of a lane's own over offers one after another, and over none.
+pub fn own_sinks_stay()
+    ensures none { (a : Option SinkTells) → SinkStays a a }
+    ensures join { (a b c : Option SinkTells) → SinkStays a b → SinkStays b c → SinkStays a c }
+{}
+
+/// Where there were no tries, those that joined are all.
+pub fn first_tries_join()
+    ensures noted { (text : List base.Line → List ℕ) (a b : Option (List Try)) → IfSome a (λ ts. ts ≡ [])
+        → JoinedEach (IsNoted text) a b → IfSome b (All (IsNoted text)) }
+    ensures single { (a b : Option (List Try)) → IfSome a (λ ts. ts ≡ []) → JoinedEach IsSingle a b → IfSome b (All IsSingle) }
+{}
+
+/// What tries sent is the text of each, whole unless its port failed. Where all of them are Done these texts are all.
+pub fn tries_send_their_texts()
+    ensures each { (text : List base.Line → List ℕ) (these : List Try) → All (IsNoted text) these
+        → tries.SentBy text these (tries.sent_bytes text these) }
+    ensures done { (text : List base.Line → List ℕ) (these : List Try) → All (IsNoted text) these → All tries.IsDone these
+        → tries.sent_bytes text these ≡ tries.texts_of text these }
 {}

@@ -26,8 +26,8 @@ pub use fitted::Fit;
 pub use fitting::fit;
 pub use lane::{Lane, Offer};
 pub use laws::{
-    bytes_join, lists_join, members_of_fits, no_objects_no_strip, one_try, tries_join,
-    tries_keep_what_was_sent, what_fits,
+    bytes_join, first_tries_join, lists_join, members_of_fits, no_objects_no_strip, one_try,
+    own_sinks_stay, tries_join, tries_keep_what_was_sent, tries_send_their_texts, what_fits,
 };
 pub use mem_notes::MemNotes;
 pub use notes::{NoNotes, Notes};

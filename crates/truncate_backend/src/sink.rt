@@ -9,7 +9,7 @@ pub trait BatchSink {
     /// Its tries, how often its port failed, how often its peer refused, the text of a try, and what its port was given.
     ghost tells: { Self → SinkTells };
 
-    /// Writes these lines, in one try.
+    /// Writes these lines, in one try: all of their text, unless its port failed.
     fn put(&mut self, lines: &[Line]) -> Result<(), SinkFault>
         requires { (0 < length lines.now) × (length lines.now < 2 ^ 32) }
         ensures { Tried (tells self.old) lines.now result (tells self.new) };

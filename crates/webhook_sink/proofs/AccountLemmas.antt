@@ -1,20 +1,21 @@
 -- The calls of tries, one after another.
-use Rattle.std.proofs.Common.{◌≡◌, ℕ, inl, inr, List, [], ◌∷◌, ◌++◌, length, take, Option, Some, None, Bool, true, false, refl, sym, ap, ◌∙◌, subst, arith, append_assoc}
-use Rattle.std.specs.Prelude.{Result, Ok, Err, ⊤}
+use Rattle.std.proofs.Common.{◌≡◌, ℕ, inl, inr, List, [], ◌∷◌, ◌++◌, length, take, Option, Some, None, Bool, true, false, refl, sym, ap, ◌∙◌, subst, arith, append_assoc, append-nil}
+use Rattle.std.specs.Prelude.{Result, Ok, Err, ⊤, option_map}
 use Rattle.std.specs.List.{flat_map}
 use Rattle.std.proofs.Math.Seq.{take-length}
-use Rattle.std.proofs.lemmas.List.Concat.{flat_map-cons}
+use Rattle.std.proofs.lemmas.List.Concat.{flat_map-append, flat_map-cons}
 use Rattle.front_base.specs.Line.{Line}
+use Rattle.front_base.specs.declared.address.Address.{Address}
 use Rattle.front_ports.specs.Dials.{failed_call}
 use Rattle.front_ports.specs.Told.{Adds, Grows}
 use Rattle.front_ports.specs.declared.dial.Call.{Call}
-use Rattle.truncate_backend.specs.Tries.{Try, SinkTells, try_of, answer_of}
+use Rattle.truncate_backend.specs.Tries.{Try, SinkTells, SentFor, Sends, try_of, answer_of}
 use Rattle.truncate_backend.specs.declared.tries.SinkFault.{SinkFault}
 use Rattle.truncate_backend.specs.declared.tries.SinkFault.TheVariants as faults
 use Rattle.truncate_backend.specs.declared.tries.TryAnswer.TheVariants as answers
-use Rattle.webhook_sink.specs.Accounts.{SentFor, AnswerFor, IsCallOf, AreCallsOf, Accounts, sent_bytes, posted_bytes}
+use Rattle.webhook_sink.specs.Accounts.{AnswerFor, IsCallOf, AreCallsOf, Accounts, sent_bytes, posted_bytes}
 use Rattle.webhook_sink.specs.Exchanges.{ExchangedBy, Answered, Broken, NotDialed}
-use Rattle.webhook_sink.specs.Hooked.{answer_by, Posted, NotPosted}
+use Rattle.webhook_sink.specs.Hooked.{answer_by, calls_sent, Posted, NotPosted}
 use Rattle.webhook_sink.specs.Posts.{post_text}
 use Rattle.webhook_sink.specs.Replies.{Replies, result_of}
 use Rattle.webhook_sink.specs.declared.hook_url.HookUrl.{HookUrl}
@@ -28,6 +29,20 @@ all_sent (Ok u) sent whole e = e
 all_sent (Err faults.Port) sent whole e = omega (arith, e)
 all_sent (Err (faults.Refused code)) sent whole e = e
 all_sent (Err faults.BadAnswer) sent whole e = e
+
+exchange_sent : (calls0 calls : Option (List Call)) (to : Address) (text : List ℕ) (dial_rose link_rose : Type 0) (sent : ℕ) (reply : Option Reply)
+    → ExchangedBy calls0 calls to text dial_rose link_rose sent reply → SentFor (answer_of (answer_by reply)) sent (length text)
+exchange_sent calls0 calls to text dial_rose link_rose sent None (inl d) = omega (arith, d.none)
+exchange_sent calls0 calls to text dial_rose link_rose sent None (inr b) = b.within
+exchange_sent calls0 calls to text dial_rose link_rose sent (Some reply) a = all_sent (result_of reply) sent (length text) a.all
+
+-- how much was sent, by the answer of an exchange
+pub sent-for : (calls0 calls : Option (List Call)) (to : Address) (text : List ℕ) (dial_rose link_rose : Type 0) (sent : ℕ) (reply : Option Reply)
+    (result : Result ⊤ SinkFault) → ExchangedBy calls0 calls to text dial_rose link_rose sent reply → result ≡ answer_by reply
+    → SentFor (answer_of result) sent (length text)
+sent-for calls0 calls to text dial_rose link_rose sent reply result h e =
+    subst (λ (r : Result ⊤ SinkFault). SentFor (answer_of r) sent (length text)) (sym e)
+    (exchange_sent calls0 calls to text dial_rose link_rose sent reply h)
 
 says_answer : (r : Result ⊤ SinkFault) (held : List ℕ) (reply : Reply) → r ≡ result_of reply → Replies MOST_INTERIM held reply → AnswerFor (answer_of r) held
 says_answer (Ok u) held reply e p = (reply, p, ap answer_of e)
@@ -80,6 +95,24 @@ one_call : (url : HookUrl) (lines : List Line) (calls0 calls : Option (List Call
 one_call url lines calls0 calls dial_rose link_rose sent None (inl d) = not_dialed url lines calls0 calls dial_rose sent d
 one_call url lines calls0 calls dial_rose link_rose sent None (inr b) = broken url lines calls0 calls link_rose sent b
 one_call url lines calls0 calls dial_rose link_rose sent (Some reply) a = answered url lines calls0 calls sent reply a
+
+-- ---- the bytes of one try
+
+call_bytes : (a b : Option (List Call)) (call : Call) (bytes : List ℕ) → Grows a b (call ∷ []) → call.sent ≡ bytes
+    → Sends (Some (option_map calls_sent a)) bytes (Some (option_map calls_sent b))
+call_bytes None b call bytes g e = ap (λ (z : Option (List Call)). Some (option_map calls_sent z)) g
+call_bytes (Some x) None call bytes g e = tt
+call_bytes (Some x) (Some y) call bytes g e =
+    ap calls_sent g ∙ flat_map-append (λ (c : Call). c.sent) x (call ∷ [])
+    ∙ ap (λ (z : List ℕ). calls_sent x ++ z) (append-nil call.sent ∙ e)
+
+pub sends-for : (url : HookUrl) (lines : List Line) (calls0 calls new : Option (List Call)) (dial_rose link_rose : Type 0) (sent : ℕ) (reply : Option Reply)
+    → ExchangedBy calls0 calls url.address (post_text url lines) dial_rose link_rose sent reply → new ≡ calls
+    → Sends (Some (option_map calls_sent calls0)) (take sent (post_text url lines)) (Some (option_map calls_sent new))
+sends-for url lines calls0 calls new dial_rose link_rose sent reply h e =
+    let one = one_call url lines calls0 calls dial_rose link_rose sent reply h in
+    subst (λ (z : Option (List Call)). Sends (Some (option_map calls_sent calls0)) (take sent (post_text url lines)) (Some (option_map calls_sent z))) (sym e)
+    (call_bytes calls0 calls one.0 (take sent (post_text url lines)) one.1 one.2.bytes)
 
 -- ---- one try more
 

@@ -1,7 +1,7 @@
 -- The calls of a webhook's tries: one each, in their order.
-use Rattle.std.specs.Prelude.{◌≡◌, ◌≤◌, ℕ, List, [], ◌∷◌, ◌++◌, length, take, Option, Some, None, ⊤}
+use Rattle.std.specs.Prelude.{◌≡◌, ℕ, List, [], ◌∷◌, ◌++◌, length, take, Option, Some, None, ⊤}
 use Rattle.front_ports.specs.declared.dial.Call.{Call}
-use Rattle.truncate_backend.specs.Tries.{Try, answer_of}
+use Rattle.truncate_backend.specs.Tries.{Try, SentFor, answer_of}
 use Rattle.truncate_backend.specs.declared.tries.TryAnswer.{TryAnswer}
 use Rattle.truncate_backend.specs.declared.tries.TryAnswer.TheVariants.{Port}
 use Rattle.webhook_sink.specs.Posts.{post_text}
@@ -9,11 +9,6 @@ use Rattle.webhook_sink.specs.Replies.{Replies, result_of}
 use Rattle.webhook_sink.specs.declared.hook_url.HookUrl.{HookUrl}
 use Rattle.webhook_sink.specs.declared.reply.Reply.{Reply}
 use Rattle.webhook_sink.specs.declared.reply.TheConstants.{MOST_INTERIM}
-
--- how many bytes of a post an answer allows: all of them, or at most these where a call failed
-abbrev pub SentFor : TryAnswer → ℕ → ℕ → Type 0
-SentFor Port sent whole = sent ≤ whole
-SentFor _ sent whole = sent ≡ whole
 
 -- where no call failed, the answer is what all bytes of the link say
 abbrev pub AnswerFor : TryAnswer → List ℕ → Type 0
