@@ -126,12 +126,11 @@ pub fn show_replied(rt: &HostRuntime, row: &str) -> io::Result<()> {
 
 /// The refusal of what is no request. A row has its code.
 pub fn show_refusal(rt: &HostRuntime, row: &str) -> io::Result<()> {
-    let code: u16 = row.parse().unwrap_or(0);
-    if code < 100 || code >= 1000 {
-        return println!(rt; "  no code");
-    }
-    match refusal_text(rt.alloc(), code) {
-        Ok(text) => println!(rt; "  {}", spelled(rt.alloc(), text.as_slice())),
-        Err(_) => println!(rt; "  out of memory"),
-    }
+    let text = match row {
+        "400" => refusal_text(400),
+        "413" => refusal_text(413),
+        "431" => refusal_text(431),
+        _ => return println!(rt; "  no code"),
+    };
+    println!(rt; "  {}", spelled(rt.alloc(), text))
 }

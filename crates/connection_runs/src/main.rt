@@ -30,7 +30,7 @@ use truncate_backend::{NoNotes, OwnLane};
 // How many bytes a port takes.
 const ROOM: u64 = 1_000_000;
 
-// The clients' bytes, the replies of backends with `~` for CR LF, the APIServices, the policy, and the log of each
+// The clients' bytes, after a `!` which of their calls fails the second time, the replies of backends with `~` for CR LF, the APIServices, the policy, and the log of each
 // connection.
 const RUNS: &str = "\
 changes.http|changes.replies|changes.json|policy.json|blocking
@@ -45,6 +45,14 @@ watches.http|watches.replies|mixed.json|all.json|blocking
 old.http|cut.replies|mixed.json|all.json|blocking
 list.http|greatest.replies|mixed.json|all.json|blocking
 long.http|long.replies|mixed.json|all.json|blocking
+bad_head.http|mixed.replies|mixed.json|policy.json|blocking
+large_head.http|mixed.replies|mixed.json|policy.json|blocking
+bad_framing.http|mixed.replies|mixed.json|policy.json|blocking
+large_body.http|mixed.replies|mixed.json|policy.json|blocking
+cut_short.http|mixed.replies|mixed.json|policy.json|blocking
+cut_short.http!read|mixed.replies|mixed.json|policy.json|blocking
+two.http!write|mixed.replies|mixed.json|policy.json|blocking
+bad_head.http!write|mixed.replies|mixed.json|policy.json|blocking
 ";
 
 fn text_of(rt: &HostRuntime, name: &str) -> Option<String> {
@@ -116,11 +124,23 @@ fn own_settings(rt: &HostRuntime, policy: &str, log: SinkMode) -> Option<Setting
     )
 }
 
+// The second call of that name fails.
+fn fail_second(ports: &mut Script, call: &str) -> Result<(), NoMemory> {
+    match call {
+        "read" => Ok(ports.read_fails.push(2)?),
+        "write" => Ok(ports.write_fails.push(2)?),
+        _ => Ok(()),
+    }
+}
+
 // A client that sends these bytes.
 fn client_of(rt: &HostRuntime, name: &str) -> Option<MemConn> {
     let alloc = rt.alloc();
-    let input = text_of(rt, name)?;
-    MemConn::new(alloc, [10, 0, 0, 7], script(alloc, &input).ok()?).ok()
+    let (file, call) = name.split_once('!').unwrap_or((name, ""));
+    let input = text_of(rt, file)?;
+    let mut ports = script(alloc, &input).ok()?;
+    fail_second(&mut ports, call).ok()?;
+    MemConn::new(alloc, [10, 0, 0, 7], ports).ok()
 }
 
 // A bay over these APIServices and these replies, with a log whose writes of these numbers fail.

@@ -7,7 +7,7 @@ use apiservice_rows::read_rows;
 use apiservice_table::{RouteTable, TableRoutes, read_rows_fit};
 use audit_core::{Settings, SinkMode};
 use front_base::MOST_FILE_BYTES;
-use policy_rules::read_policy;
+use policy_json::read_policy;
 use service_endpoints::read_endpoints;
 use std::alloc::Global;
 use token_users::read_tokens;

@@ -1,5 +1,5 @@
 -- What is kept of a body that was handed on.
-use Rattle.std.proofs.Common.{◌≡◌, ℕ, ◌<◌, nat_le, Bool, true, false, if◌then◌else◌, List, [], length, Option, None, Some, sym, ap, ◌∙◌, arith}
+use Rattle.std.proofs.Common.{◌≡◌, ℕ, ◌<◌, nat_le, Bool, true, false, if◌then◌else◌, List, [], length, None, Some, sym, ap, ◌∙◌, arith}
 use Rattle.audit_core.specs.Exchange.{sent_body}
 use Rattle.exchange_replies.specs.Sent.{is_head}
 use Rattle.http_edge.specs.declared.request.Request.{Request}

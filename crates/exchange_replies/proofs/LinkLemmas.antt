@@ -1,10 +1,10 @@
 -- A link that is handed back.
-use Rattle.std.proofs.Common.{◌≡◌, ℕ, ◌⊎◌, Bool, List, [], ◌∷◌, ◌++◌, length, Option, None, Some, refl, sym, ap, subst, ◌∙◌, append_assoc, append-nil, inl, inr}
+use Rattle.std.proofs.Common.{◌≡◌, ℕ, ◌⊎◌, Bool, List, [], ◌∷◌, ◌++◌, Option, None, Some, refl, sym, ap, subst, ◌∙◌, append_assoc, append-nil, inl, inr}
 use Rattle.std.specs.Io.KnownBytes.{Consumes}
 use Rattle.body_frames.specs.declared.frame.Frame.{Frame}
 use Rattle.exchange_replies.specs.Sent.{DialState}
 use Rattle.exchange_replies.specs.Streams.{Closes}
-use Rattle.forward_link.specs.Exchange.{Answered, NotesOpen, NotesOne, Opened, LinkState}
+use Rattle.forward_link.specs.Exchange.{NotesOpen, NotesOne, LinkState}
 use Rattle.forward_link.specs.Reading.{rest_of}
 use Rattle.forward_link.specs.Says.{stream, Got}
 use Rattle.forward_link.specs.declared.kind.TheConstants.{MOST_INTERIM}

@@ -1,10 +1,10 @@
 -- What the bytes of a link say goes on with more bytes, where a reply streams.
-use Rattle.std.proofs.Common.{◌≡◌, ℕ, zero, suc, ◌≤◌, nat_le, Bool, true, false, if◌then◌else◌, List, ◌++◌, length, take, drop, Option, None, Some, refl, sym, ap, subst, ◌∙◌}
+use Rattle.std.proofs.Common.{◌≡◌, ℕ, zero, suc, ◌≤◌, nat_le, Bool, true, false, if◌then◌else◌, List, ◌++◌, length, take, drop, Option, None, Some, sym, ap, subst, ◌∙◌}
 use Rattle.std.proofs.Math.Seq.{take-append-le}
 use Rattle.std.proofs.lemmas.List.{drop-append-le}
 use Rattle.body_frames.specs.declared.frame.Frame.{Frame}
 use Rattle.forward_link.specs.Kinds.{kind_of, whole_size}
-use Rattle.forward_link.specs.Says.{Said, stream, whole, bad, cut, said_of, KindSays, AnswerSays, FirstSays, Says, Got}
+use Rattle.forward_link.specs.Says.{Said, stream, whole, bad, cut, said_of, KindSays, AnswerSays, FirstSays, Says}
 use Rattle.forward_link.specs.declared.kind.HeadKind.{HeadKind}
 use Rattle.forward_link.specs.declared.kind.HeadKind.TheVariants.{Interim, Refused, Final}
 use Rattle.http_head.specs.Block.{block_in, line_count}

@@ -1,12 +1,11 @@
 -- What was sent on, once its reply was written or given up.
-use Rattle.std.proofs.Common.{◌≡◌, ℕ, ◌⊎◌, Bool, List, [], ◌++◌, Option, None, Some, refl, sym, subst, append-nil, inl, inr}
-use Rattle.std.specs.Prelude.{Result, Ok, Err, OnErr, IfOk}
+use Rattle.std.proofs.Common.{◌≡◌, ℕ, Bool, List, [], ◌++◌, Option, None, Some, refl, sym, subst, append-nil, inl, inr}
 use Rattle.std.proofs.KnownBytes.{Consumes-nil}
 use Rattle.audit_core.specs.declared.routed.Handling.{Handling}
 use Rattle.body_frames.specs.declared.frame.Frame.{Frame}
 use Rattle.exchange_replies.specs.Client.{client_text}
-use Rattle.exchange_replies.specs.Sent.{Sent, DialState, is_head}
-use Rattle.exchange_replies.specs.Streams.{once, streamed, Forwards, Comes, ComesTo, Closes, RepliedOnce, RepliedTo, RepliedPart, Streamed, StreamedPart, GivenBack}
+use Rattle.exchange_replies.specs.Sent.{DialState, is_head}
+use Rattle.exchange_replies.specs.Streams.{once, streamed, ComesTo, Closes, RepliedOnce, RepliedTo, RepliedPart, Streamed, StreamedPart, GivenBack}
 use Rattle.exchange_replies.specs.declared.reached.Reached.{Reached}
 use Rattle.exchange_replies.specs.declared.sent_on.SentOn.{SentOn}
 use Rattle.exchange_replies.specs.declared.sent_on.SentOn.TheVariants.{Once, Open}

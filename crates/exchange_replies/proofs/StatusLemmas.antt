@@ -1,5 +1,5 @@
 -- Statuses of this server's own replies.
-use Rattle.std.proofs.Common.{◌≡◌, ℕ, Bool, true, false, ◌||◌, if◌then◌else◌, List, Option, Some, None, Result, Ok, Err, bytes_eq, codes, arith}
+use Rattle.std.proofs.Common.{ℕ, Bool, true, false, if◌then◌else◌, List, Option, Some, None, bytes_eq, codes, arith}
 use Rattle.std.specs.List.{list_any}
 use Rattle.apiservice_rows.specs.Row.{Row}
 use Rattle.apiservice_rows.specs.declared.service.ServiceRef.{ServiceRef}

@@ -1,6 +1,6 @@
 -- The text of a reply that streams, and what is written of it.
-use Rattle.std.proofs.Common.{◌≡◌, ℕ, ◌+◌, ◌≤◌, ◌<◌, ◌⊎◌, ◌^◌, min, Bool, true, false, if◌then◌else◌, nat_le, List, [], ◌∷◌, ◌++◌, length, take, Option, None, Some, refl, sym, ap, subst, ◌∙◌, arith, append_assoc, append-nil, length-append, inl, inr}
-use Rattle.std.specs.Prelude.{All, Result, Ok, Err, IfOk, OnErr}
+use Rattle.std.proofs.Common.{◌≡◌, ℕ, ◌+◌, ◌≤◌, ◌⊎◌, min, Bool, List, [], ◌∷◌, ◌++◌, length, take, Option, refl, sym, ap, subst, ◌∙◌, arith, append_assoc, append-nil, length-append, inl, inr}
+use Rattle.std.specs.Prelude.{All, Result, Ok, Err, OnErr}
 use Rattle.std.proofs.KnownBytes.{Appends-trans, Consumes-nil}
 use Rattle.std.proofs.Math.Seq.{take-append-le, take-append-add, take-length}
 use Rattle.std.proofs.lemmas.Grind.{flat_map-append}
@@ -26,7 +26,7 @@ use Rattle.stage_event.specs.Due.{is_due}
 use Rattle.stage_event.specs.declared.facts.Kept.{Kept}
 use Rattle.stage_event.specs.declared.show.Show.{Show}
 use Rattle.stream_relay.specs.Keep.{Keeps}
-use Rattle.stream_relay.specs.Relay.{Output, Ended, Lost, Stopped, OfPiece, OfEnd, Relays}
+use Rattle.stream_relay.specs.Relay.{Output, Ended, Stopped, OfPiece, OfEnd, Relays}
 use Rattle.stream_relay.specs.Stream.{Says, body_in, piece_text, pieces_text, joined, last_of, ending}
 use Rattle.stream_relay.specs.declared.keep.Keep.{Keep}
 use Rattle.stream_relay.specs.declared.stream.Relayed.{Relayed}

@@ -1,5 +1,5 @@
 -- The bytes that a client gets (Kubernetes, "API Aggregation Layer").
-use Rattle.std.specs.Prelude.{ℕ, Bool, ◌==◌, true, false, if◌then◌else◌, List, [], ◌++◌, length, Some}
+use Rattle.std.specs.Prelude.{ℕ, Bool, ◌==◌, if◌then◌else◌, List, [], ◌++◌, length, Some}
 use Rattle.audit_core.specs.declared.routed.Handling.{Handling}
 use Rattle.audit_core.specs.declared.routed.Handling.TheVariants.{Refused, Served, Proxied}
 use Rattle.exchange_replies.specs.Own.{own_text}

@@ -1,5 +1,5 @@
 -- Replies of this server's own, as bytes (RFC 9110, section 8; RFC 9112, section 6).
-use Rattle.std.specs.Prelude.{ℕ, Bool, true, false, List, [], ◌∷◌, ◌++◌, length, codes, decimal, if◌then◌else◌, Option, Some, None}
+use Rattle.std.specs.Prelude.{◌≡◌, ◌⊎◌, ℕ, Bool, true, false, List, [], ◌∷◌, ◌++◌, length, codes, decimal, if◌then◌else◌, Option, Some, None}
 use Rattle.forward_link.specs.Client.{close_header}
 use Rattle.front_base.specs.AuditId.{AuditId, audit_id_text}
 use Rattle.http_head.specs.Written.{named, reply_text}
@@ -30,6 +30,10 @@ own_head_text reply id closing = reply_text (own_head reply id closing)
 abbrev pub own_text : Bool → LocalReply → Option AuditId → Bool → List ℕ
 own_text is_head reply id closing =
     own_head_text reply id closing ++ (if is_head then [] else reply.body)
+
+-- the codes of what is no request: it can't be read, its body or its head is too large
+abbrev pub IsUnread : ℕ → Type 0
+IsUnread code = (code ≡ 400) ⊎ ((code ≡ 413) ⊎ (code ≡ 431))
 
 -- the refusal of what is no request, after which the connection closes
 abbrev pub refusal_text : ℕ → List ℕ

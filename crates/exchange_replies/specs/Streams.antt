@@ -1,5 +1,5 @@
 -- A reply that is handed on as it comes (RFC 9112, sections 6.3, 7.1 and 8).
-use Rattle.std.specs.Prelude.{◌≡◌, ℕ, ◌⊎◌, ◌==◌, ⊤, Bool, true, false, List, ◌++◌, take, Option, Some, None, All}
+use Rattle.std.specs.Prelude.{◌≡◌, ℕ, ◌⊎◌, ◌==◌, ⊤, Bool, List, ◌++◌, Option, Some, None, All}
 use Rattle.std.specs.Io.KnownBytes.{Appends}
 use Rattle.audit_core.specs.Answer as answer
 use Rattle.audit_core.specs.Exchange.{sent_body}
@@ -9,7 +9,7 @@ use Rattle.audit_core.specs.declared.routed.Handling.{Handling}
 use Rattle.body_frames.specs.Chunks.{IsPiece}
 use Rattle.body_frames.specs.declared.frame.Frame.{Frame}
 use Rattle.exchange_replies.specs.Client.{client_text}
-use Rattle.exchange_replies.specs.Sent.{is_head, Sent, DialState, Reaches, StopsSending, note_of, body_of}
+use Rattle.exchange_replies.specs.Sent.{is_head, Sent, DialState, Reaches, note_of, body_of}
 use Rattle.exchange_replies.specs.Statuses.{IsFinalReached, IsStatus}
 use Rattle.exchange_replies.specs.declared.reached.Reached.{Reached}
 use Rattle.exchange_replies.specs.declared.sent_on.SentOn.{SentOn}

@@ -12,14 +12,15 @@
 mod client;
 mod own;
 mod reached;
+mod refusals;
 mod sending;
 mod sent_on;
 mod statuses;
 mod streaming;
 mod writing;
 
-pub use own::refusal_text;
 pub use reached::Reached;
+pub use refusals::refusal_text;
 pub use sending::forward;
 pub use sent_on::SentOn;
 pub use statuses::statuses_are_final;

@@ -3,7 +3,6 @@ ghost use Rattle.std.specs.Prelude.{◌≡◌, ◌≤◌, ◌<◌, ◌++◌, ◌
 ghost use Rattle.exchange_replies.specs.Own as spec;
 ghost use Rattle.forward_link.specs.Client.{close_header};
 ghost use Rattle.http_head.specs.Written.{header_lines, named};
-ghost use Rattle.local_replies.specs.Status.{refusal};
 
 use front_base::{AuditId, NoMemory, audit_id_text};
 use http_head::{push_end, push_header, push_status_line};
@@ -62,16 +61,5 @@ pub fn own_head(
     push_length(alloc, &mut out, reply.body.as_slice().len())?;
     push_close(&mut out, closing)?;
     push_end(&mut out)?;
-    Ok(out)
-}
-
-/// The whole refusal of what is no request, after which the connection closes.
-pub fn refusal_text(alloc: Global, code: u16) -> Result<Vec<u8>, NoMemory>
-    requires { 100 ≤ code × code < 1000 }
-    ensures { IfOk result (λ text. text.items ≡ spec.refusal_text code) }
-{
-    let reply = local_replies::refusal(alloc, code)?;
-    let mut out = own_head(alloc, &reply, None, true)?;
-    out.extend_from_slice(reply.body.as_slice())?;
     Ok(out)
 }

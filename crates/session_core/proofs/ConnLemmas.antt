@@ -1,10 +1,13 @@
 -- A connection goes on from request to request.
-use Rattle.std.proofs.Common.{◌≡◌, ℕ, ◌+◌, ◌≤◌, ◌⊎◌, true, false, List, [], ◌∷◌, ◌++◌, length, take, Option, Some, None, refl, sym, ap, ◌∙◌, subst, append_assoc, append-nil, inl, inr, arith}
+use Rattle.std.proofs.Common.{◌≡◌, ℕ, ◌+◌, ◌≤◌, ◌<◌, ◌⊎◌, Bool, true, false, List, [], ◌∷◌, ◌++◌, take, Option, Some, None, refl, sym, ap, ◌∙◌, subst, append_assoc, append-nil, inl, inr, arith}
 use Rattle.std.specs.Prelude.{IfSome}
 use Rattle.std.specs.Io.KnownBytes.{Consumes, Appends, IsAtEnd}
-use Rattle.std.proofs.Math.Seq.{take-nil}
 use Rattle.std.proofs.KnownBytes.{Consumes-nil, Consumes-trans, Appends-nil, Appends-trans}
+use Rattle.audit_core.specs.Offers.{Due}
 use Rattle.audit_core.specs.declared.settings.Settings.{Settings}
+use Rattle.audit_core.specs.declared.stamp.Stamp.{Stamp}
+use Rattle.exchange_replies.specs.Own.{refusal_text}
+use Rattle.exchange_replies.specs.Streams.{WritesTo}
 use Rattle.front_base.specs.declared.audit_id.TheConstants.{MOST_REQUESTS}
 use Rattle.front_ports.specs.Cause.{Rose}
 use Rattle.front_ports.specs.Side.{Side}
@@ -17,16 +20,16 @@ use Rattle.http_edge.specs.declared.request.Request.{Request}
 use Rattle.http_edge.specs.declared.request.Stop.{Stop}
 use Rattle.http_edge.specs.declared.request.Stop.TheVariants as stop
 use Rattle.session_core.specs.Bays.{BayState}
-use Rattle.session_core.specs.Connection.{ConnState, Ran, FirstOf, refusal_of, refusal_by, ServedAll, ServedTaken, ServedCut, ServedBroken, ServedMost, ServedFirst, HaltsAt, Serves}
-use Rattle.session_core.specs.Ends.{SoFar, end_of_stop, refusal_at}
-use Rattle.session_core.specs.Exchange.{Exchanged, ExchangedTo, Halted, Unbegun}
+use Rattle.session_core.specs.Connection.{ConnState, Ran, FirstOf, refusal_of, WritesRefusal, ServedAll, ServedTaken, ServedCut, ServedBroken, ServedMost, ServedFirst, HaltsAt, Serves}
+use Rattle.session_core.specs.Ends.{Refuses, RefusesAt, ServesNext, ServesOne, SoFar, end_after, end_of_stop}
+use Rattle.session_core.specs.Exchange.{Exchanged, ExchangedTo, Halted, ReplyStopped, StoppedAt, StopsAtEnd, StopsBeforeEnd, Unbegun}
 use Rattle.session_core.specs.Parts.{Outcomes}
-use Rattle.session_core.specs.declared.session.Outcome.TheVariants as outcome
 use Rattle.session_core.specs.declared.conn_end.ConnEnd.{ConnEnd}
-use Rattle.session_core.specs.declared.conn_end.ConnEnd.TheVariants as conn_end
+use Rattle.session_core.specs.declared.exchange.Exchange.{Exchange}
+use Rattle.session_core.specs.declared.session.Outcome.{Outcome}
+use Rattle.session_core.specs.declared.session.Outcome.TheVariants as outcome
 use Rattle.stream_relay.specs.declared.stream.Relayed.{Relayed}
 use Rattle.stream_relay.specs.declared.stream.Relayed.TheVariants as relayed
-use Rattle.session_core.proofs.ChainLemmas.{grows_none}
 use Rattle.session_core.proofs.ListLemmas.{StartsStay, RefusalsStay, reads_more, reads_one, list_stop, list_asked, first_of, first_one, stop_whole}
 
 -- what holds of all bytes that begin with those taken holds of the input
@@ -43,26 +46,86 @@ of_ended None c taken P h f = tt
 of_ended (Some xs) None taken P h f = absurd h
 of_ended (Some xs) (Some ys) taken P h f = subst P (sym h) (f ys (λ e. e))
 
-pub rose_earlier : (a b c : ℕ) → a ≤ b → Rose b c → Rose a c
+rose_earlier : (a b c : ℕ) → a ≤ b → Rose b c → Rose a c
 rose_earlier a b c h r = omega (arith, h, r)
 
-pub ran_one : (set : Settings) (peer : List ℕ) (m k n : BayState) (rs : List Request) (r : Request) (out text : List ℕ)
-    → Ran set peer m rs out k → Exchanged set peer r k text n → Ran set peer m (rs ++ r ∷ []) (out ++ text) n
-ran_one set peer m k n [] r out text h x = (
+-- a write that failed later failed
+
+writes_later : (w0 w : Option (List ℕ)) (text : List ℕ) (rose later : Type 0) (end : Relayed) → (rose → later)
+    → WritesTo w0 w text rose end → WritesTo w0 w text later end
+writes_later w0 w text rose later relayed.Done go h = h
+writes_later w0 w text rose later relayed.BackendCut go h = h
+writes_later w0 w text rose later relayed.StreamSpent go h = h
+writes_later w0 w text rose later relayed.WriteFault go h = (h.0, go h.1)
+
+module _ (set : Settings) (peer : List ℕ) (r : Request) (m n : BayState) (w0 w : Option (List ℕ)) (rose later : Type 0) (x : Exchange) (go : rose → later) where
+  reply_later : (stamp : Stamp) (due : List Due) → ReplyStopped set r m n w0 w rose stamp due x → ReplyStopped set r m n w0 w later stamp due x
+  reply_later stamp due h = record {
+    routed = h.routed;
+    came = h.came;
+    sent = h.sent;
+    link_is = h.link_is;
+    status_is = h.status_is;
+    where_is = by h.where_is;
+  }
+    where
+      by : StopsBeforeEnd set r m n w0 w stamp due h.came x ⊎ StopsAtEnd set r m n w0 w rose stamp due h.came x
+          → StopsBeforeEnd set r m n w0 w stamp due h.came x ⊎ StopsAtEnd set r m n w0 w later stamp due h.came x
+      by (inl q) = inl q
+      by (inr q) =
+          inr (record {
+            end = q.end;
+            text = q.text;
+            text_is = q.text_is;
+            written = writes_later w0 w q.text rose later q.end go q.written;
+            answered = q.answered;
+            timed = q.timed;
+            due_is = q.due_is;
+          })
+
+  stopped_later : (stamp : Stamp) (due : List Due) → StoppedAt set r m n w0 w rose stamp due x → StoppedAt set r m n w0 w later stamp due x
+  stopped_later stamp due (inl q) = inl q
+  stopped_later stamp due (inr (inl q)) = inr (inl q)
+  stopped_later stamp due (inr (inr q)) = inr (inr (reply_later stamp due q))
+
+  halted_later : Halted set peer r m n w0 w rose x → Halted set peer r m n w0 w later x
+  halted_later h = record {
+    request_is = h.request_is;
+    begun = h.begun;
+    due = h.due;
+    rest = h.rest;
+    due_is = h.due_is;
+    offered = h.offered;
+    stopped = stopped_later h.begun.stamp h.due h.stopped;
+    noted = h.noted;
+    number_is = h.number_is;
+    boot_is = h.boot_is;
+    opening_is = h.opening_is;
+  }
+
+ran_one : (set : Settings) (peer : List ℕ) (m k n : BayState) (rs : List Request) (r : Request) (out text : List ℕ) (xs : List Exchange) (x : Exchange)
+    → Ran set peer m rs out k xs → Exchanged set peer r k text n x → Ran set peer m (rs ++ r ∷ []) (out ++ text) n (xs ++ x ∷ [])
+ran_one set peer m k n [] r out text xs x h e = (
   text,
   [],
   n,
-  subst (λ (s : BayState). Exchanged set peer r s text n) h.1 x,
+  x,
+  [],
+  subst (λ (s : BayState). Exchanged set peer r s text n x) h.1 e,
   ap (λ l. l ++ text) h.0 ∙ sym (append-nil text),
-  (refl, refl),
+  ap (λ l. l ++ x ∷ []) h.2,
+  (refl, refl, refl),
 )
-ran_one set peer m k n (q ∷ rs) r out text h x = (
+ran_one set peer m k n (q ∷ rs) r out text xs x h e = (
   h.0,
   h.1 ++ text,
   h.2,
   h.3,
-  ap (λ l. l ++ text) h.4 ∙ append_assoc h.0 h.1 text,
-  ran_one set peer h.2 k n rs r h.1 text h.5 x,
+  h.4 ++ x ∷ [],
+  h.5,
+  ap (λ l. l ++ text) h.6 ∙ append_assoc h.0 h.1 text,
+  ap (λ l. l ++ x ∷ []) h.7,
+  ran_one set peer h.2 k n rs r h.1 text h.4 x h.8 e,
 )
 
 pub none_so_far : (set : Settings) (peer : List ℕ) (m : BayState) (a w : Option (List ℕ)) (x : List ℕ) → x ≡ [] → SoFar set peer m m a a x w w
@@ -72,307 +135,308 @@ none_so_far set peer m a w x e = record {
   consumed = Consumes-nil a;
   reads = sym e;
   out = [];
-  ran = (refl, refl);
+  exchanges = [];
+  ran = (refl, refl, refl);
   written = Appends-nil w;
 }
 
 -- nothing was done
 still : (m : BayState) (w : Option (List ℕ)) → Unbegun m m w w
-still m w = record { moments = []; given = grows_none m.given; few = omega arith; same = refl; written = refl }
-
-take_none : (n : ℕ) → ◌≡◌ {A = List ℕ} (take n []) []
-take_none n = take-nil n
+still m w = record { clock = inl (refl, refl); same = refl; written = refl }
 
 -- memory ran out before the first read
-pub never_begun : (set : Settings) (peer : List ℕ) (m : BayState) (c : ConnState) → ServedFirst set peer m m c c
-never_begun set peer m c = record {
-  requests = [];
-  first = some_input c.left;
-  out = [];
-  middle = m;
-  ran = (refl, refl);
-  so_far = c.written;
-  written = Appends-nil c.written;
-  halts = inl (still m c.written);
-}
+pub never_begun : (set : Settings) (peer : List ℕ) (m : BayState) (c : ConnState) → (xs : List Exchange) × ServedFirst set peer m m c c xs
+never_begun set peer m c = (
+  [],
+  record {
+    requests = [];
+    first = some_input c.left;
+    out = [];
+    middle = m;
+    before = [];
+    ran = (refl, refl, refl);
+    so_far = c.written;
+    written = Appends-nil c.written;
+    last = [];
+    halts = inl (refl, still m c.written);
+    exchanges_are = refl;
+  },
+)
   where
     some_input : (o : Option (List ℕ)) → IfSome o (λ input. FirstOf input [])
     some_input None = tt
     some_input (Some xs) = tt
 
--- a request stands next
-pub record Standing (set : Settings) (peer : List ℕ) (m k : BayState) (a c : Option (List ℕ)) (y : List ℕ) (w0 w : Option (List ℕ)) (r : Request) : Type 0 where
-  pub requests : List Request
-  pub taken : List ℕ
-  pub middle : List ℕ
-  pub consumed : Consumes a c taken
-  pub reads : ReadsTo taken requests middle
-  pub starts : StartsWith middle r y
-  pub out : List ℕ
-  pub ran : Ran set peer m requests out k
-  pub written : Appends w0 w out
+-- ---- from what was so far, over one call
 
-module _ (law : StartsStay) (refusals : RefusalsStay) (set : Settings) (peer : List ℕ) (m k : BayState) (a b c : Option (List ℕ)) (x : List ℕ)
-    (w0 w : Option (List ℕ)) (s : SoFar set peer m k a b x w0 w) where
-  pub stand : (y : List ℕ) (r : Request) → GotRequest b c x y r → Standing set peer m k a c y w0 w r
-  stand y r g = record {
-    requests = s.requests;
-    taken = s.taken ++ g.seen.taken;
-    middle = x ++ g.seen.taken;
-    consumed = Consumes-trans a b c s.taken g.seen.taken s.consumed g.seen.consumed;
-    reads = reads_more law s.taken g.seen.taken x s.requests s.reads;
-    starts = subst (λ l. StartsWith l r y) g.seen.all g.starts;
-    out = s.out;
-    ran = s.ran;
-    written = s.written;
-  }
+module _ (law : StartsStay) (refusals : RefusalsStay) (set : Settings) (peer : List ℕ) (m k n : BayState) (a b c : ConnState) (x y : List ℕ)
+    (s : SoFar set peer m k a.left b.left x a.written b.written) where
+  -- ---- no request came
 
-  stopped_all : (u : Option (List ℕ)) (rf wf rf' wf' : ℕ) (e : End) → Stopped b c x e → AppendsFront w u (refusal_by (refusal_of e))
-      → ServedAll set peer m k (record { left = a; written = w0; read_faults = rf; write_faults = wf })
-      (record { left = c; written = u; read_faults = rf'; write_faults = wf' }) e
-  stopped_all u rf wf rf' wf' e t front =
-      let taken = s.taken ++ t.seen.taken in
-      let consumed : Consumes a c taken = Consumes-trans a b c s.taken t.seen.taken s.consumed t.seen.consumed in
-      let reads : ReadsTo taken s.requests (x ++ t.seen.taken) = reads_more law s.taken t.seen.taken x s.requests s.reads in
-      let stop : IsStop (x ++ t.seen.taken) e = subst (λ l. IsStop l e) t.seen.all t.stop in
-      record {
-        requests = s.requests;
-        taken = taken;
-        consumed = consumed;
-        list = list_stop taken (x ++ t.seen.taken) s.requests e reads stop;
-        whole = of_ended a c taken (λ input. IsRequests input s.requests e) consumed (λ ys at_end.
-            list_stop (taken ++ ys) ((x ++ t.seen.taken) ++ ys) s.requests e (reads_more law taken ys (x ++ t.seen.taken) s.requests reads)
-            (stop_whole refusals (x ++ t.seen.taken) ys e (IsAtEnd c) stop t.at_end at_end));
-        out = s.out;
-        ran = s.ran;
-        count = front.0;
-        written = Appends-trans w0 w u s.out (take front.0 (refusal_by (refusal_of e))) s.written front.1;
-      }
+  module _ (refused : n ≡ k) where
+    now : Ran set peer m s.requests s.out n s.exchanges
+    now = subst (λ (q : BayState). Ran set peer m s.requests s.out q s.exchanges) (sym refused) s.ran
 
-  fault_taken : (u : Option (List ℕ)) (rf wf rf' wf' : ℕ) → Awaits b c x → Appends w u []
-      → ServedTaken set peer m k (record { left = a; written = w0; read_faults = rf; write_faults = wf })
-      (record { left = c; written = u; read_faults = rf'; write_faults = wf' })
-  fault_taken u rf wf rf' wf' t none = record {
-    requests = s.requests;
-    taken = s.taken ++ t.seen.taken;
-    rest = x ++ t.seen.taken;
-    consumed = Consumes-trans a b c s.taken t.seen.taken s.consumed t.seen.consumed;
-    reads = reads_more law s.taken t.seen.taken x s.requests s.reads;
-    awaits = subst IsUnfinished t.seen.all t.awaits;
-    out = s.out;
-    ran = s.ran;
-    written = subst (Appends w0 u) (append-nil s.out) (Appends-trans w0 w u s.out [] s.written none);
-  }
+    written_by : (code : Option ℕ) → a.write_faults ≤ b.write_faults → Refuses code b.written c.written (Rose b.write_faults c.write_faults)
+        → WritesRefusal a c s.out code
+    written_by None le h = subst (λ o. Appends a.written o s.out) (sym h) s.written
+    written_by (Some code) le (inl h) = inl (Appends-trans a.written b.written c.written s.out (refusal_text code) s.written h)
+    written_by (Some code) le (inr h) =
+        inr (
+          h.0.0,
+          Appends-trans a.written b.written c.written s.out (take h.0.0 (refusal_text code)) s.written h.0.1,
+          rose_earlier a.write_faults b.write_faults c.write_faults le h.1,
+        )
 
-  -- memory ran out while the next request was read
-  memory_first : (u : Option (List ℕ)) (rf wf rf' wf' : ℕ) → Appends w u []
-      → ServedFirst set peer m k (record { left = a; written = w0; read_faults = rf; write_faults = wf })
-      (record { left = c; written = u; read_faults = rf'; write_faults = wf' })
-  memory_first u rf wf rf' wf' none = record {
-    requests = s.requests;
-    first = of_input a b s.taken (λ input. FirstOf input s.requests) s.consumed (λ ys.
-        first_of (s.taken ++ ys) (x ++ ys) s.requests (reads_more law s.taken ys x s.requests s.reads));
-    out = s.out;
-    middle = k;
-    ran = s.ran;
-    so_far = u;
-    written = subst (Appends w0 u) (append-nil s.out) (Appends-trans w0 w u s.out [] s.written none);
-    halts = inl (still k u);
-  }
+    stopped_all : (e : End) → a.write_faults ≤ b.write_faults → Stopped b.left c.left x e
+        → Refuses (refusal_of e) b.written c.written (Rose b.write_faults c.write_faults) → ServedAll set peer m n a c e s.exchanges
+    stopped_all e le t writes =
+        let taken = s.taken ++ t.seen.taken in
+        let consumed : Consumes a.left c.left taken = Consumes-trans a.left b.left c.left s.taken t.seen.taken s.consumed t.seen.consumed in
+        let reads : ReadsTo taken s.requests (x ++ t.seen.taken) = reads_more law s.taken t.seen.taken x s.requests s.reads in
+        let stop : IsStop (x ++ t.seen.taken) e = subst (λ l. IsStop l e) t.seen.all t.stop in
+        record {
+          requests = s.requests;
+          taken = taken;
+          consumed = consumed;
+          list = list_stop taken (x ++ t.seen.taken) s.requests e reads stop;
+          whole = of_ended a.left c.left taken (λ input. IsRequests input s.requests e) consumed (λ ys at_end.
+              list_stop (taken ++ ys) ((x ++ t.seen.taken) ++ ys) s.requests e (reads_more law taken ys (x ++ t.seen.taken) s.requests reads)
+              (stop_whole refusals (x ++ t.seen.taken) ys e (IsAtEnd c.left) stop t.at_end at_end));
+          out = s.out;
+          ran = now;
+          written = written_by (refusal_of e) le writes;
+        }
 
-  front_none : (u : Option (List ℕ)) → AppendsFront w u [] → Appends w u []
-  front_none u f = subst (Appends w u) (take_none f.0) f.1
+    fault_taken : Awaits b.left c.left x → c.written ≡ b.written → ServedTaken set peer m n a c s.exchanges
+    fault_taken t same = record {
+      requests = s.requests;
+      taken = s.taken ++ t.seen.taken;
+      rest = x ++ t.seen.taken;
+      consumed = Consumes-trans a.left b.left c.left s.taken t.seen.taken s.consumed t.seen.consumed;
+      reads = reads_more law s.taken t.seen.taken x s.requests s.reads;
+      awaits = subst IsUnfinished t.seen.all t.awaits;
+      out = s.out;
+      ran = now;
+      written = subst (λ o. Appends a.written o s.out) (sym same) s.written;
+    }
 
-  pub stop_serves : (u : Option (List ℕ)) (rf rb wf rf' wf' : ℕ) (t : Stop) (own : ConnEnd) → rf ≤ rb → own ≡ end_of_stop t
-      → AppendsFront w u (refusal_at t) → NoRequest b c x (Rose rb rf') t
-      → Serves set peer m k (record { left = a; written = w0; read_faults = rf; write_faults = wf })
-      (record { left = c; written = u; read_faults = rf'; write_faults = wf' }) own
-  stop_serves u rf rb wf rf' wf' t own le is front h =
-      subst (λ (e : ConnEnd). Serves set peer m k (record { left = a; written = w0; read_faults = rf; write_faults = wf })
-      (record { left = c; written = u; read_faults = rf'; write_faults = wf' }) e) (sym is) (by t front h)
-    where
-      by : (t : Stop) → AppendsFront w u (refusal_at t) → NoRequest b c x (Rose rb rf') t
-          → Serves set peer m k (record { left = a; written = w0; read_faults = rf; write_faults = wf })
-          (record { left = c; written = u; read_faults = rf'; write_faults = wf' }) (end_of_stop t)
-      by (stop.Refused e) front h = stopped_all u rf wf rf' wf' e h front
-      by stop.ReadFault front h = (fault_taken u rf wf rf' wf' h.0 (front_none u front), rose_earlier rf rb rf' le h.1)
-      by stop.NoMemory front h = memory_first u rf wf rf' wf' (front_none u front)
+    -- memory ran out while the next request was read
+    memory_first : c.written ≡ b.written → ServedFirst set peer m n a c (s.exchanges ++ [])
+    memory_first same = record {
+      requests = s.requests;
+      first = of_input a.left b.left s.taken (λ input. FirstOf input s.requests) s.consumed (λ ys.
+          first_of (s.taken ++ ys) (x ++ ys) s.requests (reads_more law s.taken ys x s.requests s.reads));
+      out = s.out;
+      middle = n;
+      before = s.exchanges;
+      ran = now;
+      so_far = c.written;
+      written = subst (λ o. Appends a.written o s.out) (sym same) s.written;
+      last = [];
+      halts = inl (refl, still n c.written);
+      exchanges_are = refl;
+    }
 
-module _ (law : StartsStay) (set : Settings) (peer : List ℕ) (m k n : BayState) (a c : Option (List ℕ)) (y : List ℕ) (w0 w u : Option (List ℕ))
-    (r : Request) (s : Standing set peer m k a c y w0 w r) where
-  first_with : IfSome a (λ input. FirstOf input (s.requests ++ r ∷ []))
-  first_with = of_input a c s.taken (λ input. FirstOf input (s.requests ++ r ∷ [])) s.consumed (λ ys.
-      first_one (s.taken ++ ys) (s.middle ++ ys) (y ++ ys) s.requests r (reads_more law s.taken ys s.middle s.requests s.reads)
-      (law s.middle ys y r s.starts))
+    by_stop : (t : Stop) → a.read_faults ≤ b.read_faults → a.write_faults ≤ b.write_faults → NoRequest b.left c.left x (Rose b.read_faults c.read_faults) t
+        → RefusesAt t b.written c.written (Rose b.write_faults c.write_faults)
+        → (xs : List Exchange) × Serves set peer m n a c (end_of_stop t) xs
+    by_stop (stop.Refused e) lr lw h writes = (s.exchanges, stopped_all e lw h writes)
+    by_stop stop.ReadFault lr lw h writes =
+        (s.exchanges, (fault_taken h.0 writes, rose_earlier a.read_faults b.read_faults c.read_faults lr h.1))
+    by_stop stop.NoMemory lr lw h writes = (s.exchanges ++ [], memory_first writes)
 
-  pub more_so_far : (text : List ℕ) → asks r ≡ false → Exchanged set peer r k text n → Appends w u text → SoFar set peer m n a c y w0 u
-  more_so_far text e x h = record {
-    requests = s.requests ++ r ∷ [];
-    taken = s.taken;
-    consumed = s.consumed;
-    reads = reads_one s.taken s.middle y s.requests r s.reads s.starts e;
-    out = s.out ++ text;
-    ran = ran_one set peer m k n s.requests r s.out text s.ran x;
-    written = Appends-trans w0 w u s.out text s.written h;
-  }
+  -- ---- a request stood next
 
-  pub asked_all : (rf wf rf' wf' : ℕ) (text : List ℕ) → asks r ≡ true → Exchanged set peer r k text n → Appends w u text
-      → ServedAll set peer m n (record { left = a; written = w0; read_faults = rf; write_faults = wf })
-      (record { left = c; written = u; read_faults = rf'; write_faults = wf' }) end.Asked
-  asked_all rf wf rf' wf' text e x h = record {
-    requests = s.requests ++ r ∷ [];
-    taken = s.taken;
-    consumed = s.consumed;
-    list = list_asked s.taken s.middle y s.requests r s.reads s.starts e;
-    whole = of_input a c s.taken (λ input. IsRequests input (s.requests ++ r ∷ []) end.Asked) s.consumed (λ ys.
-        list_asked (s.taken ++ ys) (s.middle ++ ys) (y ++ ys) s.requests r (reads_more law s.taken ys s.middle s.requests s.reads)
-        (law s.middle ys y r s.starts) e);
-    out = s.out ++ text;
-    ran = ran_one set peer m k n s.requests r s.out text s.ran x;
-    count = 0;
-    written = subst (Appends w0 u) (sym (append-nil (s.out ++ text))) (Appends-trans w0 w u s.out text s.written h);
-  }
+  module _ (r : Request) (g : GotRequest b.left c.left x y r) where
+    abbrev middle : List ℕ
+    middle = x ++ g.seen.taken
 
-  pub cut_last : (rf wf rf' wf' : ℕ) (text : List ℕ) → ExchangedTo set peer r k text n relayed.WriteFault → AppendsFront w u text
-      → ServedCut set peer m n (record { left = a; written = w0; read_faults = rf; write_faults = wf })
-      (record { left = c; written = u; read_faults = rf'; write_faults = wf' })
-  cut_last rf wf rf' wf' text x h = record {
-    requests = s.requests;
-    last = r;
-    first = first_with;
-    out = s.out;
-    middle = k;
-    ran = s.ran;
-    text = text;
-    cut = x;
-    count = h.0;
-    written = Appends-trans w0 w u s.out (take h.0 text) s.written h.1;
-  }
+    abbrev taken_now : List ℕ
+    taken_now = s.taken ++ g.seen.taken
 
-  pub broken_last : (end : Relayed) (rf wf rf' wf' : ℕ) (text : List ℕ) → ExchangedTo set peer r k text n end → Appends w u text
-      → ServedBroken set peer m n (record { left = a; written = w0; read_faults = rf; write_faults = wf })
-      (record { left = c; written = u; read_faults = rf'; write_faults = wf' }) end
-  broken_last end rf wf rf' wf' text x h = record {
-    requests = s.requests;
-    last = r;
-    first = first_with;
-    out = s.out;
-    middle = k;
-    ran = s.ran;
-    text = text;
-    broken = x;
-    written = Appends-trans w0 w u s.out text s.written h;
-  }
+    consumed_now : Consumes a.left c.left taken_now
+    consumed_now = Consumes-trans a.left b.left c.left s.taken g.seen.taken s.consumed g.seen.consumed
 
-  pub most : (rf wf rf' wf' : ℕ) → k.number ≡ MOST_REQUESTS
-      → ServedMost set peer m k (record { left = a; written = w0; read_faults = rf; write_faults = wf })
-      (record { left = c; written = w; read_faults = rf'; write_faults = wf' })
-  most rf wf rf' wf' e = record {
-    requests = s.requests;
-    next = r;
-    first = first_with;
-    out = s.out;
-    ran = s.ran;
-    written = s.written;
-    all = e;
-  }
+    reads_now : ReadsTo taken_now s.requests middle
+    reads_now = reads_more law s.taken g.seen.taken x s.requests s.reads
 
-  pub halts_next : (rf wf rf' wf' : ℕ) → Unbegun k n w u ⊎ Halted set peer r k n w u
-      → ServedFirst set peer m n (record { left = a; written = w0; read_faults = rf; write_faults = wf })
-      (record { left = c; written = u; read_faults = rf'; write_faults = wf' })
-  halts_next rf wf rf' wf' h = record {
-    requests = s.requests;
-    first = of_input a c s.taken (λ input. FirstOf input s.requests) s.consumed (λ ys.
-        first_of (s.taken ++ ys) (s.middle ++ ys) s.requests (reads_more law s.taken ys s.middle s.requests s.reads));
-    out = s.out;
-    middle = k;
-    ran = s.ran;
-    so_far = w;
-    written = s.written;
-    halts = by h;
-  }
-    where
-      by : Unbegun k n w u ⊎ Halted set peer r k n w u → HaltsAt set peer a s.requests k n w u
-      by (inl q) = inl q
-      by (inr q) = inr (r, first_with, q)
+    starts_now : StartsWith middle r y
+    starts_now = subst (λ l. StartsWith l r y) g.seen.all g.starts
 
--- ---- over the connection as it stands after each call
+    first_with : IfSome a.left (λ input. FirstOf input (s.requests ++ r ∷ []))
+    first_with = of_input a.left c.left taken_now (λ input. FirstOf input (s.requests ++ r ∷ [])) consumed_now (λ ys.
+        first_one (taken_now ++ ys) (middle ++ ys) (y ++ ys) s.requests r (reads_more law taken_now ys middle s.requests reads_now)
+        (law middle ys y r starts_now))
 
-pub stop_end : (law : StartsStay) (refusals : RefusalsStay) (set : Settings) (peer : List ℕ) (m k : BayState) (a b c l2 : Option (List ℕ)) (x : List ℕ)
-    (w0 w w1 u : Option (List ℕ)) (s : SoFar set peer m k a b x w0 w) (rf0 rf rf1 rf2 wf0 wf2 : ℕ) (t : Stop) (own : ConnEnd)
-    → rf0 ≤ rf → own ≡ end_of_stop t → w1 ≡ w → l2 ≡ c → rf2 ≡ rf1 → AppendsFront w1 u (refusal_at t) → NoRequest b c x (Rose rf rf1) t
-    → Serves set peer m k (record { left = a; written = w0; read_faults = rf0; write_faults = wf0 })
-    (record { left = l2; written = u; read_faults = rf2; write_faults = wf2 }) own
-stop_end law refusals set peer m k a b c l2 x w0 w w1 u s rf0 rf rf1 rf2 wf0 wf2 t own le is ew el er front h =
-    let from : ConnState = record { left = a; written = w0; read_faults = rf0; write_faults = wf0 } in
-    subst (λ (l : Option (List ℕ)). Serves set peer m k from (record { left = l; written = u; read_faults = rf2; write_faults = wf2 }) own) (sym el)
-    (subst (λ (f : ℕ). Serves set peer m k from (record { left = c; written = u; read_faults = f; write_faults = wf2 }) own) (sym er)
-    (stop_serves law refusals set peer m k a b c x w0 w s u rf0 rf wf0 rf1 wf2 t own le is
-    (subst (λ (o : Option (List ℕ)). AppendsFront o u (refusal_at t)) ew front) h))
+    first_only : IfSome a.left (λ input. FirstOf input s.requests)
+    first_only = of_input a.left c.left taken_now (λ input. FirstOf input s.requests) consumed_now (λ ys.
+        first_of (taken_now ++ ys) (middle ++ ys) s.requests (reads_more law taken_now ys middle s.requests reads_now))
 
-module _ (law : StartsStay) (set : Settings) (peer p1 : List ℕ) (m k n : BayState) (a c1 l3 : Option (List ℕ)) (y : List ℕ)
-    (w0 w w1 u : Option (List ℕ)) (rf0 rf3 wf0 wf1 wf3 : ℕ) (r : Request) (st : Standing set peer m k a c1 y w0 w r)
-    (ep : p1 ≡ peer) (ew : w1 ≡ w) (el : l3 ≡ c1) where
-  abbrev pub from : ConnState
-  from = record { left = a; written = w0; read_faults = rf0; write_faults = wf0 }
+    writes_more : (text : List ℕ) → Appends b.written c.written text → Appends a.written c.written (s.out ++ text)
+    writes_more text h = Appends-trans a.written b.written c.written s.out text s.written h
 
-  abbrev pub to : Option (List ℕ) → ConnState
-  to l = record { left = l; written = u; read_faults = rf3; write_faults = wf3 }
+    more_so_far : (text : List ℕ) (e : Exchange) → asks r ≡ false → Exchanged set peer r k text n e → Appends b.written c.written text
+        → SoFar set peer m n a.left c.left y a.written c.written
+    more_so_far text e goes h w = record {
+      requests = s.requests ++ r ∷ [];
+      taken = taken_now;
+      consumed = consumed_now;
+      reads = reads_one taken_now middle y s.requests r reads_now starts_now goes;
+      out = s.out ++ text;
+      exchanges = s.exchanges ++ e ∷ [];
+      ran = ran_one set peer m k n s.requests r s.out text s.exchanges e s.ran h;
+      written = writes_more text w;
+    }
 
-  exchanged_by : (text : List ℕ) (end : Relayed) → ExchangedTo set p1 r k text n end → ExchangedTo set peer r k text n end
-  exchanged_by text end x = subst (λ (p : List ℕ). ExchangedTo set p r k text n end) ep x
+    asked_all : (text : List ℕ) (e : Exchange) → asks r ≡ true → Exchanged set peer r k text n e → Appends b.written c.written text
+        → ServedAll set peer m n a c end.Asked (s.exchanges ++ e ∷ [])
+    asked_all text e ends h w = record {
+      requests = s.requests ++ r ∷ [];
+      taken = taken_now;
+      consumed = consumed_now;
+      list = list_asked taken_now middle y s.requests r reads_now starts_now ends;
+      whole = of_input a.left c.left taken_now (λ input. IsRequests input (s.requests ++ r ∷ []) end.Asked) consumed_now (λ ys.
+          list_asked (taken_now ++ ys) (middle ++ ys) (y ++ ys) s.requests r (reads_more law taken_now ys middle s.requests reads_now)
+          (law middle ys y r starts_now) ends);
+      out = s.out ++ text;
+      ran = ran_one set peer m k n s.requests r s.out text s.exchanges e s.ran h;
+      written = writes_more text w;
+    }
 
-  -- all that came of a reply that streamed was written
-  broken_by : (end : Relayed) (text : List ℕ) → ExchangedTo set p1 r k text n end → Appends w1 u text → ServedBroken set peer m n from (to l3) end
-  broken_by end text x h =
-      subst (λ (l : Option (List ℕ)). ServedBroken set peer m n from (to l) end) (sym el)
-      (broken_last law set peer m k n a c1 y w0 w u r st end rf0 wf0 rf3 wf3 text (exchanged_by text end x)
-      (subst (λ (v : Option (List ℕ)). Appends v u text) ew h))
+    cut_last : (text : List ℕ) (e : Exchange) → ExchangedTo set peer r k text n relayed.WriteFault e → AppendsFront b.written c.written text
+        → ServedCut set peer m n a c (s.exchanges ++ e ∷ [])
+    cut_last text e h w = record {
+      requests = s.requests;
+      last = r;
+      first = first_with;
+      out = s.out;
+      middle = k;
+      before = s.exchanges;
+      ran = s.ran;
+      text = text;
+      x = e;
+      cut = h;
+      exchanges_are = refl;
+      count = w.0;
+      written = writes_more (take w.0 text) w.1;
+    }
 
-  pub backend_end : Outcomes set p1 r k n w1 u (Rose wf1 wf3) outcome.BackendCut → ServedBroken set peer m n from (to l3) relayed.BackendCut
-  backend_end o = broken_by relayed.BackendCut o.0 o.1 o.2
+    broken_last : (end : Relayed) (text : List ℕ) (e : Exchange) → ExchangedTo set peer r k text n end e → Appends b.written c.written text
+        → ServedBroken set peer m n a c end (s.exchanges ++ e ∷ [])
+    broken_last end text e h w = record {
+      requests = s.requests;
+      last = r;
+      first = first_with;
+      out = s.out;
+      middle = k;
+      before = s.exchanges;
+      ran = s.ran;
+      text = text;
+      x = e;
+      broken = h;
+      exchanges_are = refl;
+      written = writes_more text w;
+    }
 
-  pub spent_end : Outcomes set p1 r k n w1 u (Rose wf1 wf3) outcome.StreamSpent → ServedBroken set peer m n from (to l3) relayed.StreamSpent
-  spent_end o = broken_by relayed.StreamSpent o.0 o.1 o.2
+    most : k.number ≡ MOST_REQUESTS → n ≡ k → c.written ≡ b.written → ServedMost set peer m n a c s.exchanges
+    most all same w =
+        subst (λ (q : BayState). ServedMost set peer m q a c s.exchanges) (sym same)
+        (record {
+          requests = s.requests;
+          next = r;
+          first = first_with;
+          out = s.out;
+          ran = s.ran;
+          written = subst (λ o. Appends a.written o s.out) (sym w) s.written;
+          all = all;
+        })
 
-  pub cut_end : wf0 ≤ wf1 → Outcomes set p1 r k n w1 u (Rose wf1 wf3) outcome.Cut → ServedCut set peer m n from (to l3) × Rose wf0 wf3
-  cut_end le o = (
-    subst (λ (l : Option (List ℕ)). ServedCut set peer m n from (to l)) (sym el)
-        (cut_last law set peer m k n a c1 y w0 w u r st rf0 wf0 rf3 wf3 o.0 (exchanged_by o.0 relayed.WriteFault o.1)
-        (subst (λ (v : Option (List ℕ)). AppendsFront v u o.0) ew o.2)),
-    rose_earlier wf0 wf1 wf3 le o.3,
-  )
+    halts_next : a.write_faults ≤ b.write_faults
+        → Unbegun k n b.written c.written ⊎ ((e : Exchange) × Halted set peer r k n b.written c.written (Rose b.write_faults c.write_faults) e)
+        → (xs : List Exchange) × ServedFirst set peer m n a c xs
+    halts_next le h =
+        let halts = by h in (
+          s.exchanges ++ halts.0,
+          record {
+            requests = s.requests;
+            first = first_only;
+            out = s.out;
+            middle = k;
+            before = s.exchanges;
+            ran = s.ran;
+            so_far = b.written;
+            written = s.written;
+            last = halts.0;
+            halts = halts.1;
+            exchanges_are = refl;
+          },
+        )
+      where
+        by : Unbegun k n b.written c.written ⊎ ((e : Exchange) × Halted set peer r k n b.written c.written (Rose b.write_faults c.write_faults) e)
+            → (xs : List Exchange) × HaltsAt set peer a.left s.requests k n b.written c.written (Rose a.write_faults c.write_faults) xs
+        by (inl q) = ([], inl (refl, q))
+        by (inr q) = (
+          q.0 ∷ [],
+          inr (
+            r,
+            q.0,
+            refl,
+            first_with,
+            halted_later set peer r k n b.written c.written (Rose b.write_faults c.write_faults)
+                (Rose a.write_faults c.write_faults) q.0 (rose_earlier a.write_faults b.write_faults c.write_faults le) q.1,
+          ),
+        )
 
-  memory_by : Unbegun k n w1 u ⊎ Halted set p1 r k n w1 u → Unbegun k n w u ⊎ Halted set peer r k n w u
-  memory_by (inl q) = inl (subst (λ (v : Option (List ℕ)). Unbegun k n v u) ew q)
-  memory_by (inr q) =
-      inr (subst (λ (p : List ℕ). Halted set p r k n w u) ep (subst (λ (v : Option (List ℕ)). Halted set p1 r k n v u) ew q))
+  -- ---- how it goes on
 
-  pub memory_end : Outcomes set p1 r k n w1 u (Rose wf1 wf3) outcome.NoMemory → ServedFirst set peer m n from (to l3)
-  memory_end o =
-      subst (λ (l : Option (List ℕ)). ServedFirst set peer m n from (to l)) (sym el)
-      (halts_next law set peer m k n a c1 y w0 w u r st rf0 wf0 rf3 wf3 (memory_by o))
+  -- it goes on, or it ended so
+  abbrev pub Goes : Option ConnEnd → Type 0
+  Goes None = SoFar set peer m n a.left c.left y a.written c.written
+  Goes (Some end) = (xs : List Exchange) × Serves set peer m n a c end xs
 
-  pub asked_end : asks r ≡ true → Outcomes set p1 r k n w1 u (Rose wf1 wf3) outcome.Whole → ServedAll set peer m n from (to l3) end.Asked
-  asked_end e o =
-      subst (λ (l : Option (List ℕ)). ServedAll set peer m n from (to l) end.Asked) (sym el)
-      (asked_all law set peer m k n a c1 y w0 w u r st rf0 wf0 rf3 wf3 o.0 e (exchanged_by o.0 relayed.Done o.1)
-      (subst (λ (v : Option (List ℕ)). Appends v u o.0) ew o.2))
+  by_outcome : (r : Request) (g : GotRequest b.left c.left x y r) (o : Outcome) (last : Bool) → asks r ≡ last → a.write_faults ≤ b.write_faults
+      → Outcomes set peer r k n b.written c.written (Rose b.write_faults c.write_faults) o → Goes (end_after o last)
+  by_outcome r g outcome.Whole true e le h = (s.exchanges ++ h.1 ∷ [], asked_all r g h.0 h.1 e h.2 h.3)
+  by_outcome r g outcome.Whole false e le h = more_so_far r g h.0 h.1 e h.2 h.3
+  by_outcome r g outcome.Cut last e le h =
+      (s.exchanges ++ h.1 ∷ [], (cut_last r g h.0 h.1 h.2 h.3, rose_earlier a.write_faults b.write_faults c.write_faults le h.4))
+  by_outcome r g outcome.BackendCut last e le h = (s.exchanges ++ h.1 ∷ [], broken_last r g relayed.BackendCut h.0 h.1 h.2 h.3)
+  by_outcome r g outcome.StreamSpent last e le h = (s.exchanges ++ h.1 ∷ [], broken_last r g relayed.StreamSpent h.0 h.1 h.2 h.3)
+  by_outcome r g outcome.NoMemory last e le h = halts_next r g le h
 
-  pub more_end : asks r ≡ false → Outcomes set p1 r k n w1 u (Rose wf1 wf3) outcome.Whole → SoFar set peer m n a l3 y w0 u
-  more_end e o =
-      subst (λ (l : Option (List ℕ)). SoFar set peer m n a l y w0 u) (sym el)
-      (more_so_far law set peer m k n a c1 y w0 w u r st o.0 e (exchanged_by o.0 relayed.Done o.1)
-      (subst (λ (v : Option (List ℕ)). Appends v u o.0) ew o.2))
+  by_one : (r : Request) (g : GotRequest b.left c.left x y r) (own : Option ConnEnd) → a.write_faults ≤ b.write_faults
+      → ServesOne set peer r k n b.written c.written (Rose b.write_faults c.write_faults) own → Goes own
+  by_one r g own le (inl h) = subst Goes (sym h.end_is) (by_outcome r g h.outcome (asks r) refl le h.served)
+  by_one r g own le (inr h) = subst Goes (sym h.end_is) (s.exchanges, most r g h.all h.same h.written)
 
-pub most_end : (law : StartsStay) (set : Settings) (peer : List ℕ) (m k : BayState) (a c : Option (List ℕ)) (y : List ℕ) (w0 w u : Option (List ℕ)) (r : Request)
-    (rf wf rf' wf' : ℕ) → Standing set peer m k a c y w0 w r → u ≡ w → k.number ≡ MOST_REQUESTS
-    → ServedMost set peer m k (record { left = a; written = w0; read_faults = rf; write_faults = wf })
-    (record { left = c; written = u; read_faults = rf'; write_faults = wf' })
-most_end law set peer m k a c y w0 w u r rf wf rf' wf' st e all =
-    subst (λ (o : Option (List ℕ)). ServedMost set peer m k (record { left = a; written = w0; read_faults = rf; write_faults = wf })
-    (record { left = c; written = o; read_faults = rf'; write_faults = wf' })) (sym e)
-    (most law set peer m k k a c y w0 w w r st rf wf rf' wf' all)
+  goes_on : (own : Option ConnEnd) → a.read_faults ≤ b.read_faults → a.write_faults ≤ b.write_faults → ServesNext set peer k n x y b c own → Goes own
+  goes_on own lr lw (inl h) = by_one h.request h.got own lw h.serves
+  goes_on own lr lw (inr h) = subst Goes (sym h.end_is) (by_stop h.same h.stop lr lw h.none h.refuses)
+
+  pub goes : (own : Option ConnEnd) (from : List ℕ) → from ≡ peer → a.read_faults ≤ b.read_faults → a.write_faults ≤ b.write_faults
+      → ServesNext set from k n x y b c own → Goes own
+  goes own from e lr lw h = goes_on own lr lw (subst (λ (p : List ℕ). ServesNext set p k n x y b c own) e h)
+
+-- each request that was served whole used up a number
+pub smaller : (set : Settings) (peer : List ℕ) (k n : BayState) (x y : List ℕ) (b c : ConnState) (own : Option ConnEnd) → own ≡ None
+    → ServesNext set peer k n x y b c own → (k.number < MOST_REQUESTS) × (n.number ≡ k.number + 1)
+smaller set peer k n x y b c own e (inr h) = absurd (cc (e, h.end_is))
+smaller set peer k n x y b c own e (inl h) = by h.serves
+  where
+    by_outcome : (o : Outcome) (last : Bool) → None ≡ end_after o last
+        → Outcomes set peer h.request k n b.written c.written (Rose b.write_faults c.write_faults) o → n.number ≡ k.number + 1
+    by_outcome outcome.Whole true e q = absurd (cc e)
+    by_outcome outcome.Whole false e q = q.2.number_is
+    by_outcome outcome.Cut last e q = absurd (cc e)
+    by_outcome outcome.BackendCut last e q = absurd (cc e)
+    by_outcome outcome.StreamSpent last e q = absurd (cc e)
+    by_outcome outcome.NoMemory last e q = absurd (cc e)
+
+    by : ServesOne set peer h.request k n b.written c.written (Rose b.write_faults c.write_faults) own
+        → (k.number < MOST_REQUESTS) × (n.number ≡ k.number + 1)
+    by (inl q) = (q.few, by_outcome q.outcome (asks h.request) (sym e ∙ q.end_is) q.served)
+    by (inr q) = absurd (cc (e, q.end_is))
 
 -- ---- one object that is read and written
 
@@ -384,3 +448,34 @@ faults_kept a b e = ap (λ (s : Side). s.faults) e
 
 pub mark_kept : (a b : Side) → a ≡ b → a.mark ≡ b.mark
 mark_kept a b e = ap (λ (s : Side). s.mark) e
+
+-- what was read first, and then written
+module _ (set : Settings) (peer : List ℕ) (m n : BayState) (x y : List ℕ) (left0 left1 left2 written0 written1 written2 : Option (List ℕ))
+    (read0 read1 read2 write0 write1 write2 : ℕ) (own : Option ConnEnd)
+    (left_is : left2 ≡ left1) (written_is : written1 ≡ written0) (read_is : read2 ≡ read1) (write_is : write1 ≡ write0) where
+  pub next_read : (from : List ℕ) (r : Request) → from ≡ peer → GotRequest left0 left1 x y r → ServesOne set from r m n written1 written2 (Rose write1 write2) own
+      → ServesNext set peer m n x y (record { left = left0; written = written0; read_faults = read0; write_faults = write0 })
+      (record { left = left2; written = written2; read_faults = read2; write_faults = write2 }) own
+  next_read from r e g h =
+      inl (record {
+        request = r;
+        got = subst (λ (l : Option (List ℕ)). GotRequest left0 l x y r) (sym left_is) g;
+        serves = subst (λ (f : ℕ). ServesOne set peer r m n written0 written2 (Rose f write2) own) write_is
+            (subst (λ (o : Option (List ℕ)). ServesOne set peer r m n o written2 (Rose write1 write2) own) written_is
+            (subst (λ (p : List ℕ). ServesOne set p r m n written1 written2 (Rose write1 write2) own) e h));
+      })
+
+  pub next_none : (t : Stop) → NoRequest left0 left1 x (Rose read0 read1) t → RefusesAt t written1 written2 (Rose write1 write2) → n ≡ m
+      → own ≡ Some (end_of_stop t)
+      → ServesNext set peer m n x y (record { left = left0; written = written0; read_faults = read0; write_faults = write0 })
+      (record { left = left2; written = written2; read_faults = read2; write_faults = write2 }) own
+  next_none t g h same end =
+      inr (record {
+        stop = t;
+        none = subst (λ (l : Option (List ℕ)). NoRequest left0 l x (Rose read0 read2) t) (sym left_is)
+            (subst (λ (f : ℕ). NoRequest left0 left1 x (Rose read0 f) t) (sym read_is) g);
+        refuses = subst (λ (f : ℕ). RefusesAt t written0 written2 (Rose f write2)) write_is
+            (subst (λ (o : Option (List ℕ)). RefusesAt t o written2 (Rose write1 write2)) written_is h);
+        same = same;
+        end_is = end;
+      })

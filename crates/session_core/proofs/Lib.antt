@@ -1,8 +1,7 @@
-mod BegunLemmas
+mod AnswerLemmas
 mod ChainLemmas
 mod ConnLemmas
-mod ExchangeLemmas
-mod HandleLemmas
 mod ListLemmas
 mod NotingLemmas
+mod ReadyLemmas
 mod ReplyLemmas

@@ -1,102 +1,215 @@
 -- An exchange that is noted.
-use Rattle.std.proofs.Common.{◌≡◌, ◌≤◌, ◌<◌, ◌+◌, ◌*◌, ◌⊎◌, ℕ, Bool, true, false, if◌then◌else◌, List, [], ◌∷◌, ◌++◌, length, Option, refl, sym, ap, subst, ◌∙◌, arith, append-nil, length-append, inl, inr}
+use Rattle.std.proofs.Common.{◌≡◌, ◌≤◌, ◌+◌, ◌⊎◌, ℕ, Bool, true, false, if◌then◌else◌, List, [], ◌∷◌, ◌++◌, Option, refl, sym, ap, subst, ◌∙◌, arith, append_assoc, append-nil, inl, inr}
 use Rattle.std.specs.Prelude.{Result, Ok, Err, OnErr, IfOk}
-use Rattle.audit_core.specs.Errand.{errand_in, attributes_in, effective_in, info_in}
+use Rattle.apiservice_rows.specs.Row.{Row}
+use Rattle.apiservice_table.specs.declared.change.Change.{Change}
+use Rattle.audit_core.specs.Answer as answer
+use Rattle.audit_core.specs.Errand.{errand_in, attributes_in}
 use Rattle.audit_core.specs.Exchange.{KeepsRequest, decision_in, facts_by, sent_body}
-use Rattle.audit_core.specs.Offers.{Due, offers_due}
+use Rattle.audit_core.specs.Offers.{Due, offers_due, has_refused}
 use Rattle.audit_core.specs.Owed.{owed, omits}
 use Rattle.audit_core.specs.Routing.{Decides}
-use Rattle.audit_core.specs.declared.offers.OfferNote.{OfferNote}
-use Rattle.audit_core.specs.declared.settings.Settings.{Settings}
-use Rattle.audit_core.specs.declared.stamp.Stamp.{Stamp}
-use Rattle.event_offers.specs.Lanes.{LanesState, AreLanesOf}
-use Rattle.event_offers.specs.Offering.{Noted, OffersAll, stage_events, started_events, event_unless, events_by}
 use Rattle.audit_core.specs.declared.answered.Answered.{Answered}
+use Rattle.audit_core.specs.declared.errand.Errand.{Errand}
+use Rattle.audit_core.specs.declared.errand.Errand.TheVariants as errand
+use Rattle.audit_core.specs.declared.offers.OfferNote.{OfferNote}
 use Rattle.audit_core.specs.declared.routed.Handling.{Handling}
 use Rattle.audit_core.specs.declared.routed.Handling.TheVariants.{Refused, Served as ServedHere, Proxied}
-use Rattle.audit_core.specs.Answer as answer
+use Rattle.audit_core.specs.declared.routed.Routed.{Routed}
+use Rattle.audit_core.specs.declared.settings.Settings.{Settings}
+use Rattle.audit_core.specs.declared.stamp.Stamp.{Stamp}
 use Rattle.body_frames.specs.declared.frame.Frame.{Frame}
-use Rattle.exchange_replies.specs.Sent.{is_head, sent_on, StopsSending, DialState}
+use Rattle.event_offers.specs.Lanes.{LanesState}
+use Rattle.event_offers.specs.Offering.{Noted, OffersAll, stage_events, started_events, events_by}
+use Rattle.exchange_replies.specs.Sent.{is_head, DialState}
 use Rattle.exchange_replies.specs.Streams.{Came, once, streamed, link_of, Comes, IsKeptBy, WritesPart, WritesTo}
-use Rattle.front_base.specs.declared.audit_id.TheConstants.{MOST_REQUESTS}
-use Rattle.front_base.specs.declared.memory.NoMemory.{NoMemory}
-use Rattle.front_base.specs.Info.{is_long_running}
+use Rattle.front_base.specs.AuditId.{AuditId}
 use Rattle.front_base.specs.declared.level.Level.{Level}
-use Rattle.front_base.specs.declared.level.Level.TheVariants as level
-use Rattle.front_base.specs.declared.stage.Stage.TheVariants.{RequestReceived, ResponseStarted, ResponseComplete}
+use Rattle.front_base.specs.declared.memory.NoMemory.{NoMemory}
+use Rattle.front_base.specs.declared.stage.Stage.TheVariants.{RequestReceived, ResponseComplete}
 use Rattle.front_ports.specs.Cause.{Rose}
 use Rattle.front_ports.specs.Told.{Grows, Adds}
 use Rattle.http_edge.specs.declared.request.Request.{Request}
 use Rattle.http_head.specs.declared.reply.ReplyHead.{ReplyHead}
 use Rattle.policy_rules.specs.declared.decision.Decision.{Decision}
-use Rattle.session_core.specs.Bays.{BayState, next_id, IsReady, CanOffer}
-use Rattle.session_core.specs.Exchange.{ExchangedTo, AnsweredBy, Halted, Unbegun, RoutesHalt, errand_after, moments_by, is_long, answered_of}
-use Rattle.session_core.specs.declared.session.Outcome.{Outcome}
-use Rattle.session_core.specs.declared.session.Outcome.TheVariants as outcome
-use Rattle.session_core.specs.Parts.{Outcomes, outcome_of, later_moments, all_but_numbers, Served, ServingHalts, final_facts, object_show}
-use Rattle.session_core.specs.Steps.{WorkState, first_facts, first_work, exchange_of}
+use Rattle.session_core.specs.Bays.{BayState, Recording, next_id}
+use Rattle.session_core.specs.Exchange.{ExchangedTo, AnsweredBy, Halted, IsTimed, IsTimedSoFar, arrival_due, answered_of, errand_after, is_long, moments_by, unrouted}
+use Rattle.session_core.specs.Parts.{AnsweredTo, AnswerHalts, AnswerHaltsAt, Handled, HandleHalts, HaltsAtEnd, HaltsBeforeEnd, IsStartedBy, IsTimedBy, Outcomes, SendHalts, StageOffered, end_due, known_facts, later_moments, object_show, outcome_of, ReplyHaltsAt, sending, start_due}
+use Rattle.session_core.specs.Steps.{Arrived, WorkState, exchange_of, first_facts, first_work, linked, stamp_at, with_start}
 use Rattle.session_core.specs.declared.begun.Begun.{Begun}
 use Rattle.session_core.specs.declared.exchange.Exchange.{Exchange}
-use Rattle.session_core.proofs.ChainLemmas.{grows_join}
-use Rattle.session_core.proofs.ExchangeLemmas.{Stages}
-use Rattle.session_core.proofs.ReplyLemmas.{Stay, FewLog, FewHook, one_by, one_if}
+use Rattle.session_core.specs.declared.session.Outcome.{Outcome}
+use Rattle.session_core.specs.declared.session.Outcome.TheVariants as outcome
+use Rattle.session_core.proofs.ChainLemmas.{grows_join, Join, noted_join}
+use Rattle.stage_event.specs.Begun.{filled}
 use Rattle.stage_event.specs.Events.{event}
 use Rattle.stage_event.specs.Kept.{IsKeptAs}
-use Rattle.stage_event.specs.Views.{effective_user}
 use Rattle.stage_event.specs.declared.event.Event.{Event}
 use Rattle.stage_event.specs.declared.facts.Facts.{Facts}
 use Rattle.stage_event.specs.declared.facts.Kept.{Kept}
+use Rattle.stage_event.specs.declared.facts.Kept.TheVariants.{NotAsked}
 use Rattle.stream_relay.specs.Stream.{body_in}
 use Rattle.stream_relay.specs.declared.stream.Relayed.{Relayed}
 use Rattle.stream_relay.specs.declared.stream.Relayed.TheVariants as relayed
 
-module _ (set : Settings) (peer : List ℕ) (r : Request) (m l : BayState) (gk : Option (List ℕ)) (lastk received : ℕ)
-    (nk nn : Option (List Exchange)) (kept : Kept) (v : WorkState) (w0 w1 : Option (List ℕ)) where
-  -- what it is stamped with at first
-  abbrev pub stamp0 : Stamp
-  stamp0 = record { id = next_id m; peer = peer; received = received; started = received; complete = received }
+-- ---- what is owed, by stages
 
-  -- the bay once the request was judged
-  abbrev pub k : BayState
-  k = record m { number = m.number + 1; last = lastk; given = gk; notes = nk }
+-- the event of the arrival doesn't depend on what is known later
+abbrev pub HidesLater : Type 0
+HidesLater = (level : Level) (facts : Facts) (status started complete : ℕ) (request reply : Kept)
+    → event RequestReceived level (filled status request reply started complete facts) ≡ event RequestReceived level facts
 
+abbrev pub Stages : Type 0
+Stages = (d : Decision) (facts : Facts)
+    → owed d facts ≡ stage_events d facts RequestReceived ++ (started_events d facts ++ stage_events d facts ResponseComplete)
+
+abbrev pub DueOfBoth : Type 0
+DueOfBoth = (set : Settings) (these those : List Event) → offers_due set (these ++ those) ≡ offers_due set these ++ offers_due set those
+
+after_same : (set : Settings) (own : Errand) (a b : List OfferNote) → has_refused set b ≡ has_refused set a
+    → errand_after set a own ≡ errand_after set b own
+after_same set own a b e = ap (λ t. if t then errand.Refuse 500 else own) (sym e)
+
+-- the first offers and those after them
+offered_join : Join → (xs ys : List Due) (m k n : LanesState) (b c : List OfferNote) → Noted xs m [] k b → Noted ys k b n c
+    → OffersAll (xs ++ ys) m c n
+offered_join join xs ys m k n b c h g =
+    let all = noted_join join xs ys m k n [] b c h g in
+    subst (λ (l : List OfferNote). OffersAll (xs ++ ys) m l n) (sym all.new_is) all.offered
+
+offered_first : (xs : List Due) (m n : LanesState) (b : List OfferNote) → Noted xs m [] n b → OffersAll xs m b n
+offered_first xs m n b h = subst (λ (l : List OfferNote). OffersAll xs m l n) (sym h.new_is) h.offered
+
+-- ---- its moments
+
+moments_are : (long : Bool) (stamp : Stamp) → moments_by long stamp ≡ stamp.received ∷ later_moments long stamp.started stamp.complete
+moments_are true stamp = refl
+moments_are false stamp = refl
+
+module _ (m : BayState) (id : AuditId) (peer : List ℕ) (last : ℕ) (given : Option (List ℕ)) (grows : Grows m.given given (last ∷ [])) (le : m.last ≤ last) (lanes : LanesState)
+    (b : Recording) where
+  abbrev pub stamped : ℕ → ℕ → Stamp
+  stamped started complete = record { id = id; peer = peer; received = last; started = started; complete = complete }
+
+  starts_late : (long : Bool) (start : ℕ) → (long ≡ true → last ≤ start) → (long ≡ false → start ≡ last) → last ≤ start
+  starts_late true start f g = f refl
+  starts_late false start f g = omega (arith, g refl)
+
+  ends_late : (long : Bool) (start end : ℕ) → (long ≡ false → start ≡ last) → last ≤ b.last → end ≡ b.last → (long ≡ true → start ≤ b.last) → start ≤ end
+  ends_late true start end g i e f = omega (arith, f refl, e)
+  ends_late false start end g i e f = omega (arith, g refl, e, i)
+
+  pub timed_whole : (long : Bool) (start end : ℕ) (n : BayState) → n.given ≡ b.given → n.last ≡ b.last
+      → IsTimedBy long (record { lanes = lanes; last = last; given = given }) b last start end → IsTimed long m n (stamped start end)
+  timed_whole long start end n eg el t = record {
+    given = subst (Grows m.given n.given) (sym (moments_are long (stamped start end)))
+        (subst (λ (o : Option (List ℕ)). Grows m.given o (last ∷ later_moments long start end)) (sym eg)
+        (grows_join m.given given b.given (last ∷ []) (later_moments long start end) grows t.given));
+    received = le;
+    started = starts_late long start t.started t.short;
+    complete = ends_late long start end t.short t.later t.complete t.between;
+    last = el ∙ sym t.complete;
+    short = t.short;
+  }
+
+  pub timed_start : (long : Bool) (start : ℕ) (n : BayState) → n.given ≡ b.given → n.last ≡ b.last
+      → IsStartedBy long (record { lanes = lanes; last = last; given = given }) b last start → IsTimedSoFar long m n (stamped start last)
+  timed_start true start n eg el t = record {
+    given = subst (λ (o : Option (List ℕ)). Grows m.given o (last ∷ start ∷ [])) (sym eg)
+        (grows_join m.given given b.given (last ∷ []) (start ∷ []) grows t.0);
+    received = le;
+    later = t.2;
+    last = el ∙ t.1;
+    unstarted = λ e. absurd (cc e);
+    endless = refl;
+  }
+  timed_start false start n eg el t = record {
+    given = subst (λ (o : Option (List ℕ)). Grows m.given o (last ∷ [])) (sym (eg ∙ t.0)) grows;
+    received = le;
+    later = omega (arith, t.2);
+    last = el ∙ t.1 ∙ sym t.2;
+    unstarted = λ e. t.2;
+    endless = refl;
+  }
+
+  pub timed_arrival : (n : BayState) → n.given ≡ given → n.last ≡ last → IsTimedSoFar false m n (stamped last last)
+  timed_arrival n eg el = record {
+    given = subst (λ (o : Option (List ℕ)). Grows m.given o (last ∷ [])) (sym eg) grows;
+    received = le;
+    later = omega arith;
+    last = el;
+    unstarted = λ e. refl;
+    endless = refl;
+  }
+
+-- ---- one that arrived at a moment of the clock
+
+module _ (join : Join) (hides : HidesLater) (stages : Stages) (both : DueOfBoth) (set : Settings) (peer : List ℕ) (r : Request) (m : BayState)
+    (last : ℕ) (given : Option (List ℕ)) (kept : Kept) (kept_is : KeepsRequest (decision_in set r) (attributes_in set r) r kept)
+    (grows : Grows m.given given (last ∷ [])) (le : m.last ≤ last)
+    (op : List Row) (seen : List Change) (own : List (ℕ × Change)) (l1 : LanesState) (nn : Option (List Exchange)) (op_is : op ≡ m.opening) where
+  -- what it began with
   abbrev pub w : WorkState
-  w = first_work (decision_in set r) (first_facts set stamp0 r kept)
+  w = first_work (decision_in set r) (first_facts set (stamp_at peer m last) r kept)
 
-  abbrev pub n : BayState
-  n = record l { notes = nn }
+  -- what is known of it after the offers of its arrival
+  abbrev pub offered : List OfferNote → WorkState
+  offered notes = record w { notes = notes }
 
-  moments_are : (long : Bool) (stamp : Stamp) → moments_by long stamp ≡ stamp.received ∷ later_moments long stamp.started stamp.complete
-  moments_are true stamp = refl
-  moments_are false stamp = refl
+  abbrev pub first : Recording
+  first = record { lanes = l1; last = last; given = given }
 
-  after_received : (long : Bool) (start : ℕ) → lastk ≡ received → (long ≡ true → lastk ≤ start) → (long ≡ false → start ≡ received) → received ≤ start
-  after_received true start e f g = omega (arith, f refl, e)
-  after_received false start e f g = omega (arith, g refl)
+  -- the bay in the end
+  abbrev pub bay : DialState → Recording → BayState
+  bay dial b = record {
+    boot = m.boot;
+    number = m.number + 1;
+    opening = op;
+    seen = seen;
+    own = own;
+    dial = dial;
+    lanes = b.lanes;
+    last = b.last;
+    given = b.given;
+    notes = nn;
+  }
 
-  before_end : (long : Bool) (start end : ℕ) → lastk ≡ received → (long ≡ false → start ≡ received) → lastk ≤ l.last → end ≡ l.last
-      → (long ≡ true → start ≤ l.last) → start ≤ end
-  before_end true start end e g h i f = omega (arith, f refl, i)
-  before_end false start end e g h i f = omega (arith, g refl, e, h, i)
+  abbrev pub Handles : WorkState → Routed → Type 0
+  Handles a routed = Handled set (errand_in set r) m.opening m.seen m.own m.lanes w seen own l1 a routed
 
-  offered_is : (dues : List Due) (a b : LanesState) (notes : List OfferNote) → Noted dues a [] b notes → OffersAll dues a notes b
-  offered_is dues a b notes h = subst (λ (l : List OfferNote). OffersAll dues a l b) (sym h.new_is) h.offered
+  -- what its arrival is due, whatever is known of it later
+  due_first : (facts : Facts) (status started complete : ℕ) (reply : Kept)
+      → facts ≡ filled status w.facts.request reply started complete w.facts
+      → offers_due set (stage_events w.decision w.facts RequestReceived) ≡ offers_due set (stage_events w.decision facts RequestReceived)
+  due_first facts status started complete reply is =
+      ap (λ e. offers_due set (events_by w.decision.level (omits w.decision.omit RequestReceived) e))
+      (sym (hides w.decision.level w.facts status started complete w.facts.request reply)
+      ∙ ap (λ f. event RequestReceived w.decision.level f) (sym is))
 
-  adds_at : (x : Exchange) → l.notes ≡ nk → nk ≡ m.notes → exchange_of r v ≡ x → Adds l.notes nn (exchange_of r v ∷ []) → Adds m.notes nn (x ∷ [])
-  adds_at x e f is h =
-      subst (λ (y : Exchange). Adds m.notes nn (y ∷ [])) is
-      (subst (λ (o : Option (List Exchange)). Adds o nn (exchange_of r v ∷ [])) (e ∙ f) h)
+  due_all : (facts : Facts)
+      → offers_due set (owed w.decision facts)
+      ≡ offers_due set (stage_events w.decision facts RequestReceived) ++ (start_due set w.decision facts ++ end_due set w.decision facts)
+  due_all facts =
+      ap (offers_due set) (stages w.decision facts)
+      ∙ both set (stage_events w.decision facts RequestReceived) (started_events w.decision facts ++ stage_events w.decision facts ResponseComplete)
+      ∙ ap (λ l. offers_due set (stage_events w.decision facts RequestReceived) ++ l)
+      (both set (started_events w.decision facts) (stage_events w.decision facts ResponseComplete))
+
+  adds_of : (x y : Exchange) → x ≡ y → Adds m.notes nn (x ∷ []) → Adds m.notes nn (y ∷ [])
+  adds_of x y e h = subst (λ (z : Exchange). Adds m.notes nn (z ∷ [])) e h
+
+  -- ---- what is known of its reply
 
   -- a reply that streamed came from a backend
   body_same : (handling : Handling) (long : Bool) (x y : DialState) (head : ReplyHead) (frame : Frame) (after : List ℕ)
-      → Comes (is_head r) long (sent_on r (effective_user w.facts) w.facts.id handling) x y (streamed head frame after)
+      → Comes (is_head r) long (sending r handling w) x y (streamed head frame after)
       → answer.body_of handling (link_of (streamed head frame after)) (body_in frame after) ≡ body_in frame after
   body_same (Refused code) long x y head frame after h = absurd h
   body_same (ServedHere local reply change) long x y head frame after h = absurd h
   body_same (Proxied target) long x y head frame after h = refl
 
   answered_by : (handling : Handling) (long : Bool) (x y : DialState) (came : Came) (end : Relayed) (stamp : Stamp) (own : Answered)
-      → Comes (is_head r) long (sent_on r (effective_user w.facts) w.facts.id handling) x y came
+      → Comes (is_head r) long (sending r handling w) x y came
       → own.handling ≡ handling → own.decision ≡ decision_in set r
       → KeepsRequest (decision_in set r) (attributes_in set r) r own.facts.request
       → IsKeptBy r handling (object_show w) came end own.facts.reply
@@ -122,199 +235,355 @@ module _ (set : Settings) (peer : List ℕ) (r : Request) (m l : BayState) (gk :
   answered_by handling long x y (streamed head frame after) relayed.WriteFault stamp own c h d q k f =
       record { handling_is = h; decision_is = d; request_is = q; reply_is = k; facts_are = f }
 
-  pub exchanged : (rose : Type 0) (end : Relayed) → lastk ≡ received → m.last ≤ received → Grows m.given gk (received ∷ []) → nk ≡ m.notes
-      → KeepsRequest (decision_in set r) (attributes_in set r) r kept
-      → Served set r (errand_in set r) k w l v w0 w1 rose end → Adds l.notes nn (exchange_of r v ∷ [])
-      → (text : List ℕ) × ExchangedTo set peer r m text n end × WritesTo w0 w1 text rose end
-  exchanged rose end at later grows same kept_is s adds =
-      let stamp : Stamp = record { id = next_id m; peer = peer; received = received; started = s.started; complete = s.complete } in
-      let x : Exchange = exchange_of r (record {
-        routed = s.routed;
-        decision = decision_in set r;
-        facts = final_facts w s.routed (link_of s.came) s.reply s.started s.complete;
-        link = link_of s.came;
-        notes = v.notes;
-      }) in (
-        s.text,
-        record {
-          x = x;
-          request_is = refl;
-          routed = s.decides;
-          came = s.came;
-          sent = s.sent_is;
-          link_is = refl;
-          stamp = stamp;
-          id_is = refl;
-          peer_is = refl;
-          timed = record {
-            given = subst (Grows m.given l.given) (sym (moments_are (is_long r) stamp))
-                (grows_join m.given gk l.given (received ∷ []) (later_moments (is_long r) s.started s.complete) grows s.timed.given);
-            received = later;
-            started = after_received (is_long r) s.started at s.timed.started s.timed.short;
-            complete = before_end (is_long r) s.started s.complete at s.timed.short s.timed.later s.timed.complete s.timed.between;
-            last = sym s.timed.complete;
-            short = s.timed.short;
-          };
-          answered = answered_by s.routed.handling (is_long r) m.dial l.dial s.came end stamp (answered_of x) s.sent_is refl refl kept_is s.kept_is refl;
-          offered = offered_is _ k.lanes l.lanes v.notes s.noted;
-          text_is = s.replies;
-          noted = adds_at x (ap (λ (b : BayState). b.notes) s.bay_is) same (ap (exchange_of r) s.work_is) adds;
-          number_is = ap (λ (b : BayState). b.number) s.bay_is;
-          boot_is = ap (λ (b : BayState). b.boot) s.bay_is;
-          opening_is = ap (λ (b : BayState). b.opening) s.bay_is;
-        },
-        s.writes,
-      )
+  -- ---- it was answered
 
-  pub halted : lastk ≡ received → Grows m.given gk (received ∷ []) → nk ≡ m.notes
-      → ServingHalts set r (errand_in set r) k w l v w0 w1 → Adds l.notes nn (exchange_of r v ∷ [])
-      → Halted set peer r m n w0 w1
-  halted at grows same s adds =
-      let stamp : Stamp = record { id = next_id m; peer = peer; received = received; started = s.started; complete = s.complete } in
-      let x : Exchange = exchange_of r v in
-      record {
-        x = x;
-        request_is = refl;
-        begun = record {
-          stamp = stamp;
-          id_is = refl;
-          peer_is = refl;
-          decision_is = ap (λ (t : WorkState). t.decision) s.work_is;
-          facts_are = ap (λ (t : WorkState). t.facts) s.work_is
-              ∙ ap (λ (f : Facts). facts_by stamp r (attributes_in set r) f.status f.request f.reply) (sym (ap (λ (t : WorkState). t.facts) s.work_is));
-        };
-        due = s.due;
-        rest = s.rest;
-        due_is = ap (λ (t : WorkState). offers_due set (owed t.decision t.facts)) s.work_is ∙ s.due_is;
-        offered = offered_is s.due k.lanes l.lanes v.notes s.noted;
-        routed = subst (λ (t : WorkState). RoutesHalt set (errand_after set v.notes (errand_in set r)) m n t.routed) (sym s.work_is) s.decides;
-        came = s.came;
-        sent = subst (λ (t : WorkState). Comes (is_head r) (is_long r) (sent_on r (effective_in set r) (next_id m) t.routed.handling) m.dial l.dial s.came
-            ⊎ StopsSending (sent_on r (effective_in set r) (next_id m) t.routed.handling) m.dial l.dial) (sym s.work_is) s.sent_is;
-        written = subst (λ (t : WorkState). WritesPart r (next_id m) t.routed.handling (Rose m.dial.link_faults l.dial.link_faults) s.came w0 w1) (sym s.work_is) s.written;
-        moments = received ∷ s.moments;
-        given = grows_join m.given gk l.given (received ∷ []) s.moments grows s.given;
-        few = omega (arith, s.few);
-        noted = adds_at x (ap (λ (b : BayState). b.notes) s.bay_is) same refl adds;
-        number_is = ap (λ (b : BayState). b.number) s.bay_is;
-        boot_is = ap (λ (b : BayState). b.boot) s.bay_is;
-        opening_is = ap (λ (b : BayState). b.opening) s.bay_is;
-      }
+  module _ (routed : Routed) (a v : WorkState) (h : Handles a routed) (dial : DialState) (b : Recording) (w0 w1 : Option (List ℕ)) (rose : Type 0)
+      (adds : Adds m.notes nn (exchange_of r routed v ∷ [])) where
+    decides_by : has_refused set v.notes ≡ has_refused set a.notes
+        → Decides set.endpoints (errand_after set v.notes (errand_in set r)) m.opening m.seen m.own seen own routed
+    decides_by e =
+        subst (λ (x : Errand). Decides set.endpoints x m.opening m.seen m.own seen own routed) (after_same set (errand_in set r) a.notes v.notes e) h.decides
 
--- ---- the bay may go on
+    -- the facts in the end
+    abbrev pub final : Came → Kept → ℕ → ℕ → Facts
+    final came reply started complete = known_facts reply started complete (linked routed.handling (link_of came) w).facts
 
-pub three : Stages → (d : Decision) (facts : Facts) → length (owed d facts) ≤ 3
-three stages d facts =
-    let a = stage_events d facts RequestReceived in
-    let b = started_events d facts in
-    let c = stage_events d facts ResponseComplete in
-    omega (
-      arith,
-      ap length (stages d facts),
-      length-append a (b ++ c),
-      length-append b c,
-      one_by d.level (omits d.omit RequestReceived) (event RequestReceived d.level facts),
-      one_if (is_long_running facts.info) (stage_events d facts ResponseStarted) (one_by d.level (omits d.omit ResponseStarted) (event ResponseStarted d.level facts)),
-      one_by d.level (omits d.omit ResponseComplete) (event ResponseComplete d.level facts),
-    )
+    abbrev pub noted_as : Came → Facts → WorkState
+    noted_as came facts = record { decision = decision_in set r; facts = facts; link = link_of came; notes = v.notes }
 
--- ---- how it ends
+    offered_all : (came : Came) (facts : Facts) (status started complete : ℕ) (reply : Kept) (due : List Due)
+        → facts ≡ filled status w.facts.request reply started complete w.facts → Noted due l1 a.notes b.lanes v.notes
+        → OffersAll (offers_due set (stage_events w.decision facts RequestReceived) ++ due) m.lanes v.notes b.lanes
+    offered_all came facts status started complete reply due is g =
+        subst (λ (l : List Due). OffersAll (l ++ due) m.lanes v.notes b.lanes) (due_first facts status started complete reply is)
+        (offered_join join (offers_due set (stage_events w.decision w.facts RequestReceived)) due m.lanes l1 b.lanes a.notes v.notes h.offered.noted g)
 
--- the bay may go on after all of its offers, or a part of them
-pub ready_after : Stay → FewLog → FewHook → Stages → (set : Settings) (m n : BayState) (d : Decision) (facts : Facts) (due rest : List Due) (notes : List OfferNote)
-    → IsReady set m → m.number < MOST_REQUESTS → offers_due set (owed d facts) ≡ due ++ rest → OffersAll due m.lanes notes n.lanes
-    → n.number ≡ m.number + 1 → IsReady set n
-ready_after stay log hook stages set m n d facts due rest notes h few e o number = record {
-  max = h.max;
-  lanes = stay set due m.lanes n.lanes notes o h.lanes;
-  few = omega (arith, number, few);
-  log = omega (arith, number, h.log, log set (owed d facts) due rest m.lanes n.lanes notes e o, three stages d facts);
-  hook = omega (arith, number, h.hook, hook set (owed d facts) due rest m.lanes n.lanes notes e o, three stages d facts);
-}
+    exchanged : (end : Relayed) → AnsweredTo set r routed.handling m.dial dial first (offered a.notes) b v w0 w1 rose end
+        → (text : List ℕ) × (x : Exchange) × ExchangedTo set peer r m text (bay dial b) end x × WritesTo w0 w1 text rose end
+    exchanged end s =
+        let facts = final s.came s.kept s.started s.complete in
+        let x : Exchange = exchange_of r routed (noted_as s.came facts) in
+        let stamp : Stamp = record { id = next_id m; peer = peer; received = last; started = s.started; complete = s.complete } in (
+          s.text,
+          x,
+          record {
+            request_is = refl;
+            routed = decides_by s.refuses;
+            came = s.came;
+            sent = s.comes;
+            link_is = refl;
+            stamp = stamp;
+            id_is = refl;
+            peer_is = refl;
+            timed = timed_whole m (next_id m) peer last given grows le l1 b (is_long r) s.started s.complete (bay dial b) refl refl s.timed;
+            answered = answered_by routed.handling (is_long r) m.dial dial s.came end stamp (answered_of x) s.comes refl refl kept_is s.kept_is refl;
+            offered = subst (λ (l : List Due). OffersAll l m.lanes v.notes b.lanes) (sym (due_all facts))
+                (offered_all s.came facts (answer.status_of routed.handling (link_of s.came)) s.started s.complete s.kept
+                (start_due set w.decision facts ++ end_due set w.decision facts) refl s.noted);
+            text_is = s.replies;
+            noted = adds_of (exchange_of r routed v) x (ap (exchange_of r routed) s.work_is) adds;
+            number_is = refl;
+            boot_is = refl;
+            opening_is = op_is;
+          },
+          s.writes,
+        )
 
-pub ready_exchanged : Stay → FewLog → FewHook → Stages → (set : Settings) (peer : List ℕ) (r : Request) (m n : BayState) (text : List ℕ) (end : Relayed)
-    → IsReady set m → m.number < MOST_REQUESTS → ExchangedTo set peer r m text n end → IsReady set n
-ready_exchanged stay log hook stages set peer r m n text end h few x =
-    ready_after stay log hook stages set m n x.x.decision x.x.facts (offers_due set (owed x.x.decision x.x.facts)) [] x.x.offers h few
-    (sym (append-nil (offers_due set (owed x.x.decision x.x.facts)))) x.offered x.number_is
+    -- ---- memory ran out after it was handled
 
-pub ready_halted : Stay → FewLog → FewHook → Stages → (set : Settings) (peer : List ℕ) (r : Request) (m n : BayState) (w0 w1 : Option (List ℕ))
-    → IsReady set m → m.number < MOST_REQUESTS → Halted set peer r m n w0 w1 → IsReady set n
-ready_halted stay log hook stages set peer r m n w0 w1 h few x =
-    ready_after stay log hook stages set m n x.x.decision x.x.facts x.due x.rest x.x.offers h few x.due_is x.offered x.number_is
+    sending_halted : SendHalts r routed.handling m.dial dial first (offered a.notes) b v w0 w1
+        → (x : Exchange) × Halted set peer r m (bay dial b) w0 w1 rose x
+    sending_halted s =
+        let notes : v.notes ≡ a.notes = ap (λ (t : WorkState). t.notes) s.work_is in
+        let lanes : b.lanes ≡ l1 = ap (λ (t : Recording). t.lanes) s.same in
+        let x : Exchange = exchange_of r routed (offered v.notes) in
+        let due = arrival_due set x in (
+          x,
+          record {
+            request_is = refl;
+            begun = record { stamp = stamp_at peer m last; id_is = refl; peer_is = refl; decision_is = refl; request_is = kept_is; facts_are = refl };
+            due = due;
+            rest = start_due set w.decision w.facts ++ end_due set w.decision w.facts;
+            due_is = due_all w.facts;
+            offered = subst (λ (l : LanesState). OffersAll due m.lanes v.notes l) (sym lanes)
+                (subst (λ (l : List OfferNote). OffersAll due m.lanes l l1) (sym notes) (offered_first due m.lanes l1 a.notes h.offered.noted));
+            stopped = inr (inl (record {
+              routed = decides_by (ap (has_refused set) notes);
+              sent = s.sent_is;
+              no_reply = record {
+                status_is = refl;
+                reply_is = refl;
+                link_is = refl;
+                timed = timed_arrival m (next_id m) peer last given grows le l1 b (bay dial b) (ap (λ (t : Recording). t.given) s.same) (ap (λ (t : Recording). t.last) s.same);
+                written = s.written;
+              };
+              due_is = refl;
+            }));
+            noted = adds_of (exchange_of r routed v) x
+                (ap (exchange_of r routed) (s.work_is ∙ ap offered (sym notes))) adds;
+            number_is = refl;
+            boot_is = refl;
+            opening_is = op_is;
+          },
+        )
 
-pub ready_unbegun : (set : Settings) (m n : BayState) (w0 w1 : Option (List ℕ)) → IsReady set m → Unbegun m n w0 w1 → IsReady set n
-ready_unbegun set m n w0 w1 h u =
-    subst (IsReady set) (sym u.same) (record { max = h.max; lanes = h.lanes; few = h.few; log = h.log; hook = h.hook })
+    module _ (came : Came) (comes : Comes (is_head r) (is_long r) (sending r routed.handling w) m.dial dial came)
+        (refuses : has_refused set v.notes ≡ has_refused set a.notes) where
+      abbrev pub faulty : Type 0
+      faulty = Rose m.dial.link_faults dial.link_faults
 
-pub ready_by : Stay → FewLog → FewHook → Stages → (set : Settings) (peer : List ℕ) (r : Request) (m n : BayState) (w0 w1 : Option (List ℕ)) (rose : Type 0)
-    (own : Outcome) → IsReady set m → m.number < MOST_REQUESTS → Outcomes set peer r m n w0 w1 rose own → IsReady set n
-ready_by stay log hook stages set peer r m n w0 w1 rose outcome.Whole h few o = ready_exchanged stay log hook stages set peer r m n o.0 relayed.Done h few o.1
-ready_by stay log hook stages set peer r m n w0 w1 rose outcome.Cut h few o = ready_exchanged stay log hook stages set peer r m n o.0 relayed.WriteFault h few o.1
-ready_by stay log hook stages set peer r m n w0 w1 rose outcome.BackendCut h few o = ready_exchanged stay log hook stages set peer r m n o.0 relayed.BackendCut h few o.1
-ready_by stay log hook stages set peer r m n w0 w1 rose outcome.StreamSpent h few o = ready_exchanged stay log hook stages set peer r m n o.0 relayed.StreamSpent h few o.1
-ready_by stay log hook stages set peer r m n w0 w1 rose outcome.NoMemory h few (inl u) = ready_unbegun set m n w0 w1 h u
-ready_by stay log hook stages set peer r m n w0 w1 rose outcome.NoMemory h few (inr x) = ready_halted stay log hook stages set peer r m n w0 w1 h few x
+      abbrev pub linked_work : WorkState
+      linked_work = linked routed.handling (link_of came) (offered a.notes)
 
--- before it was judged
-pub unbegun : (m n : BayState) (received : ℕ) (w0 : Option (List ℕ)) → Grows m.given n.given (received ∷ [])
-    → n ≡ record m { given = n.given; last = n.last } → Unbegun m n w0 w0
-unbegun m n received w0 g e = record { moments = received ∷ []; given = g; few = omega arith; same = e; written = refl }
+      before_end : HaltsBeforeEnd set r routed.handling came faulty first linked_work b v w0 w1
+          → (x : Exchange) × Halted set peer r m (bay dial b) w0 w1 rose x
+      before_end s =
+          let facts = with_start s.started linked_work.facts in
+          let x : Exchange = exchange_of r routed (noted_as came facts) in
+          let stamp : Stamp = record { id = next_id m; peer = peer; received = last; started = s.started; complete = last } in
+          let all = by s facts refl s.written in (
+            x,
+            record {
+              request_is = refl;
+              begun = record { stamp = stamp; id_is = refl; peer_is = refl; decision_is = refl; request_is = kept_is; facts_are = refl };
+              due = arrival_due set x ++ s.due;
+              rest = all.0;
+              due_is = due_all facts ∙ ap (λ l. arrival_due set x ++ l) all.1 ∙ sym (append_assoc (arrival_due set x) s.due all.0);
+              offered = offered_all came facts (answer.status_of routed.handling (link_of came)) s.started last NotAsked s.due refl s.noted;
+              stopped = inr (inr (record {
+                routed = decides_by refuses;
+                came = came;
+                sent = comes;
+                link_is = refl;
+                status_is = refl;
+                where_is = inl (record {
+                  reply_is = refl;
+                  timed = timed_start m (next_id m) peer last given grows le l1 b (is_long r) s.started (bay dial b) refl refl s.timed;
+                  written = all.2;
+                });
+              }));
+              noted = adds_of (exchange_of r routed v) x (ap (exchange_of r routed) s.work_is) adds;
+              number_is = refl;
+              boot_is = refl;
+              opening_is = op_is;
+            },
+          )
+        where
+          -- what was not offered
+          by : (s : HaltsBeforeEnd set r routed.handling came faulty first linked_work b v w0 w1) (facts : Facts)
+              → facts ≡ with_start s.started linked_work.facts
+              → ((s.due ≡ []) × (w1 ≡ w0)) ⊎ ((s.due ≡ start_due set w.decision (with_start s.started linked_work.facts)) × WritesPart r (next_id m) routed.handling faulty came w0 w1)
+              → (rest : List Due) × (start_due set w.decision facts ++ end_due set w.decision facts ≡ s.due ++ rest)
+              × (((offers_due set (stage_events w.decision facts RequestReceived) ++ s.due ≡ offers_due set (stage_events w.decision facts RequestReceived)) × (w1 ≡ w0))
+              ⊎ ((offers_due set (stage_events w.decision facts RequestReceived) ++ s.due ≡ offers_due set (stage_events w.decision facts RequestReceived) ++ start_due set w.decision facts)
+              × WritesPart r (next_id m) routed.handling faulty came w0 w1))
+          by s facts is (inl q) = (
+            start_due set w.decision facts ++ end_due set w.decision facts,
+            ap (λ l. l ++ (start_due set w.decision facts ++ end_due set w.decision facts)) (sym q.0),
+            inl (ap (λ l. offers_due set (stage_events w.decision facts RequestReceived) ++ l) q.0 ∙ append-nil (offers_due set (stage_events w.decision facts RequestReceived)), q.1),
+          )
+          by s facts is (inr q) =
+              let e : s.due ≡ start_due set w.decision facts = q.0 ∙ ap (start_due set w.decision) (sym is) in (
+                end_due set w.decision facts,
+                ap (λ l. l ++ end_due set w.decision facts) (sym e),
+                inr (ap (λ l. offers_due set (stage_events w.decision facts RequestReceived) ++ l) e, q.1),
+              )
 
-pub may_all : (set : Settings) (m n : BayState) → IsReady set m → m.number < MOST_REQUESTS → n.lanes ≡ m.lanes → CanOffer set n 3
-may_all set m n h few e = record {
-  max = h.max;
-  lanes = subst (AreLanesOf set) (sym e) h.lanes;
-  log = omega (arith, h.log, few, ap (λ (l : LanesState). l.log.lines) e);
-  hook = omega (arith, h.hook, few, ap (λ (l : LanesState). l.hook.lines) e);
-}
+      at_end : HaltsAtEnd set r routed.handling came faulty first linked_work b v w0 w1 rose
+          → (x : Exchange) × Halted set peer r m (bay dial b) w0 w1 rose x
+      at_end s =
+          let facts = final came s.kept s.started s.complete in
+          let x : Exchange = exchange_of r routed (noted_as came facts) in
+          let stamp : Stamp = record { id = next_id m; peer = peer; received = last; started = s.started; complete = s.complete } in
+          let starts = start_due set w.decision facts in (
+            x,
+            record {
+              request_is = refl;
+              begun = record { stamp = stamp; id_is = refl; peer_is = refl; decision_is = refl; request_is = kept_is; facts_are = refl };
+              due = arrival_due set x ++ starts;
+              rest = end_due set w.decision facts;
+              due_is = due_all facts ∙ sym (append_assoc (arrival_due set x) starts (end_due set w.decision facts));
+              offered = offered_all came facts (answer.status_of routed.handling (link_of came)) s.started s.complete s.kept starts refl s.noted;
+              stopped = inr (inr (record {
+                routed = decides_by refuses;
+                came = came;
+                sent = comes;
+                link_is = refl;
+                status_is = refl;
+                where_is = inr (record {
+                  end = s.end;
+                  text = s.text;
+                  text_is = s.replies;
+                  written = s.writes;
+                  answered = answered_by routed.handling (is_long r) m.dial dial came s.end stamp (answered_of x) comes refl refl kept_is s.kept_is refl;
+                  timed = timed_whole m (next_id m) peer last given grows le l1 b (is_long r) s.started s.complete (bay dial b) refl refl s.timed;
+                  due_is = refl;
+                });
+              }));
+              noted = adds_of (exchange_of r routed v) x (ap (exchange_of r routed) s.work_is) adds;
+              number_is = refl;
+              boot_is = refl;
+              opening_is = op_is;
+            },
+          )
 
--- by how it was served
-module _ (set : Settings) (peer : List ℕ) (r : Request) (m l : BayState) (gk : Option (List ℕ)) (lastk received : ℕ)
-    (nk nn : Option (List Exchange)) (kept : Kept) (v : WorkState) (w0 w1 : Option (List ℕ)) (rose : Type 0)
-    (at : lastk ≡ received) (later : m.last ≤ received) (grows : Grows m.given gk (received ∷ [])) (same : nk ≡ m.notes)
-    (kept_is : KeepsRequest (decision_in set r) (attributes_in set r) r kept)
-    (adds : Adds l.notes nn (exchange_of r v ∷ [])) where
-  abbrev pub from : BayState
-  from = record m { number = m.number + 1; last = lastk; given = gk; notes = nk }
+    answer_halted : AnswerHalts set r routed.handling m.dial dial first (offered a.notes) b v w0 w1 rose
+        → (x : Exchange) × Halted set peer r m (bay dial b) w0 w1 rose x
+    answer_halted (inl s) = sending_halted s
+    answer_halted (inr s) = by s s.halts
+      where
+        by : (s : AnswerHaltsAt set r routed.handling m.dial dial first (offered a.notes) b v w0 w1 rose)
+            → ReplyHaltsAt set r routed.handling s.came (Rose m.dial.link_faults dial.link_faults) first (linked routed.handling (link_of s.came) (offered a.notes)) b v w0 w1 rose
+            → (x : Exchange) × Halted set peer r m (bay dial b) w0 w1 rose x
+        by s (e, inl q) = before_end s.came s.comes e q
+        by s (e, inr q) = at_end s.came s.comes e q
 
-  abbrev pub first : WorkState
-  first = first_work (decision_in set r) (first_facts set
-      (record { id = next_id m; peer = peer; received = received; started = received; complete = received }) r kept)
+  -- ---- memory ran out before it was handled
 
-  whole : (end : Relayed) → Served set r (errand_in set r) from first l v w0 w1 rose end
-      → Outcomes set peer r m (record l { notes = nn }) w0 w1 rose (outcome_of (Ok end))
-  whole relayed.Done s =
-      let x = exchanged set peer r m l gk lastk received nk nn kept v w0 w1 rose relayed.Done at later grows same kept_is s adds in
-      (x.0, x.1, x.2)
-  whole relayed.WriteFault s =
-      let x = exchanged set peer r m l gk lastk received nk nn kept v w0 w1 rose relayed.WriteFault at later grows same kept_is s adds in
-      (x.0, x.1, x.2.0, x.2.1)
-  whole relayed.BackendCut s =
-      let x = exchanged set peer r m l gk lastk received nk nn kept v w0 w1 rose relayed.BackendCut at later grows same kept_is s adds in
-      (x.0, x.1, x.2)
-  whole relayed.StreamSpent s =
-      let x = exchanged set peer r m l gk lastk received nk nn kept v w0 w1 rose relayed.StreamSpent at later grows same kept_is s adds in
-      (x.0, x.1, x.2)
+  undecided : (v : WorkState) (w0 : Option (List ℕ)) (rose : Type 0) → HandleHalts set m.seen m.own m.lanes w seen own l1 v
+      → Adds m.notes nn (exchange_of r unrouted v ∷ []) → (x : Exchange) × Halted set peer r m (bay m.dial first) w0 w0 rose x
+  undecided v w0 rose s adds = by s.offered
+    where
+      by : ((l1 ≡ m.lanes) × (v ≡ w)) ⊎ StageOffered set RequestReceived m.lanes w l1 v → (x : Exchange) × Halted set peer r m (bay m.dial first) w0 w0 rose x
+      by (inl q) =
+          let x : Exchange = exchange_of r unrouted w in (
+            x,
+            record {
+              request_is = refl;
+              begun = record { stamp = stamp_at peer m last; id_is = refl; peer_is = refl; decision_is = refl; request_is = kept_is; facts_are = refl };
+              due = [];
+              rest = offers_due set (owed w.decision w.facts);
+              due_is = refl;
+              offered = (refl, q.0);
+              stopped = inl (record {
+                routed_is = refl;
+                later = s.later;
+                own_is = s.own_is;
+                dial_is = refl;
+                no_reply = record {
+                  status_is = refl;
+                  reply_is = refl;
+                  link_is = refl;
+                  timed = timed_arrival m (next_id m) peer last given grows le l1 first (bay m.dial first) refl refl;
+                  written = refl;
+                };
+                due_is = inl refl;
+              });
+              noted = adds_of (exchange_of r unrouted v) x (ap (exchange_of r unrouted) q.1) adds;
+              number_is = refl;
+              boot_is = refl;
+              opening_is = op_is;
+            },
+          )
+      by (inr q) =
+          let x : Exchange = exchange_of r unrouted (offered v.notes) in (
+            x,
+            record {
+              request_is = refl;
+              begun = record { stamp = stamp_at peer m last; id_is = refl; peer_is = refl; decision_is = refl; request_is = kept_is; facts_are = refl };
+              due = arrival_due set x;
+              rest = start_due set w.decision w.facts ++ end_due set w.decision w.facts;
+              due_is = due_all w.facts;
+              offered = offered_first (arrival_due set x) m.lanes l1 v.notes q.noted;
+              stopped = inl (record {
+                routed_is = refl;
+                later = s.later;
+                own_is = s.own_is;
+                dial_is = refl;
+                no_reply = record {
+                  status_is = refl;
+                  reply_is = refl;
+                  link_is = refl;
+                  timed = timed_arrival m (next_id m) peer last given grows le l1 first (bay m.dial first) refl refl;
+                  written = refl;
+                };
+                due_is = inr refl;
+              });
+              noted = adds_of (exchange_of r unrouted v) x (ap (exchange_of r unrouted) q.work_is) adds;
+              number_is = refl;
+              boot_is = refl;
+              opening_is = op_is;
+            },
+          )
 
-  pub outcomes : (res : Result Relayed NoMemory) → IfOk res (Served set r (errand_in set r) from first l v w0 w1 rose)
-      → OnErr res (ServingHalts set r (errand_in set r) from first l v w0 w1)
-      → Outcomes set peer r m (record l { notes = nn }) w0 w1 rose (outcome_of res)
-  outcomes (Ok end) s h = whole end s
-  outcomes (Err e) s h = inr (halted set peer r m l gk lastk received nk nn kept v w0 w1 at grows same h adds)
+  -- ---- as results tell them
 
-  -- what was judged is what the exchange began with
-  module _ (b : Begun) (w2 : WorkState) (is : b ≡ record {
-    errand = errand_in set r;
-    decision = decision_in set r;
-    facts = first_facts set (record { id = next_id m; peer = peer; received = received; started = received; complete = received }) r kept;
-  }) (work : w2 ≡ first_work b.decision b.facts) where
-    pub outcomes_by : (res : Result Relayed NoMemory) → IfOk res (Served set r b.errand from w2 l v w0 w1 rose)
-        → OnErr res (ServingHalts set r b.errand from w2 l v w0 w1)
-        → Outcomes set peer r m (record l { notes = nn }) w0 w1 rose (outcome_of res)
-    outcomes_by res s h =
-        outcomes res
-        (subst (λ (x : Begun). IfOk res (Served set r x.errand from (first_work x.decision x.facts) l v w0 w1 rose)) is
-        (subst (λ (y : WorkState). IfOk res (Served set r b.errand from y l v w0 w1 rose)) work s))
-        (subst (λ (x : Begun). OnErr res (ServingHalts set r x.errand from (first_work x.decision x.facts) l v w0 w1)) is
-        (subst (λ (y : WorkState). OnErr res (ServingHalts set r b.errand from y l v w0 w1)) work h))
+  abbrev pub Ends : DialState → Recording → Option (List ℕ) → Option (List ℕ) → Type 0 → Result Relayed NoMemory → Type 0
+  Ends dial b w0 w1 rose res = Outcomes set peer r m (bay dial b) w0 w1 rose (outcome_of res)
+
+  whole : (routed : Routed) (a v : WorkState) (dial : DialState) (b : Recording) (w0 w1 : Option (List ℕ)) (rose : Type 0) (end : Relayed)
+      → (text : List ℕ) × (x : Exchange) × ExchangedTo set peer r m text (bay dial b) end x × WritesTo w0 w1 text rose end
+      → Ends dial b w0 w1 rose (Ok end)
+  whole routed a v dial b w0 w1 rose relayed.Done e = (e.0, e.1, e.2, e.3)
+  whole routed a v dial b w0 w1 rose relayed.WriteFault e = (e.0, e.1, e.2, e.3.0, e.3.1)
+  whole routed a v dial b w0 w1 rose relayed.BackendCut e = (e.0, e.1, e.2, e.3)
+  whole routed a v dial b w0 w1 rose relayed.StreamSpent e = (e.0, e.1, e.2, e.3)
+
+  pub outcomes : (routed : Routed) (a v : WorkState) (h : Handles a routed) (dial : DialState) (b : Recording) (w0 w1 : Option (List ℕ)) (rose : Type 0)
+      → Adds m.notes nn (exchange_of r routed v ∷ []) → (res : Result Relayed NoMemory)
+      → IfOk res (AnsweredTo set r routed.handling m.dial dial first a b v w0 w1 rose)
+      → OnErr res (AnswerHalts set r routed.handling m.dial dial first a b v w0 w1 rose) → Ends dial b w0 w1 rose res
+  outcomes routed a v h dial b w0 w1 rose adds (Ok end) s f =
+      whole routed a v dial b w0 w1 rose end (exchanged routed a v h dial b w0 w1 rose adds end
+      (subst (λ (t : WorkState). AnsweredTo set r routed.handling m.dial dial first t b v w0 w1 rose end) h.offered.work_is s))
+  outcomes routed a v h dial b w0 w1 rose adds (Err e) s f =
+      inr (answer_halted routed a v h dial b w0 w1 rose adds
+      (subst (λ (t : WorkState). AnswerHalts set r routed.handling m.dial dial first t b v w0 w1 rose) h.offered.work_is f))
+
+-- ---- by what was judged
+
+module _ (join : Join) (hides : HidesLater) (stages : Stages) (both : DueOfBoth) (set : Settings) (peer : List ℕ) (r : Request) (begun : Begun)
+    (m k : BayState) (arrived : Arrived set peer r begun m k)
+    (op : List Row) (seen : List Change) (own : List (ℕ × Change)) (l1 : LanesState) (nn : Option (List Exchange)) (op_is : op ≡ k.opening)
+    (begins : WorkState) (begins_is : begins ≡ first_work begun.decision begun.facts) where
+  -- the bay in the end
+  abbrev pub after : BayState → DialState → Recording → BayState
+  after q dial b = record {
+    boot = q.boot;
+    number = q.number + 1;
+    opening = op;
+    seen = seen;
+    own = own;
+    dial = dial;
+    lanes = b.lanes;
+    last = b.last;
+    given = b.given;
+    notes = nn;
+  }
+
+  abbrev pub reads : Recording
+  reads = record { lanes = l1; last = k.last; given = k.given }
+
+  abbrev pub judged : WorkState
+  judged = first_work (decision_in set r) (first_facts set (stamp_at peer m k.last) r arrived.is_begun.kept)
+
+  judged_by : (P : Errand → WorkState → Type 0) → P begun.errand begins → P (errand_in set r) judged
+  judged_by P h =
+      subst (λ (x : Begun). P x.errand (first_work x.decision x.facts)) arrived.is_begun.is
+      (subst (λ (t : WorkState). P begun.errand t) begins_is h)
+
+  pub answered_outcomes : (routed : Routed) (a v : WorkState) → Handled set begun.errand k.opening k.seen k.own k.lanes begins seen own l1 a routed
+      → (dial : DialState) (b : Recording) (w0 w1 : Option (List ℕ)) (rose : Type 0) → Adds k.notes nn (exchange_of r routed v ∷ [])
+      → (res : Result Relayed NoMemory) (ended : Outcome) → ended ≡ outcome_of res
+      → IfOk res (AnsweredTo set r routed.handling k.dial dial reads a b v w0 w1 rose)
+      → OnErr res (AnswerHalts set r routed.handling k.dial dial reads a b v w0 w1 rose)
+      → Outcomes set peer r m (after k dial b) w0 w1 rose ended
+  answered_outcomes routed a v h dial b w0 w1 rose adds res ended is s f =
+      subst (λ (o : Outcome). Outcomes set peer r m (after k dial b) w0 w1 rose o) (sym is)
+      (subst (λ (q : BayState). Handled set (errand_in set r) q.opening q.seen q.own q.lanes judged seen own l1 a routed → Adds q.notes nn (exchange_of r routed v ∷ [])
+      → op ≡ q.opening → IfOk res (AnsweredTo set r routed.handling q.dial dial reads a b v w0 w1 rose)
+      → OnErr res (AnswerHalts set r routed.handling q.dial dial reads a b v w0 w1 rose) → Outcomes set peer r m (after q dial b) w0 w1 rose (outcome_of res))
+      (sym arrived.bay_is)
+      (λ h adds o s f. outcomes join hides stages both set peer r m k.last k.given arrived.is_begun.kept arrived.is_begun.kept_is arrived.given arrived.later
+      op seen own l1 nn o routed a v h dial b w0 w1 rose adds res s f)
+      (judged_by (λ e t. Handled set e k.opening k.seen k.own k.lanes t seen own l1 a routed) h) adds op_is s f)
+
+  pub undecided_outcome : (v : WorkState) (w0 : Option (List ℕ)) (rose : Type 0) → HandleHalts set k.seen k.own k.lanes begins seen own l1 v
+      → Adds k.notes nn (exchange_of r unrouted v ∷ []) → Outcomes set peer r m (after k k.dial reads) w0 w0 rose outcome.NoMemory
+  undecided_outcome v w0 rose h adds =
+      subst (λ (q : BayState). HandleHalts set q.seen q.own q.lanes judged seen own l1 v → Adds q.notes nn (exchange_of r unrouted v ∷ [])
+      → op ≡ q.opening → Outcomes set peer r m (after q q.dial reads) w0 w0 rose outcome.NoMemory)
+      (sym arrived.bay_is)
+      (λ h adds o. inr (undecided join hides stages both set peer r m k.last k.given arrived.is_begun.kept arrived.is_begun.kept_is arrived.given arrived.later
+      op seen own l1 nn o v w0 rose h adds))
+      (judged_by (λ e t. HandleHalts set k.seen k.own k.lanes t seen own l1 v) h) adds op_is

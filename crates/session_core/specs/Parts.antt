@@ -1,35 +1,36 @@
 -- What the parts of one exchange do.
-use Rattle.std.specs.Prelude.{◌≡◌, ◌≤◌, ◌⊎◌, ℕ, Bool, true, false, if◌then◌else◌, List, [], ◌∷◌, ◌++◌, length, Option, Result, Ok, Err}
+use Rattle.std.specs.Prelude.{◌≡◌, ◌≤◌, ◌⊎◌, ℕ, Bool, true, false, List, [], ◌∷◌, ◌++◌, Option, Result, Ok, Err}
 use Rattle.std.specs.Io.KnownBytes.{Appends}
+use Rattle.apiservice_rows.specs.Row.{Row}
 use Rattle.apiservice_table.specs.Changes.{IsLater}
-use Rattle.audit_core.specs.Answer.{status_of}
+use Rattle.apiservice_table.specs.declared.change.Change.{Change}
 use Rattle.audit_core.specs.Offers.{Due, offers_due, has_refused}
-use Rattle.audit_core.specs.Owed.{owed}
 use Rattle.audit_core.specs.Routing.{Decides}
 use Rattle.audit_core.specs.declared.errand.Errand.{Errand}
-use Rattle.audit_core.specs.declared.link_note.LinkNote.{LinkNote}
+use Rattle.audit_core.specs.declared.offers.OfferNote.{OfferNote}
+use Rattle.audit_core.specs.declared.routed.Handling.{Handling}
 use Rattle.audit_core.specs.declared.routed.Routed.{Routed}
 use Rattle.audit_core.specs.declared.settings.Settings.{Settings}
-use Rattle.audit_core.specs.declared.offers.OfferNote.{OfferNote}
 use Rattle.event_offers.specs.Lanes.{LanesState}
 use Rattle.event_offers.specs.Offering.{Noted, stage_events, started_events}
 use Rattle.exchange_replies.specs.Sent as sent
-use Rattle.exchange_replies.specs.Sent.{is_head, sent_on, StopsSending}
-use Rattle.exchange_replies.specs.Streams.{Came, Comes, Forwards, IsKeptBy, RepliedTo, RepliedPart, Replies, WritesPart, WritesTo, link_of, note_of_sent}
+use Rattle.exchange_replies.specs.Sent.{DialState, is_head, sent_on, StopsSending}
+use Rattle.exchange_replies.specs.Streams.{Came, Comes, ComesTo, IsKeptBy, RepliedTo, Replies, WritesPart, WritesTo, link_of, note_of_sent}
 use Rattle.exchange_replies.specs.declared.sent_on.SentOn.{SentOn}
 use Rattle.forward_link.specs.Exchange.{LinkState}
 use Rattle.front_base.specs.Info.{is_long_running}
+use Rattle.front_base.specs.declared.memory.NoMemory.{NoMemory}
 use Rattle.front_base.specs.declared.stage.Stage.{Stage}
 use Rattle.front_base.specs.declared.stage.Stage.TheVariants as stage
-use Rattle.front_base.specs.declared.memory.NoMemory.{NoMemory}
 use Rattle.front_ports.specs.Cause.{Rose}
 use Rattle.front_ports.specs.Told.{Grows}
 use Rattle.front_ports.specs.Written.{AppendsFront}
 use Rattle.http_edge.specs.declared.request.Request.{Request}
 use Rattle.policy_rules.specs.declared.decision.Decision.{Decision}
-use Rattle.session_core.specs.Bays.{BayState}
-use Rattle.session_core.specs.Exchange.{errand_after, RoutesHalt, Exchanged, ExchangedTo, Halted, Unbegun}
-use Rattle.session_core.specs.Steps.{WorkState, linked, with_kept, with_reply}
+use Rattle.session_core.specs.Bays.{BayState, Recording}
+use Rattle.session_core.specs.Exchange.{errand_after, Exchanged, ExchangedTo, Halted, Unbegun}
+use Rattle.session_core.specs.Steps.{WorkState, linked, with_end, with_kept, with_start}
+use Rattle.session_core.specs.declared.exchange.Exchange.{Exchange}
 use Rattle.session_core.specs.declared.session.Outcome.{Outcome}
 use Rattle.session_core.specs.declared.session.Outcome.TheVariants as outcome
 use Rattle.stage_event.specs.Due.{reply_show}
@@ -40,235 +41,210 @@ use Rattle.stage_event.specs.declared.show.Show.{Show}
 use Rattle.stream_relay.specs.declared.stream.Relayed.{Relayed}
 use Rattle.stream_relay.specs.declared.stream.Relayed.TheVariants as relayed
 
--- ---- the first events, and how it is handled
+-- ---- the events of a stage
 
-abbrev pub first_due : Settings → WorkState → List Due
-first_due set w = offers_due set (stage_events w.decision w.facts stage.RequestReceived)
+abbrev pub stage_due : Settings → WorkState → Stage → List Due
+stage_due set w own = offers_due set (stage_events w.decision w.facts own)
 
--- the routes and the lanes changed, and nothing else of the bay
-abbrev pub routes_and_lanes : BayState → BayState → BayState
-routes_and_lanes m n = record m { seen = n.seen; own = n.own; lanes = n.lanes }
-
-pub record Handled (set : Settings) (own : Errand) (m : BayState) (w : WorkState) (n : BayState) (v : WorkState) : Type 0 where
-  pub noted : Noted (first_due set w) m.lanes w.notes n.lanes v.notes
-  pub decides : Decides set.endpoints (errand_after set v.notes own) m.opening m.seen m.own n.seen n.own v.routed
-  pub bay_is : n ≡ routes_and_lanes m n
-  pub work_is : v ≡ record w { routed = v.routed; notes = v.notes }
-
--- memory ran out: nothing was offered, or all of the first events were; no change was made
-pub record HandleHalts (set : Settings) (m : BayState) (w : WorkState) (n : BayState) (v : WorkState) : Type 0 where
-  pub due : List Due
-  pub rest : List Due
-  pub due_is : first_due set w ≡ due ++ rest
-  pub noted : Noted due m.lanes w.notes n.lanes v.notes
-  pub later : IsLater m.seen n.seen
-  pub own_is : n.own ≡ m.own
-  pub bay_is : n ≡ routes_and_lanes m n
+-- they were offered, and nothing else is known of the request
+pub record StageOffered (set : Settings) (own : Stage) (m : LanesState) (w : WorkState) (n : LanesState) (v : WorkState) : Type 0 where
+  pub noted : Noted (stage_due set w own) m w.notes n v.notes
   pub work_is : v ≡ record w { notes = v.notes }
 
--- ---- the link
+-- ---- how it is handled
 
--- what was to be sent on was, and how its link is noted is known
-abbrev pub sending : Request → WorkState → Option sent.Sent
-sending r w = sent_on r (effective_user w.facts) w.facts.id w.routed.handling
+-- the events of its arrival were offered, and then the rows that were seen decided
+pub record Handled (set : Settings) (own : Errand) (opening : List Row) (seen : List Change) (mine : List (ℕ × Change)) (m : LanesState)
+    (w : WorkState) (new_seen : List Change) (new_mine : List (ℕ × Change)) (n : LanesState) (v : WorkState) (routed : Routed) : Type 0 where
+  pub offered : StageOffered set stage.RequestReceived m w n v
+  pub decides : Decides set.endpoints (errand_after set v.notes own) opening seen mine new_seen new_mine routed
 
-pub record Reaching {K : Type 0} (state : K → LinkState) (r : Request) (m : BayState) (w : WorkState) (n : BayState)
-    (v : WorkState) (sent : SentOn K) : Type 0 where
-  pub sent_is : Forwards state (is_head r) (is_long_running w.facts.info) (sending r w) m.dial n.dial sent
-  pub later : m.dial.link_faults ≤ n.dial.link_faults
-  pub work_is : v ≡ linked (note_of_sent sent) w
-  pub bay_is : n ≡ record m { dial = n.dial }
+-- memory ran out: nothing was offered, or all events of its arrival were; no change was made
+pub record HandleHalts (set : Settings) (seen : List Change) (mine : List (ℕ × Change)) (m : LanesState) (w : WorkState)
+    (new_seen : List Change) (new_mine : List (ℕ × Change)) (n : LanesState) (v : WorkState) : Type 0 where
+  pub offered : ((n ≡ m) × (v ≡ w)) ⊎ StageOffered set stage.RequestReceived m w n v
+  pub later : IsLater seen new_seen
+  pub own_is : new_mine ≡ mine
 
--- memory ran out, maybe after some bytes were sent
-pub record ReachHalts (r : Request) (m : BayState) (w : WorkState) (n : BayState) (v : WorkState) : Type 0 where
-  pub sent_is : StopsSending (sending r w) m.dial n.dial
-  pub bay_is : n ≡ record m { dial = n.dial }
-  pub work_is : v ≡ w
+-- ---- the events of the reply
 
--- ---- the reply and the later events
+-- what its reply's start is due, and what its end
+abbrev pub start_due : Settings → Decision → Facts → List Due
+start_due set d facts = offers_due set (started_events d facts)
 
--- the clock and the lanes changed, and nothing else of the bay
-abbrev pub clock_and_lanes : BayState → BayState → BayState
-clock_and_lanes m n = record m { lanes = n.lanes; last = n.last; given = n.given }
+abbrev pub end_due : Settings → Decision → Facts → List Due
+end_due set d facts = offers_due set (stage_events d facts stage.ResponseComplete)
 
-abbrev pub with_start : ℕ → Facts → Facts
-with_start started facts = record facts { started = started }
+-- at a moment of the clock the events of a stage were offered, by these facts
+pub record StageReached (set : Settings) (own : Stage) (facts : Facts) (m : Recording) (w : WorkState) (n : Recording) (v : WorkState)
+    : Type 0 where
+  pub offered : StageOffered set own m.lanes (record w { facts = facts }) n.lanes v
+  pub given : Grows m.given n.given (n.last ∷ [])
+  pub later : m.last ≤ n.last
 
-abbrev pub with_end : ℕ → Facts → Facts
-with_end complete facts = record facts { complete = complete }
+-- memory ran out: at a moment of the clock nothing was offered
+pub record StageHalts (facts : Facts) (m : Recording) (w : WorkState) (n : Recording) (v : WorkState) : Type 0 where
+  pub lanes_are : n.lanes ≡ m.lanes
+  pub work_is : v ≡ record w { facts = facts }
+  pub given : Grows m.given n.given (n.last ∷ [])
+  pub later : m.last ≤ n.last
 
-abbrev pub with_moments : ℕ → ℕ → Facts → Facts
-with_moments started complete facts = record facts { started = started; complete = complete }
+-- the events of its start were offered, at a moment of the clock, if it runs long
+abbrev pub StartedBy : Bool → Settings → Recording → WorkState → Recording → WorkState → Type 0
+StartedBy false set m w n v = (n ≡ m) × (v ≡ w)
+StartedBy true set m w n v = StageReached set stage.ResponseStarted (with_start n.last w.facts) m w n v
 
--- what is offered once the reply's head is known, and once the reply is complete
-abbrev pub later_due : Settings → Decision → Facts → List Due
-later_due set d facts =
-    offers_due set (started_events d facts) ++ offers_due set (stage_events d facts stage.ResponseComplete)
+abbrev pub Started : Settings → Recording → WorkState → Recording → WorkState → Type 0
+Started set m w n v = StartedBy (is_long_running w.facts.info) set m w n v
+
+abbrev pub StartHalts : Recording → WorkState → Recording → WorkState → Type 0
+StartHalts m w n v = (is_long_running w.facts.info ≡ true) × StageHalts (with_start n.last w.facts) m w n v
+
+-- what its reply's start is due was offered, and nothing since: these offers left the lanes as they are
+pub record StartIsOffered (set : Settings) (lanes : LanesState) (w : WorkState) : Type 0 where
+  pub before : LanesState
+  pub old : List OfferNote
+  pub noted : Noted (start_due set w.decision w.facts) before old lanes w.notes
+
+abbrev pub Completed : Settings → Recording → WorkState → Recording → WorkState → Type 0
+Completed set m w n v = StageReached set stage.ResponseComplete (with_end n.last w.facts) m w n v
+
+abbrev pub CompleteHalts : Recording → WorkState → Recording → WorkState → Type 0
+CompleteHalts m w n v = StageHalts (with_end n.last w.facts) m w n v
+
+-- ---- its moments
 
 -- the moments after the first
 abbrev pub later_moments : Bool → ℕ → ℕ → List ℕ
 later_moments true started complete = started ∷ complete ∷ []
 later_moments false started complete = complete ∷ []
 
--- at a moment of the clock the events of a stage were offered, by these facts
-pub record StageReached (set : Settings) (own : Stage) (m : BayState) (w : WorkState) (n : BayState) (v : WorkState) (facts : Facts)
-    : Type 0 where
-  pub noted : Noted (offers_due set (stage_events w.decision facts own)) m.lanes w.notes n.lanes v.notes
-  pub given : Grows m.given n.given (n.last ∷ [])
-  pub later : m.last ≤ n.last
-  pub bay_is : n ≡ clock_and_lanes m n
-  pub work_is : v ≡ record w { facts = facts; notes = v.notes }
-
--- memory ran out: at a moment of the clock nothing was offered
-pub record StageHalts (m : BayState) (w : WorkState) (n : BayState) (v : WorkState) (facts : Facts) : Type 0 where
-  pub given : Grows m.given n.given (n.last ∷ [])
-  pub bay_is : n ≡ record m { last = n.last; given = n.given }
-  pub work_is : v ≡ record w { facts = facts }
-
--- the moments after the first are those of the clock, and don't fall. One that doesn't run long has no start of its own
-pub record IsTimedBy (long : Bool) (g0 g : Option (List ℕ)) (last0 last before start end : ℕ) : Type 0 where
-  pub given : Grows g0 g (later_moments long start end)
-  pub started : long ≡ true → last0 ≤ start
+-- they are those of the clock, and don't fall. One that doesn't run long has no start of its own
+pub record IsTimedBy (long : Bool) (m n : Recording) (before start end : ℕ) : Type 0 where
+  pub given : Grows m.given n.given (later_moments long start end)
+  pub started : long ≡ true → m.last ≤ start
   pub short : long ≡ false → start ≡ before
-  pub complete : end ≡ last
-  pub later : last0 ≤ last
-  pub between : long ≡ true → start ≤ last
+  pub complete : end ≡ n.last
+  pub later : m.last ≤ n.last
+  pub between : long ≡ true → start ≤ n.last
 
--- the events of its start were offered, at a moment of the clock, if it runs long
-abbrev pub StartedBy : Bool → Settings → BayState → WorkState → BayState → WorkState → Type 0
-StartedBy false set m w n v = (n ≡ m) × (v ≡ w)
-StartedBy true set m w n v = StageReached set stage.ResponseStarted m w n v (with_start n.last w.facts)
+-- the same before its end
+abbrev pub IsStartedBy : Bool → Recording → Recording → ℕ → ℕ → Type 0
+IsStartedBy false m n before start = (n.given ≡ m.given) × (n.last ≡ m.last) × (start ≡ before)
+IsStartedBy true m n before start = Grows m.given n.given (start ∷ []) × (n.last ≡ start) × (m.last ≤ start)
 
-abbrev pub Started : Settings → BayState → WorkState → BayState → WorkState → Type 0
-Started set m w n v = StartedBy (is_long_running w.facts.info) set m w n v
-
--- what its reply's start is due was offered, and nothing since: these offers left the lanes as they are
-pub record StartIsOffered (set : Settings) (lanes : LanesState) (w : WorkState) : Type 0 where
-  pub before : LanesState
-  pub old : List OfferNote
-  pub noted : Noted (offers_due set (started_events w.decision w.facts)) before old lanes w.notes
-
-abbrev pub Completed : Settings → BayState → WorkState → BayState → WorkState → Type 0
-Completed set m w n v = StageReached set stage.ResponseComplete m w n v (with_end n.last w.facts)
+-- ---- the reply, between the events of its start and of its end
 
 -- the facts once the reply is complete
 abbrev pub known_facts : Kept → ℕ → ℕ → Facts → Facts
-known_facts reply started complete facts = with_moments started complete (with_kept reply facts)
-
--- the dial, the clock and the lanes changed, and nothing else of the bay
-abbrev pub dial_clock_and_lanes : BayState → BayState → BayState
-dial_clock_and_lanes m n = record m { dial = n.dial; lanes = n.lanes; last = n.last; given = n.given }
+known_facts reply started complete facts = with_end complete (with_kept reply (with_start started facts))
 
 -- what events show of the reply's body
 abbrev pub object_show : WorkState → Show
 object_show w = reply_show w.decision.level w.decision.omit_managed w.facts.info
 
--- the reply was written by that end, between the later events, and this was kept
-pub record Replied {K : Type 0} (state : K → LinkState) (set : Settings) (r : Request) (sent : SentOn K) (m : BayState) (w : WorkState)
-    (n : BayState) (v : WorkState) (w0 w1 : Option (List ℕ)) (rose : Type 0) (end : Relayed) : Type 0 where
+-- the reply was written by that end, and this was kept
+pub record Replied {K : Type 0} (state : K → LinkState) (set : Settings) (r : Request) (handling : Handling) (sent : SentOn K) (k l : DialState)
+    (m : Recording) (w : WorkState) (n : Recording) (v : WorkState) (w0 w1 : Option (List ℕ)) (rose : Type 0) (end : Relayed) : Type 0 where
   pub kept : Kept
-  pub to : RepliedTo state r w.facts.id w.routed.handling (object_show w) sent m.dial n.dial w0 w1 rose
-      (record { end = end; kept = kept })
+  pub to : RepliedTo state r w.facts.id handling (object_show w) sent k l w0 w1 rose (record { end = end; kept = kept })
   pub started : ℕ
   pub complete : ℕ
-  pub noted : Noted (later_due set w.decision (known_facts kept started complete w.facts)) m.lanes w.notes n.lanes v.notes
+  pub noted : Noted (start_due set w.decision (known_facts kept started complete w.facts)
+      ++ end_due set w.decision (known_facts kept started complete w.facts)) m.lanes w.notes n.lanes v.notes
   pub refuses : has_refused set v.notes ≡ has_refused set w.notes
-  pub timed : IsTimedBy (is_long_running w.facts.info) m.given n.given m.last n.last w.facts.started started complete
-  pub bay_is : n ≡ dial_clock_and_lanes m n
+  pub timed : IsTimedBy (is_long_running w.facts.info) m n w.facts.started started complete
   pub work_is : v ≡ record w { facts = known_facts kept started complete w.facts; notes = v.notes }
 
--- memory ran out: some of the later events were offered, some prefix of the reply was written, and the link was handed back
-pub record ReplyHalts {K : Type 0} (state : K → LinkState) (set : Settings) (r : Request) (sent : SentOn K) (m : BayState)
-    (w : WorkState) (n : BayState) (v : WorkState) (w0 w1 : Option (List ℕ)) : Type 0 where
-  pub part : RepliedPart state r w.facts.id w.routed.handling sent m.dial n.dial w0 w1
-  pub kept : Kept
+-- memory ran out before the reply was complete: nothing was written, or the events of its start were offered and a prefix of it was
+-- written. `faulty` says that a link failed, and `rose` that a write did
+pub record HaltsBeforeEnd (set : Settings) (r : Request) (handling : Handling) (came : Came) (faulty : Type 0) (m : Recording) (w : WorkState)
+    (n : Recording) (v : WorkState) (w0 w1 : Option (List ℕ)) : Type 0 where
   pub started : ℕ
-  pub complete : ℕ
   pub due : List Due
-  pub rest : List Due
-  pub due_is : later_due set w.decision (known_facts kept started complete w.facts) ≡ due ++ rest
   pub noted : Noted due m.lanes w.notes n.lanes v.notes
-  pub refuses : has_refused set v.notes ≡ has_refused set w.notes
-  pub moments : List ℕ
-  pub given : Grows m.given n.given moments
-  pub few : length moments ≤ 2
-  pub bay_is : n ≡ dial_clock_and_lanes m n
-  pub work_is : v ≡ record w { facts = known_facts kept started complete w.facts; notes = v.notes }
+  pub written :
+      ((due ≡ []) × (w1 ≡ w0))
+      ⊎ ((due ≡ start_due set w.decision (with_start started w.facts))
+      × WritesPart r w.facts.id handling faulty came w0 w1)
+  pub timed : IsStartedBy (is_long_running w.facts.info) m n w.facts.started started
+  pub work_is : v ≡ record w { facts = with_start started w.facts; notes = v.notes }
 
--- ---- all of it
-
--- what an exchange changes of a bay
-abbrev pub all_but_numbers : BayState → BayState → BayState
-all_but_numbers m n = record m {
-  seen = n.seen;
-  own = n.own;
-  dial = n.dial;
-  lanes = n.lanes;
-  last = n.last;
-  given = n.given;
-}
-
--- the facts once the reply is known, and when its head was known and it was complete
-abbrev pub final_facts : WorkState → Routed → LinkNote → Kept → ℕ → ℕ → Facts
-final_facts w routed link reply started complete =
-    with_moments started complete (with_reply (status_of routed.handling link) reply w.facts)
-
-pub record Served (set : Settings) (r : Request) (own : Errand) (m : BayState) (w : WorkState) (n : BayState) (v : WorkState)
-    (w0 w1 : Option (List ℕ)) (rose : Type 0) (end : Relayed) : Type 0 where
-  pub routed : Routed
-  pub came : Came
-  pub reply : Kept
-  pub started : ℕ
-  pub complete : ℕ
-  pub decides : Decides set.endpoints (errand_after set v.notes own) m.opening m.seen m.own n.seen n.own routed
-  pub sent_is : Comes (is_head r) (is_long_running w.facts.info)
-      (sent_on r (effective_user w.facts) w.facts.id routed.handling) m.dial n.dial came
+-- it ran out once the reply was complete: the event of its end was not offered
+pub record HaltsAtEnd (set : Settings) (r : Request) (handling : Handling) (came : Came) (faulty : Type 0) (m : Recording) (w : WorkState)
+    (n : Recording) (v : WorkState) (w0 w1 : Option (List ℕ)) (rose : Type 0) : Type 0 where
+  pub end : Relayed
   pub text : List ℕ
-  pub replies : Replies r w.facts.id routed.handling (Rose m.dial.link_faults n.dial.link_faults) came end text
-  pub kept_is : IsKeptBy r routed.handling (object_show w) came end reply
-  pub noted : Noted (offers_due set (owed w.decision (final_facts w routed (link_of came) reply started complete)))
-      m.lanes w.notes n.lanes v.notes
-  pub timed : IsTimedBy (is_long_running w.facts.info) m.given n.given m.last n.last w.facts.started started complete
+  pub replies : Replies r w.facts.id handling faulty came end text
   pub writes : WritesTo w0 w1 text rose end
-  pub bay_is : n ≡ all_but_numbers m n
-  pub work_is : v ≡ record {
-    routed = routed;
-    decision = w.decision;
-    facts = final_facts w routed (link_of came) reply started complete;
-    link = link_of came;
+  pub kept : Kept
+  pub kept_is : IsKeptBy r handling (object_show w) came end kept
+  pub started : ℕ
+  pub complete : ℕ
+  pub noted : Noted (start_due set w.decision (known_facts kept started complete w.facts)) m.lanes w.notes n.lanes v.notes
+  pub timed : IsTimedBy (is_long_running w.facts.info) m n w.facts.started started complete
+  pub work_is : v ≡ record w { facts = known_facts kept started complete w.facts; notes = v.notes }
+
+abbrev pub ReplyHaltsAt : Settings → Request → Handling → Came → Type 0 → Recording → WorkState → Recording → WorkState
+    → Option (List ℕ) → Option (List ℕ) → Type 0 → Type 0
+ReplyHaltsAt set r handling came faulty m w n v w0 w1 rose =
+    (has_refused set v.notes ≡ has_refused set w.notes)
+    × (HaltsBeforeEnd set r handling came faulty m w n v w0 w1 ⊎ HaltsAtEnd set r handling came faulty m w n v w0 w1 rose)
+
+-- memory ran out, and the link was handed back
+pub record ReplyHalts {K : Type 0} (state : K → LinkState) (set : Settings) (r : Request) (handling : Handling) (sent : SentOn K) (k l : DialState)
+    (m : Recording) (w : WorkState) (n : Recording) (v : WorkState) (w0 w1 : Option (List ℕ)) (rose : Type 0) : Type 0 where
+  pub came : Came
+  pub comes : ComesTo state (is_head r) sent k l came
+  pub link_is : link_of came ≡ note_of_sent sent
+  pub halts : ReplyHaltsAt set r handling came (Rose k.link_faults l.link_faults) m w n v w0 w1 rose
+
+-- ---- the link and the reply
+
+-- what is to be sent on
+abbrev pub sending : Request → Handling → WorkState → Option sent.Sent
+sending r handling w = sent_on r (effective_user w.facts) w.facts.id handling
+
+-- it was sent on where it is to be, and the reply was written by that end
+pub record AnsweredTo (set : Settings) (r : Request) (handling : Handling) (k l : DialState) (m : Recording) (w : WorkState) (n : Recording)
+    (v : WorkState) (w0 w1 : Option (List ℕ)) (rose : Type 0) (end : Relayed) : Type 0 where
+  pub came : Came
+  pub comes : Comes (is_head r) (is_long_running w.facts.info) (sending r handling w) k l came
+  pub text : List ℕ
+  pub replies : Replies r w.facts.id handling (Rose k.link_faults l.link_faults) came end text
+  pub writes : WritesTo w0 w1 text rose end
+  pub kept : Kept
+  pub kept_is : IsKeptBy r handling (object_show w) came end kept
+  pub started : ℕ
+  pub complete : ℕ
+  pub noted : Noted (start_due set w.decision (known_facts kept started complete (linked handling (link_of came) w).facts)
+      ++ end_due set w.decision (known_facts kept started complete (linked handling (link_of came) w).facts)) m.lanes w.notes n.lanes v.notes
+  pub refuses : has_refused set v.notes ≡ has_refused set w.notes
+  pub timed : IsTimedBy (is_long_running w.facts.info) m n w.facts.started started complete
+  pub work_is : v ≡ record (linked handling (link_of came) w) {
+    facts = known_facts kept started complete (linked handling (link_of came) w).facts;
     notes = v.notes;
   }
 
--- memory ran out on the way
-pub record ServingHalts (set : Settings) (r : Request) (own : Errand) (m : BayState) (w : WorkState) (n : BayState)
-    (v : WorkState) (w0 w1 : Option (List ℕ)) : Type 0 where
-  pub routed : Routed
+-- memory ran out while it was sent on
+pub record SendHalts (r : Request) (handling : Handling) (k l : DialState) (m : Recording) (w : WorkState) (n : Recording) (v : WorkState)
+    (w0 w1 : Option (List ℕ)) : Type 0 where
+  pub sent_is : StopsSending (sending r handling w) k l
+  pub same : n ≡ m
+  pub work_is : v ≡ w
+  pub written : w1 ≡ w0
+
+-- it ran out after that, and the link was handed back
+pub record AnswerHaltsAt (set : Settings) (r : Request) (handling : Handling) (k l : DialState) (m : Recording) (w : WorkState) (n : Recording)
+    (v : WorkState) (w0 w1 : Option (List ℕ)) (rose : Type 0) : Type 0 where
   pub came : Came
-  pub link : LinkNote
-  pub status : ℕ
-  pub reply : Kept
-  pub started : ℕ
-  pub complete : ℕ
-  pub due : List Due
-  pub rest : List Due
-  pub due_is : offers_due set (owed w.decision (with_moments started complete (with_reply status reply w.facts))) ≡ due ++ rest
-  pub noted : Noted due m.lanes w.notes n.lanes v.notes
-  pub decides : RoutesHalt set (errand_after set v.notes own) m n routed
-  pub sent_is : Comes (is_head r) (is_long_running w.facts.info)
-      (sent_on r (effective_user w.facts) w.facts.id routed.handling) m.dial n.dial came
-      ⊎ StopsSending (sent_on r (effective_user w.facts) w.facts.id routed.handling) m.dial n.dial
-  pub moments : List ℕ
-  pub given : Grows m.given n.given moments
-  pub few : length moments ≤ 2
-  pub written : WritesPart r w.facts.id routed.handling (Rose m.dial.link_faults n.dial.link_faults) came w0 w1
-  pub bay_is : n ≡ all_but_numbers m n
-  pub work_is : v ≡ record {
-    routed = routed;
-    decision = w.decision;
-    facts = with_moments started complete (with_reply status reply w.facts);
-    link = link;
-    notes = v.notes;
-  }
+  pub comes : Comes (is_head r) (is_long_running w.facts.info) (sending r handling w) k l came
+  pub halts : ReplyHaltsAt set r handling came (Rose k.link_faults l.link_faults) m (linked handling (link_of came) w) n v w0 w1 rose
+
+abbrev pub AnswerHalts : Settings → Request → Handling → DialState → DialState → Recording → WorkState → Recording → WorkState
+    → Option (List ℕ) → Option (List ℕ) → Type 0 → Type 0
+AnswerHalts set r handling k l m w n v w0 w1 rose =
+    SendHalts r handling k l m w n v w0 w1 ⊎ AnswerHaltsAt set r handling k l m w n v w0 w1 rose
 
 -- ---- how it ends
 
@@ -282,18 +258,12 @@ outcome_of (Err fault) = outcome.NoMemory
 abbrev pub Outcomes : Settings → List ℕ → Request → BayState → BayState → Option (List ℕ) → Option (List ℕ) → Type 0 → Outcome
     → Type 0
 Outcomes set peer r m n w0 w1 rose outcome.Whole =
-    (text : List ℕ) × Exchanged set peer r m text n × Appends w0 w1 text
+    (text : List ℕ) × (x : Exchange) × Exchanged set peer r m text n x × Appends w0 w1 text
 Outcomes set peer r m n w0 w1 rose outcome.Cut =
-    (text : List ℕ) × ExchangedTo set peer r m text n relayed.WriteFault × AppendsFront w0 w1 text × rose
+    (text : List ℕ) × (x : Exchange) × ExchangedTo set peer r m text n relayed.WriteFault x × AppendsFront w0 w1 text × rose
 Outcomes set peer r m n w0 w1 rose outcome.BackendCut =
-    (text : List ℕ) × ExchangedTo set peer r m text n relayed.BackendCut × Appends w0 w1 text
+    (text : List ℕ) × (x : Exchange) × ExchangedTo set peer r m text n relayed.BackendCut x × Appends w0 w1 text
 Outcomes set peer r m n w0 w1 rose outcome.StreamSpent =
-    (text : List ℕ) × ExchangedTo set peer r m text n relayed.StreamSpent × Appends w0 w1 text
+    (text : List ℕ) × (x : Exchange) × ExchangedTo set peer r m text n relayed.StreamSpent x × Appends w0 w1 text
 Outcomes set peer r m n w0 w1 rose outcome.NoMemory =
-    Unbegun m n w0 w1 ⊎ Halted set peer r m n w0 w1
-
-abbrev pub StartHalts : BayState → WorkState → BayState → WorkState → Type 0
-StartHalts m w n v = StageHalts m w n v (with_start n.last w.facts)
-
-abbrev pub CompleteHalts : BayState → WorkState → BayState → WorkState → Type 0
-CompleteHalts m w n v = StageHalts m w n v (with_end n.last w.facts)
+    Unbegun m n w0 w1 ⊎ ((x : Exchange) × Halted set peer r m n w0 w1 rose x)

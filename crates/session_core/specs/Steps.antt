@@ -1,17 +1,19 @@
 -- What is known of a request while it is served.
-use Rattle.std.specs.Prelude.{◌≡◌, ℕ, List, [], Option, None}
+use Rattle.std.specs.Prelude.{◌≡◌, ◌≤◌, ℕ, List, [], ◌∷◌}
 use Rattle.audit_core.specs.Answer.{status_of}
 use Rattle.audit_core.specs.Errand.{errand_in, attributes_in}
 use Rattle.audit_core.specs.Exchange.{KeepsRequest, decision_in, facts_by}
 use Rattle.audit_core.specs.declared.link_note.LinkNote.{LinkNote}
 use Rattle.audit_core.specs.declared.link_note.LinkNote.TheVariants.{NotUsed}
 use Rattle.audit_core.specs.declared.offers.OfferNote.{OfferNote}
-use Rattle.audit_core.specs.declared.routed.Handling.TheVariants.{Refused}
+use Rattle.audit_core.specs.declared.routed.Handling.{Handling}
 use Rattle.audit_core.specs.declared.routed.Routed.{Routed}
 use Rattle.audit_core.specs.declared.settings.Settings.{Settings}
 use Rattle.audit_core.specs.declared.stamp.Stamp.{Stamp}
+use Rattle.front_ports.specs.Told.{Grows}
 use Rattle.http_edge.specs.declared.request.Request.{Request}
 use Rattle.policy_rules.specs.declared.decision.Decision.{Decision}
+use Rattle.session_core.specs.Bays.{BayState, next_id}
 use Rattle.session_core.specs.declared.begun.Begun.{Begun}
 use Rattle.session_core.specs.declared.exchange.Exchange.{Exchange}
 use Rattle.session_core.specs.declared.work.Work.{Work}
@@ -34,41 +36,39 @@ pub record IsBegun (set : Settings) (stamp : Stamp) (r : Request) (begun : Begun
     facts = first_facts set stamp r kept;
   }
 
+-- its stamp is that of a request which the bay read at that moment
+abbrev pub stamp_at : List ℕ → BayState → ℕ → Stamp
+stamp_at peer m received = record { id = next_id m; peer = peer; received = received; started = received; complete = received }
+
+-- at a moment of the clock it was judged, and nothing else happened
+pub record Arrived (set : Settings) (peer : List ℕ) (r : Request) (begun : Begun) (m k : BayState) : Type 0 where
+  pub is_begun : IsBegun set (stamp_at peer m k.last) r begun
+  pub given : Grows m.given k.given (k.last ∷ [])
+  pub later : m.last ≤ k.last
+  pub bay_is : k ≡ record m { last = k.last; given = k.given }
+
 -- ---- while it is served
 
--- how it is handled so far, how it is recorded, what is known of it, what became of its link, and its notes
+-- how it is recorded, what is known of it, what became of its link, and its notes
 pub record WorkState : Type 0 where
-  pub routed : Routed
   pub decision : Decision
   pub facts : Facts
   pub link : LinkNote
   pub notes : List OfferNote
 
 abbrev pub work_state : Work → WorkState
-work_state w = record {
-  routed = record { row = w.row; handling = w.handling };
-  decision = w.decision;
-  facts = w.facts;
-  link = w.link;
-  notes = w.notes.items;
-}
+work_state w = record { decision = w.decision; facts = w.facts; link = w.link; notes = w.notes.items }
 
--- nothing was decided or offered
+-- nothing was sent on or offered
 abbrev pub first_work : Decision → Facts → WorkState
-first_work decision facts = record {
-  routed = record { row = None; handling = Refused 500 };
-  decision = decision;
-  facts = facts;
-  link = NotUsed;
-  notes = [];
-}
+first_work decision facts = record { decision = decision; facts = facts; link = NotUsed; notes = [] }
 
--- what is told of it
-abbrev pub exchange_of : Request → WorkState → Exchange
-exchange_of r w = record {
+-- what is told of one that was handled so
+abbrev pub exchange_of : Request → Routed → WorkState → Exchange
+exchange_of r routed w = record {
   request = r;
-  row = w.routed.row;
-  handling = w.routed.handling;
+  row = routed.row;
+  handling = routed.handling;
   decision = w.decision;
   facts = w.facts;
   link = w.link;
@@ -83,13 +83,15 @@ with_status status facts = record facts { status = status }
 abbrev pub with_kept : Kept → Facts → Facts
 with_kept reply facts = record facts { reply = reply }
 
--- the facts with the status and what is kept of the reply
-abbrev pub with_reply : ℕ → Kept → Facts → Facts
-with_reply status reply facts = record facts { status = status; reply = reply }
+abbrev pub with_start : ℕ → Facts → Facts
+with_start started facts = record facts { started = started }
 
--- how its link is noted, and the status that its reply has then
-abbrev pub linked : LinkNote → WorkState → WorkState
-linked note w = record w { link = note; facts = with_status (status_of w.routed.handling note) w.facts }
+abbrev pub with_end : ℕ → Facts → Facts
+with_end complete facts = record facts { complete = complete }
+
+-- how the link of one that was handled so is noted, and the status that its reply has then
+abbrev pub linked : Handling → LinkNote → WorkState → WorkState
+linked handling note w = record w { link = note; facts = with_status (status_of handling note) w.facts }
 
 -- what is kept of its reply's body
 abbrev pub with_object : Kept → WorkState → WorkState

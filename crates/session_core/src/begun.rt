@@ -1,7 +1,8 @@
 // What is known of a request when it was received.
-ghost use Rattle.std.specs.Prelude.{IfOk};
+ghost use Rattle.std.specs.Prelude.{◌≡◌, IfOk, OnOk, true};
 ghost use Rattle.session_core.specs.Steps as spec;
 
+use crate::diary::Diary;
 use audit_core::{Errand, Judged, Settings, Stamp, first_facts, judge};
 use front_base::NoMemory;
 use http_edge::Request;
@@ -18,8 +19,8 @@ pub struct Begun {
     pub facts: Facts,
 }
 
-/// Judges a request that was received, before any table is seen.
-pub fn begin(
+// Judges a request that was received, before any table is seen.
+fn begin(
     alloc: Global,
     settings: &Settings,
     paths: &LocalPaths,
@@ -40,6 +41,26 @@ pub fn begin(
             decision,
             facts,
         }),
-        Err(_) => Err(NoMemory),
+        Err(_) => {
+            drop(errand);
+            Err(NoMemory)
+        }
     }
+}
+
+/// Judges a request that was received, once the diary has room for it.
+pub fn arrive<Y: Diary>(
+    alloc: Global,
+    settings: &Settings,
+    paths: &LocalPaths,
+    diary: &mut Y,
+    stamp: &Stamp,
+    request: &Request,
+) -> Result<Begun, NoMemory>
+    ensures begun { IfOk result (spec.IsBegun settings.now stamp.now request.now) }
+    ensures room { OnOk result (Y.has_room diary.new ≡ true) }
+    ensures same { Y.notes diary.new ≡ Y.notes diary.old }
+{
+    diary.ready(alloc)?;
+    begin(alloc, settings, paths, stamp, request)
 }

@@ -84,5 +84,7 @@ impl Diary for NoDiary {
         Ok(())
     }
 
-    fn note(&mut self, exchange: Exchange) {}
+    fn note(&mut self, exchange: Exchange) {
+        drop(exchange);
+    }
 }

@@ -13,6 +13,8 @@ mod begun;
 mod conn_end;
 mod diary;
 mod exchange;
+mod handling;
+mod replying;
 mod serving;
 mod session;
 mod work;

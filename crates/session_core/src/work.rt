@@ -1,23 +1,26 @@
 // A request while it is served.
-ghost use Rattle.std.specs.Prelude.{◌≡◌, []};
-ghost use Rattle.session_core.specs.Exchange.{errand_after};
+ghost use Rattle.std.specs.Prelude.{◌≡◌, ◌≢◌, [], OnOk, OnErr};
+ghost use Rattle.event_offers.specs.Lanes.{lanes_state};
+ghost use Rattle.session_core.specs.Bays.{CanOffer};
+ghost use Rattle.session_core.specs.Exchange.{errand_after, unrouted};
+ghost use Rattle.session_core.specs.Parts.{StageOffered};
 ghost use Rattle.session_core.specs.Steps as spec;
 
 use crate::exchange::Exchange;
-use apiservice_rows::Row;
 use audit_core::{
     Errand, Handling, LinkNote, OfferNote, Offers, Routed, Settings, has_refused, status_of,
 };
+use event_offers::{Lanes, offer_stage};
+use front_base::{NoMemory, Stage};
 use http_edge::Request;
 use policy_rules::Decision;
 use stage_event::{Facts, Kept};
 use std::alloc::Global;
+use truncate_backend::Lane;
 
-/// How a request is handled so far, what is known of it, and what became of its events.
+/// What is known of a request, what became of its link, and what became of its events.
 #[derive(Drop)]
 pub struct Work {
-    pub row: Option<Row>,
-    pub handling: Handling,
     pub decision: Decision,
     pub facts: Facts,
     pub link: LinkNote,
@@ -25,13 +28,11 @@ pub struct Work {
 }
 
 impl Work {
-    /// Nothing was decided or offered.
+    /// Nothing was sent on or offered.
     pub fn begun(alloc: Global, decision: Decision, facts: Facts) -> Work
         ensures { spec.work_state result ≡ spec.first_work decision facts }
     {
         Work {
-            row: None,
-            handling: Handling::Refused(500),
             decision,
             facts,
             link: LinkNote::NotUsed,
@@ -39,20 +40,38 @@ impl Work {
         }
     }
 
-    /// How it was handled.
-    pub fn handle(&mut self, routed: Routed)
-        ensures { spec.work_state self.new ≡ record (spec.work_state self.old) { routed = routed } }
+    /// Offers the event of a stage, if one is owed there, by what is known so far. Where memory ran out, nothing was offered.
+    pub fn offer<A: Lane, B: Lane>(
+        &mut self,
+        alloc: Global,
+        settings: &Settings,
+        stage: Stage,
+        lanes: &mut Lanes<A, B>,
+    ) -> Result<(), NoMemory>
+        requires stage { stage ≢ Stage.Panic }
+        requires offer { CanOffer settings.now (lanes_state A.Lane B.Lane lanes.old) 1 }
+        ensures ok { OnOk result (StageOffered settings.now stage (lanes_state A.Lane B.Lane lanes.old) (spec.work_state self.old)
+            (lanes_state A.Lane B.Lane lanes.new) (spec.work_state self.new)) }
+        ensures err { OnErr result ((lanes_state A.Lane B.Lane lanes.new ≡ lanes_state A.Lane B.Lane lanes.old)
+            × (spec.work_state self.new ≡ spec.work_state self.old)) }
     {
-        self.row = routed.row;
-        self.handling = routed.handling;
+        offer_stage(
+            alloc,
+            settings,
+            self.decision,
+            &self.facts,
+            stage,
+            lanes,
+            &mut self.notes,
+        )
     }
 
-    /// How its link is noted, and the status of its reply then.
-    pub fn set_link(&mut self, note: LinkNote)
-        ensures { spec.work_state self.new ≡ spec.linked note (spec.work_state self.old) }
+    /// How the link of a request that was handled so is noted, and the status of its reply then.
+    pub fn set_link(&mut self, handling: &Handling, note: LinkNote)
+        ensures { spec.work_state self.new ≡ spec.linked handling.now note (spec.work_state self.old) }
     {
         self.link = note;
-        self.facts.status = status_of(&self.handling, note);
+        self.facts.status = status_of(handling, note);
     }
 
     /// What is kept of its reply's body.
@@ -62,14 +81,14 @@ impl Work {
         self.facts.reply = reply;
     }
 
-    /// What is told of it.
-    pub fn into_exchange(self, request: Request) -> Exchange
-        ensures { result ≡ spec.exchange_of request (spec.work_state self) }
+    /// What is told of a request that was handled so.
+    pub fn into_exchange(self, request: Request, routed: Routed) -> Exchange
+        ensures { result ≡ spec.exchange_of request routed (spec.work_state self) }
     {
         Exchange {
             request,
-            row: self.row,
-            handling: self.handling,
+            row: routed.row,
+            handling: routed.handling,
             decision: self.decision,
             facts: self.facts,
             link: self.link,
@@ -78,11 +97,22 @@ impl Work {
     }
 }
 
+/// How a request is noted that was not handled.
+pub fn not_routed() -> Routed
+    ensures { result ≡ unrouted }
+{
+    Routed {
+        row: None,
+        handling: Handling::Refused(500),
+    }
+}
+
 /// What a request wants after its first events: it is refused where a strict sink could not record its arrival.
 pub fn errand_after(settings: &Settings, notes: &[OfferNote], errand: Errand) -> Errand
     ensures { result ≡ errand_after settings.now notes.now errand }
 {
     if has_refused(settings, notes) {
+        drop(errand);
         Errand::Refuse(500)
     } else {
         errand

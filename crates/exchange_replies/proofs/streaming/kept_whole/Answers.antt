@@ -1,4 +1,4 @@
-use Rattle.std.proofs.Common.{◌≡◌, ◌<◌, List, ℕ, ◌∙◌, sym, ap, subst, refl, length, nat_le, IfOk}
+use Rattle.std.proofs.Common.{◌<◌, List, ℕ, ◌∙◌, sym, ap, subst, refl, length, nat_le, IfOk}
 use Rattle.std.specs.Prelude.{option_map}
 use Rattle.stage_event.specs.Kept.{IsKept}
 use Rattle.exchange_replies.proofs.KeepLemmas.{sent_none, sent_all, kept_some, kept_none}

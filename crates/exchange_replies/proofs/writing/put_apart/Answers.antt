@@ -1,8 +1,4 @@
-use Rattle.std.proofs.Common.{subst}
 use Rattle.exchange_replies.proofs.WritingLemmas.{cut_first, second}
-use Rattle.exchange_replies.specs.Writing.{Writes}
-use Rattle.exchange_replies.specs.declared.writing.Wrote.TheVariants.{Whole, Cut}
-use Rattle.front_ports.specs.Cause.{Rose}
 use Rattle.exchange_replies.proofs.writing.put_apart.Goals as goal
 
 pub returns-in-Whole-clause-wrote : goal.returns-in-Whole-clause-wrote
