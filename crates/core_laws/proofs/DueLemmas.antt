@@ -3,14 +3,13 @@ use Rattle.std.proofs.Common.{◌≡◌, ◌≢◌, ℕ, Bool, true, false, not,
 use Rattle.std.proofs.lemmas.Grind.{flat_map-append}
 use Rattle.std.proofs.lemmas.List.{append-nil, map-append}
 use Rattle.std.specs.Prelude.{if◌then◌else◌}
-use Rattle.audit_core.specs.Exchange.{decision_in}
 use Rattle.audit_core.specs.Offers.{Due, offers_due, due_at, sinks_on, when_on, mode_of, is_on, is_first}
 use Rattle.audit_core.specs.Owed.{omits, owed_at}
 use Rattle.audit_core.specs.declared.settings.Settings.{Settings}
 use Rattle.audit_core.specs.declared.sinks.Sink.{Sink}
 use Rattle.audit_core.specs.declared.sinks.Sink.TheVariants.{Log, Webhook}
 use Rattle.core_laws.proofs.Logic.{both}
-use Rattle.core_laws.specs.Exchanges.{HasRequest, AreLater}
+use Rattle.core_laws.specs.Exchanges.{HasLevel, AreLater}
 use Rattle.core_laws.specs.Offered.{dues_of, dues_at}
 use Rattle.front_base.specs.Info.{is_long_running}
 use Rattle.front_base.specs.declared.level.Level.{Level}
@@ -23,7 +22,6 @@ use Rattle.stage_event.specs.Events.{event}
 use Rattle.stage_event.specs.declared.event.Event.{Event}
 use Rattle.stage_event.specs.declared.facts.Facts.{Facts}
 use Rattle.stage_event.specs.declared.facts.Kept.{Kept}
-use Rattle.two_worlds.specs.Requests.{Wish, wish_of}
 use Rattle.two_worlds.specs.Setup.{Setup}
 use Rattle.two_worlds.specs.Steps.{due, event_unless}
 use Rattle.two_worlds.specs.declared.state.Exchange.{Exchange}
@@ -187,20 +185,13 @@ owed_dues setup level.RequestResponse f =
     events_dues setup.set (λ stage. event stage level.RequestResponse f) (first setup.set.policy f.user f.info).omit
     (is_long_running f.info)
 
--- its level is that of the policy's rule
-level_is : (setup : Setup) (x : Exchange) → HasRequest setup x
-    → x.level ≡ (first setup.set.policy x.facts.user x.facts.info).level
-unfolding wish_of decision_in
-level_is setup x h =
-    ap (λ w. w.level) h.means ∙ sym (ap (λ (w : Wish). (first setup.set.policy w.user w.info).level) h.means)
-
-pub dues_are : (setup : Setup) (x : Exchange) → HasRequest setup x
+pub dues_are : (setup : Setup) (x : Exchange) → HasLevel setup x
     → dues_at setup x.level x.facts (is_long_running x.facts.info) true ≡ dues_of setup x
 dues_are setup x h =
     sym (owed_dues setup x.level x.facts)
     ∙ ap
     (λ l. offers_due setup.set (owed_at l (first setup.set.policy x.facts.user x.facts.info).omit x.facts))
-    (level_is setup x h)
+    h
 
 -- ---- sinks that are on
 

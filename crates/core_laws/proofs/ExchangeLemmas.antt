@@ -7,6 +7,7 @@ use Rattle.apiservice_table.specs.Changes.{after}
 use Rattle.apiservice_table.specs.declared.change.Change.{Change}
 use Rattle.apiservice_table.specs.declared.change.ChangeFault.{ChangeFault}
 use Rattle.audit_core.specs.Answer.{status_of}
+use Rattle.audit_core.specs.Exchange.{decision_in}
 use Rattle.audit_core.specs.Offers.{Due, AreNotes, IsOutcome, has_refused, mode_of, refuses, is_first, is_strict, is_failed}
 use Rattle.audit_core.specs.Routing.{handling_of}
 use Rattle.audit_core.specs.declared.link_note.LinkNote.{LinkNote}
@@ -18,7 +19,7 @@ use Rattle.audit_core.specs.declared.routed.Handling.TheVariants.{Refused, Serve
 use Rattle.core_laws.proofs.DueLemmas.{with_reply, received_stays, started_stays, due_stays, three_started, three_finished, dues_are, later_due, none_started}
 use Rattle.core_laws.proofs.LineLemmas.{notes-push}
 use Rattle.core_laws.proofs.Logic.{both, no_case, and_first, and_second, no_of, or_nothing, or_front, or_first, or_second, le_of, same_number, not_some, get_more, get_last}
-use Rattle.core_laws.specs.Exchanges.{HasRequest, handled, HasReply, StandsUnless, IsDecided, Settled, AreSettled, AreLater, IsFinished, SettledSoFar}
+use Rattle.core_laws.specs.Exchanges.{HasLevel, handled, HasReply, StandsUnless, IsDecided, Settled, AreSettled, AreLater, IsFinished, SettledSoFar}
 use Rattle.core_laws.specs.Offered.{dues_so_far}
 use Rattle.front_base.specs.Info.{is_long_running}
 use Rattle.front_base.specs.declared.level.Level.{Level}
@@ -69,7 +70,7 @@ decided-more setup ch more seen change le h =
 settled-more : (setup : Setup) (ch more : List Change) (x : Exchange) → Settled setup ch x → Settled setup (ch ++ more) x
 settled-more setup ch more x h =
     record {
-      request = h.request;
+      recorded = h.recorded;
       seen = seen-more x.seen ch more h.seen;
       reply = reply-more setup ch more x h.seen h.reply;
       offers = h.offers;
@@ -97,7 +98,7 @@ pub so_far-more : (setup : Setup) (ch more : List Change) (o : Open) → Settled
     → SettledSoFar setup (ch ++ more) o
 so_far-more setup ch more o h =
     record {
-      request = h.request;
+      recorded = h.recorded;
       seen = seen-more o.exchange.seen ch more h.seen;
       failed = h.failed;
       offers = h.offers;
@@ -132,11 +133,16 @@ bay-more setup ch more b h =
 
 -- ---- Begin
 
+begun_level : (setup : Setup) (bay n m : ℕ) (peer : List ℕ) (r : Request)
+    → HasLevel setup (Steps.begun setup bay n (wish_of setup peer r) m).exchange
+unfolding wish_of decision_in
+begun_level setup bay n m peer r = refl
+
 pub begun-ok : (setup : Setup) (ch : List Change) (bay n m : ℕ) (peer : List ℕ) (r : Request)
     → SettledSoFar setup ch (Steps.begun setup bay n (wish_of setup peer r) m)
 begun-ok setup ch bay n m peer r =
     record {
-      request = record { peer = peer; request = r; means = refl };
+      recorded = begun_level setup bay n m peer r;
       seen = omega arith;
       failed = refl;
       offers = record { made = []; noted = tt; all = sym (append-nil _) };
@@ -171,7 +177,7 @@ pub found-ok : (setup : Setup) (ch : List Change) (o : Open) (seen : ℕ) → Se
     → o.waiting ≡ [] → o.phase.found ≡ false → o.phase.failed ≡ false → SettledSoFar setup ch (Steps.found_with seen o)
 found-ok setup ch o seen h le ws f g =
     record {
-      request = record { peer = h.request.peer; request = h.request.request; means = h.request.means };
+      recorded = h.recorded;
       seen = le;
       failed = h.failed;
       offers = record { made = h.offers.made; noted = h.offers.noted; all = h.offers.all };
@@ -243,7 +249,7 @@ changed-ok setup ch o change h e c =
     let un = undecided setup ch o change h e g d in
     let grown = changes-grow ch change fault in
     record {
-      request = record { peer = h.request.peer; request = h.request.request; means = h.request.means };
+      recorded = h.recorded;
       seen = subst (λ l. length ch ≤ length l) (sym grown) (seen-more (length ch) ch (changes_more fault change) (omega arith));
       failed = h.failed;
       offers = record { made = h.offers.made; noted = h.offers.noted; all = h.offers.all };
@@ -303,7 +309,7 @@ noted-ok setup ch o w rest own h ws out =
     let n = Steps.note_of w own in
     let first : (q : (o.phase.found || o.phase.finished) ≡ true) → AreLater (w ∷ rest) = λ q. subst AreLater ws (h.later q) in
     record {
-      request = record { peer = h.request.peer; request = h.request.request; means = h.request.means };
+      recorded = h.recorded;
       seen = h.seen;
       failed = ap (λ b. b || refuses setup.set n) h.failed ∙ sym (refused-push setup o.exchange.notes n);
       offers = record {
@@ -365,7 +371,7 @@ open_settled : (setup : Setup) (ch : List Change) (o : Open) → SettledSoFar se
 open_settled setup ch o h f q =
     let g = h.finished f in
     record {
-      request = h.request;
+      recorded = h.recorded;
       seen = h.seen;
       reply = g.reply;
       offers = subst (λ ws. AreNotes setup.set ws o.exchange.notes) (all_made setup ch o h q ∙ g.due) h.offers.noted;
@@ -475,7 +481,7 @@ pub started-ok : (setup : Setup) (ch : List Change) (o : Open) (k : Handling) (s
 started-ok setup ch o k status m h q c =
     let un = ready_unfinished o m q in
     record {
-      request = record { peer = h.request.peer; request = h.request.request; means = h.request.means };
+      recorded = h.recorded;
       seen = h.seen;
       failed = h.failed;
       offers = record {
@@ -592,10 +598,8 @@ finished-ok setup sh o link reply m h q c =
     let g = Steps.facts_finished setup k link reply m o in
     let p = Steps.finished_with setup k link reply m o in
     let un = ready_unfinished o m q in
-    let request : HasRequest setup p.exchange =
-    record { peer = h.request.peer; request = h.request.request; means = h.request.means } in
     record {
-      request = request;
+      recorded = h.recorded;
       seen = h.seen;
       failed = h.failed;
       offers = record {
@@ -625,7 +629,7 @@ finished-ok setup sh o link reply m h q c =
             ap
             (λ v. Steps.due setup RequestReceived l g ++ (v ++ Steps.due setup ResponseComplete l g))
             (start_due setup o g l (status_of k link) c h.long)
-            ∙ dues_are setup p.exchange request;
+            ∙ dues_are setup p.exchange h.recorded;
         complete = refl;
       };
     }

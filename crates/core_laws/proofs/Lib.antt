@@ -1,4 +1,5 @@
 mod Always
+mod BeginLemmas
 mod DueLemmas
 mod ExchangeLemmas
 mod LaneLemmas

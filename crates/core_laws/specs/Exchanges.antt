@@ -9,40 +9,20 @@ use Rattle.audit_core.specs.declared.routed.Handling.{Handling}
 use Rattle.core_laws.specs.Offered.{dues_of, dues_so_far}
 use Rattle.front_base.specs.Info.{is_long_running}
 use Rattle.front_base.specs.declared.level.Level.TheVariants as level
-use Rattle.http_edge.specs.declared.request.Request.{Request}
+use Rattle.policy_rules.specs.Policy.{first}
 use Rattle.stage_event.specs.Due.{reply_due}
 use Rattle.stage_event.specs.declared.facts.Kept.{Kept}
-use Rattle.two_worlds.specs.Requests.{Wish, wish_of, kept_if}
+use Rattle.two_worlds.specs.Requests.{kept_if}
 use Rattle.two_worlds.specs.Setup.{Setup}
 use Rattle.two_worlds.specs.Steps.{handling_at, change_refusal, is_proxied, own_reply, is_decided}
 use Rattle.two_worlds.specs.declared.state.Exchange.{Exchange}
 use Rattle.two_worlds.specs.declared.state.Open.{Open}
 
--- ---- the request
+-- ---- how it is recorded
 
--- what an exchange says of its request
-abbrev pub wished : Exchange → Wish
-wished x =
-    record {
-      level = x.level;
-      target = x.facts.target;
-      info = x.facts.info;
-      user = x.facts.user;
-      acting = x.facts.acting;
-      peer = x.facts.peer;
-      agent = x.facts.agent;
-      errand = x.errand;
-      asked = x.asked;
-      is_head = x.is_head;
-      managed = x.managed;
-      body = x.facts.request;
-    }
-
--- it is what some request from some address means
-pub record HasRequest (setup : Setup) (x : Exchange) : Type 0 where
-  pub peer : List ℕ
-  pub request : Request
-  pub means : wished x ≡ wish_of setup peer request
+-- at the level that the policy's first matching rule gives
+abbrev pub HasLevel : Setup → Exchange → Type 0
+HasLevel setup x = x.level ≡ (first setup.set.policy x.facts.user x.facts.info).level
 
 -- ---- the answer
 
@@ -77,7 +57,7 @@ IsDecided setup changes seen change =
 -- ---- an exchange that is over
 
 pub record Settled (setup : Setup) (changes : List Change) (x : Exchange) : Type 0 where
-  pub request : HasRequest setup x
+  pub recorded : HasLevel setup x
   pub seen : x.seen ≤ length changes
   pub reply : HasReply setup (handled setup changes x) x
   -- each event that it owes was offered to each sink that is on, in order, and what could become of it did
@@ -114,7 +94,7 @@ pub record IsFinished (setup : Setup) (changes : List Change) (o : Open) : Type 
   pub complete : o.exchange.facts.complete ≡ o.phase.last
 
 pub record SettledSoFar (setup : Setup) (changes : List Change) (o : Open) : Type 0 where
-  pub request : HasRequest setup o.exchange
+  pub recorded : HasLevel setup o.exchange
   pub seen : o.exchange.seen ≤ length changes
   -- it is noted whether a strict sink failed
   pub failed : o.phase.failed ≡ has_refused setup.set o.exchange.notes

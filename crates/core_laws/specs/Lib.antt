@@ -1,3 +1,4 @@
+pub mod Begins
 pub mod Exchanges
 pub mod Makers
 pub mod Offered

@@ -6,7 +6,8 @@
 //! sink that is written to at once tries the lines of the offers that are noted as taken or failed, one at a time. An
 //! exchange that is over was answered as the rows that it saw say, and each event that it owes was offered to each sink
 //! that is on, unless nothing of it fits. One that is not over is so as far as it has come. Each change of the table was
-//! made by one exchange, and was decided by the rows after the changes before it.
+//! made by one exchange, and was decided by the rows after the changes before it. Each Begin that a bay took began one
+//! exchange, which says what its request means, and whose number is that of the exchanges before it.
 //!
 //! Nothing runs here: these are laws of definitions. Nothing is promised of the reply of a backend but its status, nor that
 //! a step is ever taken: a line may wait in a buffer for ever.

@@ -1,4 +1,5 @@
 use Rattle.core_laws.proofs.Always.{buffers_always, tries_always, closed_always, current_always, changes_always}
+use Rattle.core_laws.proofs.BeginLemmas.{begins_always, numbers_always}
 use Rattle.core_laws.proofs.laws.core_parts.Goals as goal
 
 pub returns-clause-buffers : goal.returns-clause-buffers
@@ -16,3 +17,9 @@ returns-clause-current c = current_always
 
 pub returns-clause-changes : goal.returns-clause-changes
 returns-clause-changes c = changes_always
+
+pub returns-clause-begins : goal.returns-clause-begins
+returns-clause-begins c = begins_always
+
+pub returns-clause-numbers : goal.returns-clause-numbers
+returns-clause-numbers c = numbers_always
