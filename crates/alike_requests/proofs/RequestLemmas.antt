@@ -1,12 +1,14 @@
 -- What is noted of a request, and what a level records of two.
-use Rattle.std.proofs.Common.{◌≡◌, ◌≢◌, ℕ, Bool, true, false, if◌then◌else◌, List, [], Option, Some, None, IfSome, refl, ap, ap₂, sym, ◌∙◌, subst}
+use Rattle.std.proofs.Common.{◌≡◌, ◌≢◌, ℕ, Bool, true, false, if◌then◌else◌, List, [], Option, Some, None, inl, inr, refl, ap, ap₂, sym, ◌∙◌, subst}
 use Rattle.alike_exchanges.specs.Alike.{AlikeExchanges}
-use Rattle.alike_requests.specs.Alike.{AlikeSeen, SettledAlike}
-use Rattle.alike_requests.specs.Seen.{IsNoted, IsSettled, Seen, Settled, seen_of}
+use Rattle.alike_requests.specs.Alike.{AlikeSeen, AlikeShown, SettledAlike}
+use Rattle.alike_requests.specs.Seen.{IsNoted, IsSettled, Seen, Settled, halted_of, seen_of, settled_of}
 use Rattle.apiservice_rows.specs.Row.{Row}
+use Rattle.apiservice_table.specs.Changes.{after}
 use Rattle.audit_core.specs.Answer.{link_status, status_of}
 use Rattle.audit_core.specs.Errand.{act_in, acting_in, attributes_in, errand_in, info_in, user_in}
 use Rattle.audit_core.specs.Exchange.{KeepsRequest, agent_in, decision_in, facts_by}
+use Rattle.audit_core.specs.Offers.{Due}
 use Rattle.audit_core.specs.Routing.{routed_by}
 use Rattle.audit_core.specs.declared.answered.Answered.{Answered}
 use Rattle.audit_core.specs.declared.attributes.Attributes.{Attributes}
@@ -29,13 +31,15 @@ use Rattle.http_head.specs.declared.request.Head.{Head}
 use Rattle.policy_rules.specs.Policy.{first}
 use Rattle.policy_rules.specs.declared.decision.Decision.{Decision}
 use Rattle.session_core.specs.Bays.{BayState}
-use Rattle.session_core.specs.Exchange.{AnsweredBy, ExchangedTo, answered_of, errand_after, routed_of}
-use Rattle.stage_event.specs.Due.{request_due, reply_due}
+use Rattle.session_core.specs.Exchange.{AnsweredBy, ExchangedTo, Halted, StoppedAt, answered_of, errand_after, routed_of}
+use Rattle.session_core.specs.declared.exchange.Exchange.{Exchange}
+use Rattle.stage_event.specs.Due.{request_due, request_show, reply_due}
 use Rattle.stage_event.specs.Kept.{IsKeptAs}
 use Rattle.stage_event.specs.Views.{view, shown_if}
 use Rattle.stage_event.specs.declared.facts.Facts.{Facts}
 use Rattle.stage_event.specs.declared.facts.Kept.{Kept}
 use Rattle.stage_event.specs.declared.show.Show.{Show}
+use Rattle.stage_event.specs.declared.show.Show.TheVariants.{Nothing}
 use Rattle.stream_relay.specs.declared.stream.Relayed.{Relayed}
 use Rattle.stream_relay.specs.declared.stream.Relayed.TheVariants as relayed
 
@@ -169,21 +173,43 @@ same_attributes set r s i u a =
 
 -- ---- of a request that was answered
 
-pub one_noted : (set : Settings) (peer : List ℕ) (r : Request) (m : BayState) (text : List ℕ) (n : BayState) (end : Relayed) (h : ExchangedTo set peer r m text n end)
-    → IsNoted set (seen_of set peer r m text n end h)
-one_noted set peer r m text n end h =
-    let x = noted set h.stamp r h.x.handling h.came end (answered_of h.x) h.answered in
+-- its status is that of its handling by the rows that decided on it
+by_rows : (set : Settings) (x : Exchange) (rows : List Row) (own : Errand) (link : LinkNote) → x.facts.status ≡ status_of x.handling link
+    → x.link ≡ link → routed_of x ≡ routed_by set.endpoints rows own
+    → x.facts.status ≡ status_of (routed_by set.endpoints rows own).handling x.link
+by_rows set x rows own link status is routed =
+    status ∙ (ap (λ l. status_of x.handling l) (sym is) ∙ ap (λ (d : Routed). status_of d.handling x.link) routed)
+
+pub one_noted : (set : Settings) (peer : List ℕ) (r : Request) (m : BayState) (text : List ℕ) (n : BayState) (end : Relayed) (x : Exchange)
+    (h : ExchangedTo set peer r m text n end x) → IsNoted set (seen_of set peer r m text n end x h)
+one_noted set peer r m text n end x h =
+    let own = noted set h.stamp r x.handling h.came end (answered_of x) h.answered in
     record {
-      decision_is = x.decision_is;
-      facts_are = x.facts_are;
-      answered = record {
-        status_is =
-            x.status_is
-            ∙ (ap (λ own. status_of h.x.handling own) (sym h.link_is)
-            ∙ ap (λ (own : Routed). status_of own.handling h.x.link) h.routed.routed_is);
-        request_is = x.request_is;
-      };
+      decision_is = own.decision_is;
+      request_is = own.request_is;
+      facts_are = own.facts_are;
+      settled = by_rows set x (after m.opening h.routed.decided) (errand_after set x.offers (errand_in set r)) (link_of h.came) own.status_is h.link_is h.routed.routed_is;
     }
+
+-- ---- of one that memory stopped
+
+stopped_settled : (set : Settings) (r : Request) (m n : BayState) (w0 w : Option (List ℕ)) (rose : Type 0) (stamp : Stamp) (due : List Due) (x : Exchange)
+    (h : StoppedAt set r m n w0 w rose stamp due x) (own : Option Settled)
+    → IsSettled set (record { request = r; stamp = stamp; exchange = x; settled = own }) (settled_of set r m n w0 w rose stamp due x h)
+stopped_settled set r m n w0 w rose stamp due x (inl h) own = h.no_reply.status_is
+stopped_settled set r m n w0 w rose stamp due x (inr (inl h)) own = h.no_reply.status_is
+stopped_settled set r m n w0 w rose stamp due x (inr (inr h)) own =
+    by_rows set x (after m.opening h.routed.decided) (errand_after set x.offers (errand_in set r)) (link_of h.came) h.status_is h.link_is h.routed.routed_is
+
+pub halted_noted : (set : Settings) (peer : List ℕ) (r : Request) (m n : BayState) (w0 w : Option (List ℕ)) (rose : Type 0) (x : Exchange)
+    (h : Halted set peer r m n w0 w rose x) → IsNoted set (halted_of set peer r m n w0 w rose x h)
+halted_noted set peer r m n w0 w rose x h = record {
+  decision_is = h.begun.decision_is;
+  request_is = h.begun.request_is;
+  facts_are = h.begun.facts_are;
+  settled = stopped_settled set r m n w0 w rose h.begun.stamp h.due x h.stopped
+      (settled_of set r m n w0 w rose h.begun.stamp h.due x h.stopped);
+}
 
 -- ---- two requests
 
@@ -207,28 +233,24 @@ same_status set rows others these those own its note link e r o l =
     by_link (routed_by set.endpoints rows (errand_after set these own)).handling note link l
     ∙ ap (λ (d : Routed). status_of d.handling link) (ap₂ (routed_by set.endpoints) r (ap₂ (errand_after set) o e))
 
--- the status and the body that two requests show
-record ShownAlike (set : Settings) (s t : Seen) : Type 0 where
-  pub status : s.exchange.facts.status ≡ t.exchange.facts.status
-  pub body : shown_if (request_due (decision_in set s.request).level (info_in s.request)) s.exchange.facts.request
-      ≡ shown_if (request_due (decision_in set s.request).level (info_in s.request)) t.exchange.facts.request
-
-answered_alike : OneKept → (set : Settings) (s t : Seen) (o p : Option Settled) → IfSome o (IsSettled set s) → IfSome p (IsSettled set t)
-    → s.exchange.offers ≡ t.exchange.offers → SettledAlike set s t o p → ShownAlike set s t
+status_alike : (set : Settings) (s t : Seen) (o p : Option Settled) → IsSettled set s o → IsSettled set t p
+    → s.exchange.offers ≡ t.exchange.offers → SettledAlike set s t o p → s.exchange.facts.status ≡ t.exchange.facts.status
 unfolding status_by
-answered_alike one set s t None None h g o a = record { status = a.status; body = a.body }
-answered_alike one set s t None (Some other) h g o a = record { status = a.status; body = a.body }
-answered_alike one set s t (Some by) None h g o a = record { status = a.status; body = a.body }
-answered_alike one set s t (Some by) (Some other) h g o a =
-    record {
-      status =
-          h.status_is
-          ∙ (same_status set by.rows other.rows s.exchange.offers t.exchange.offers (errand_in set s.request) (errand_in set t.request) by.link other.link
-          a.wanted a.rows o a.link
-          ∙ sym g.status_is);
-      body = ap (shown_if (request_due (decision_in set s.request).level (info_in s.request)))
-          (one _ t.request.body s.exchange.facts.request t.exchange.facts.request (a.body s.exchange.facts.request h.request_is) g.request_is);
-    }
+status_alike set s t None None h g o a = h ∙ sym g
+status_alike set s t None (Some other) h g o a = a.status
+status_alike set s t (Some by) None h g o a = a.status
+status_alike set s t (Some by) (Some other) h g o a =
+    h
+    ∙ (same_status set by.rows other.rows s.exchange.offers t.exchange.offers (errand_in set s.request) (errand_in set t.request) by.link other.link
+    a.wanted a.rows o a.link
+    ∙ sym g)
+
+body_alike : OneKept → (set : Settings) (s t : Seen) → IsNoted set s → IsNoted set t → AlikeShown set s t
+    → shown_if (request_due (decision_in set s.request).level (info_in s.request)) s.exchange.facts.request
+    ≡ shown_if (request_due (decision_in set s.request).level (info_in s.request)) t.exchange.facts.request
+body_alike one set s t g h a =
+    ap (shown_if (request_due (decision_in set s.request).level (info_in s.request)))
+    (one _ t.request.body s.exchange.facts.request t.exchange.facts.request (a.body s.exchange.facts.request g.request_is) h.request_is)
 
 pub one_alike : OneKept → (set : Settings) (s t : Seen) → IsNoted set s → IsNoted set t → AlikeSeen set s t → AlikeExchanges s.exchange t.exchange
 one_alike one set s t g h a =
@@ -242,14 +264,14 @@ one_alike one set s t g h a =
       view = λ other.
           let above = λ (none : own ≡ level.None). other (at ∙ none) in
           let b = a.shown above in
-          let c = answered_alike one set s t s.settled t.settled g.answered h.answered a.offers b.settled in
+          let status = status_alike set s t s.settled t.settled g.settled h.settled a.offers b.settled in
           subst (λ l. view l s.exchange.facts ≡ view l t.exchange.facts) (sym at)
           (ap (view own) (g.facts_are ∙ by_parts s.stamp s.request (attributes_in set s.request) s.exchange.facts.status
           s.exchange.facts.request s.exchange.facts.reply)
           ∙ (same_seen own s.stamp t.stamp s.request.head.target t.request.head.target (attributes_in set s.request)
           (attributes_in set t.request) (agent_in s.request.head.headers) (agent_in t.request.head.headers)
           s.exchange.facts.status t.exchange.facts.status s.exchange.facts.request t.exchange.facts.request s.exchange.facts.reply t.exchange.facts.reply
-          above b.moments b.target (same_attributes set s.request t.request b.info b.user b.acting) b.agent c.status c.body b.reply
+          above b.moments b.target (same_attributes set s.request t.request b.info b.user b.acting) b.agent status (body_alike one set s t g h b) b.reply
           ∙ sym (ap (view own) (h.facts_are ∙ by_parts t.stamp t.request (attributes_in set t.request) t.exchange.facts.status
           t.exchange.facts.request t.exchange.facts.reply))));
       offers = a.offers;
@@ -271,12 +293,29 @@ hidden : (b : Bool) (k j : Kept) → b ≡ false → shown_if b k ≡ shown_if b
 hidden false k j e = refl
 hidden true k j e = absurd cc
 
+nothing_shown : (l : Level) (omit : Bool) (info : Info) → l ≡ level.Metadata → request_show l omit info ≡ Nothing
+nothing_shown level.None omit info e = absurd cc
+nothing_shown level.Metadata omit info e = refl
+nothing_shown level.Request omit info e = absurd cc
+nothing_shown level.RequestResponse omit info e = absurd cc
+
+-- nothing is kept of a body at that level
+kept_alike : (d other : Decision) (a b : Attributes) (r t : Request) (kept : Kept) → d.level ≡ level.Metadata → other.level ≡ level.Metadata
+    → KeepsRequest d a r kept → KeepsRequest other b t kept
+kept_alike d other a b r t kept e f keeps =
+    subst (λ s. IsKeptAs s t.body kept) (sym (nothing_shown other.level other.omit_managed b.info f))
+    (subst (λ s. IsKeptAs s r.body kept) (nothing_shown d.level d.omit_managed a.info e) keeps)
+
+same_level : (set : Settings) (r t : Request) → r.head ≡ t.head → (decision_in set r).level ≡ (decision_in set t).level
+unfolding decision_in info_in user_in act_in
+same_level set r t e = ap (λ (h : Head). (decision_in set (record { head = h; body = [] })).level) e
+
 pub alike_at_metadata : (set : Settings) (s t : Seen) → (decision_in set s.request).level ≡ level.Metadata
     → s.request.head ≡ t.request.head → s.stamp ≡ t.stamp → SettledAlike set s t s.settled t.settled → s.exchange.offers ≡ t.exchange.offers
     → AlikeSeen set s t
 unfolding decision_in info_in user_in act_in
 alike_at_metadata set s t l e m a o = record {
-  level = ap (λ (h : Head). (decision_in set (record { head = h; body = [] })).level) e;
+  level = same_level set s.request t.request e;
   shown = λ other. record {
     target = ap (λ (h : Head). h.target) e;
     info = ap (λ (h : Head). info_in (record { head = h; body = [] })) e;
@@ -284,6 +323,8 @@ alike_at_metadata set s t l e m a o = record {
     acting = ap (λ (h : Head). acting_in set (record { head = h; body = [] })) e;
     agent = ap (λ (h : Head). agent_in h.headers) e;
     moments = m;
+    body = λ kept. kept_alike (decision_in set s.request) (decision_in set t.request) (attributes_in set s.request) (attributes_in set t.request)
+        s.request t.request kept l (sym (same_level set s.request t.request e) ∙ l);
     settled = a;
     reply = hidden (reply_due (decision_in set s.request).level (info_in s.request)) s.exchange.facts.reply t.exchange.facts.reply
         (no_reply (decision_in set s.request).level (info_in s.request) l);

@@ -1,11 +1,11 @@
-ghost use Rattle.std.specs.Prelude.{◌≡◌, ◌≤◌, ◌++◌, List, Some, length, true};
+ghost use Rattle.std.specs.Prelude.{◌≡◌, ◌≤◌, List, length, true};
 ghost use Rattle.alike_exchanges.specs.Alike.{AlikeExchanges};
 ghost use Rattle.alike_requests.specs.Alike.{AlikeSeen, SettledAlike};
 ghost use Rattle.alike_requests.specs.Seen.{AreNoted, Seen, door_seen, noted_by};
 ghost use Rattle.audit_core.specs.Exchange.{KeepsRequest, decision_in};
 ghost use Rattle.audit_core.specs.declared.attributes.Attributes.{Attributes};
 ghost use Rattle.audit_core.specs.declared.settings.Settings.{Settings};
-ghost use Rattle.bay_runs.specs.Runs.{ConnTells, Ran, ServedConn};
+ghost use Rattle.bay_runs.specs.Runs.{ConnTells, Ran, ServedConn, exchanges_of};
 ghost use Rattle.front_base.specs.declared.level.Level.TheVariants as level;
 ghost use Rattle.http_edge.specs.declared.request.Request.{Request};
 ghost use Rattle.json_prune.specs.Prune.{managed};
@@ -13,18 +13,17 @@ ghost use Rattle.json_span.specs.Value.{StandsFor, Value};
 ghost use Rattle.policy_rules.specs.declared.decision.Decision.{Decision};
 ghost use Rattle.role_threads.specs.Lists.{AllPairs};
 ghost use Rattle.session_core.specs.Bays.{BayState};
-ghost use Rattle.session_core.specs.declared.exchange.Exchange.{Exchange};
 ghost use Rattle.stage_event.specs.declared.facts.Kept.{Kept};
 ghost use Rattle.stage_event.specs.declared.keeping.TheConstants.{MOST_KEPT_BYTES};
 
 use json_span::one_value;
 use stage_event::one_kept;
 
-/// Of a door: a diary that is told has what was noted of its requests and no other, and each is how its request is recorded.
-/// It holds whichever way connections end, and of those that memory stopped too.
+/// Of a door: the exchanges of its connections are what was noted of its requests and no other, and each is how its request is
+/// recorded. It holds whichever way connections end, and of those that memory stopped too.
 pub fn a_door_notes_its_requests<C>()
     ensures noted { (tells : C → ConnTells) (set : Settings) (m : BayState) (all : List (ServedConn C)) (n : BayState) (r : Ran tells set m all n)
-        (before : List Exchange) → m.notes ≡ Some before → n.notes ≡ Some (before ++ noted_by (door_seen tells set m all n r)) }
+        → noted_by (door_seen tells set m all n r) ≡ exchanges_of all }
     ensures each { (tells : C → ConnTells) (set : Settings) (m : BayState) (all : List (ServedConn C)) (n : BayState) (r : Ran tells set m all n)
         → AreNoted set (door_seen tells set m all n r) }
 {}

@@ -1,5 +1,6 @@
 -- Two lists, place by place.
-use Rattle.std.proofs.Common.{◌≡◌, ◌≤◌, ℕ, zero, suc, List, [], ◌∷◌, length, slice_get, Option, Some, None, IfSome, refl, ap, ◌∙◌, subst, arith}
+use Rattle.std.proofs.Common.{◌≡◌, ◌≤◌, ℕ, zero, suc, List, [], ◌∷◌, length, slice_get, Option, Some, None, IfSome, refl, sym, subst, arith}
+use Rattle.std.proofs.lemmas.Option.{slice_get_past}
 use Rattle.role_threads.specs.Lists.{AllPairs, IfBoth}
 
 pub some_is : {A : Type 0} (o : Option A) (P : A → Type 0) (x : A) → IfSome o P → o ≡ Some x → P x
@@ -25,15 +26,15 @@ past_end (x ∷ xs) zero e = absurd cc
 past_end (x ∷ xs) (suc k) e = let h = past_end xs k e in omega arith
 
 -- by what stands there
-by_both : {A B : Type 0} (P : A → Type 0) (Q : B → Type 0) (R : A → B → Type 0) (X : Type 0) (o : Option A) (p : Option B)
-    → IfSome o P → IfSome p Q → IfBoth R o p → ((x : A) (y : B) → o ≡ Some x → p ≡ Some y → P x → Q y → R x y → X) → (o ≡ None → X) → X
-by_both P Q R X None None a b r f g = g refl
-by_both P Q R X None (Some y) a b r f g = absurd r
-by_both P Q R X (Some x) None a b r f g = absurd r
-by_both P Q R X (Some x) (Some y) a b r f g = f x y refl refl a b r
+by_both : {A B : Type 0} (P : A → Type 0) (Q : B → Type 0) (X : Type 0) (o : Option A) (p : Option B)
+    → IfSome o P → IfSome p Q → (p ≡ None → o ≡ None) → ((x : A) (y : B) → P x → Q y → X) → (o ≡ None → X) → X
+by_both P Q X None p a b h f g = g refl
+by_both P Q X (Some x) None a b h f g = let e : Some x ≡ None = h refl in absurd cc
+by_both P Q X (Some x) (Some y) a b h f g = f x y a b
 
-pub by_place : {A B : Type 0} (P : A → Type 0) (Q : B → Type 0) (R : A → B → Type 0) (X : Type 0) (xs : List A) (ys : List B) (k : ℕ)
-    → IfSome (slice_get xs k) P → IfSome (slice_get ys k) Q → AllPairs R xs ys
-    → ((x : A) (y : B) → P x → Q y → R x y → X) → (length xs ≤ k → X) → X
-by_place P Q R X xs ys k a b r f g =
-    by_both P Q R X (slice_get xs k) (slice_get ys k) a b (pairs_at R xs ys r k) (λ x y e d. f x y) (λ e. g (past_end xs k e))
+-- of lists that are as long
+pub by_place : {A B : Type 0} (P : A → Type 0) (Q : B → Type 0) (X : Type 0) (xs : List A) (ys : List B) (k : ℕ) → length xs ≡ length ys
+    → IfSome (slice_get xs k) P → IfSome (slice_get ys k) Q → ((x : A) (y : B) → P x → Q y → X) → (length xs ≤ k → X) → X
+by_place P Q X xs ys k n a b f g =
+    by_both P Q X (slice_get xs k) (slice_get ys k) a b (λ e. slice_get_past xs k (subst (λ m. m ≤ k) (sym n) (past_end ys k e))) f
+    (λ e. g (past_end xs k e))

@@ -4,7 +4,6 @@ ghost use Rattle.alike_runs.specs.TwoRuns.{AlikeBays, AlikeRuns, TwoRuns};
 ghost use Rattle.audit_core.specs.declared.settings.Settings.{Settings};
 ghost use Rattle.audit_core.specs.declared.sinks.SinkMode.TheVariants.{Batch, Blocking, Strict};
 ghost use Rattle.plant_lanes.specs.declared.options.RunOptions.{RunOptions};
-ghost use Rattle.role_threads.specs.Lists.{AllPairs};
 ghost use Rattle.serve_roles.specs.Doors.{bay_handles};
 ghost use Rattle.serve_runs.specs.declared.ended.Ended.{Ended};
 
@@ -15,22 +14,24 @@ use front_plants::Plant;
 use front_ports::Door;
 use run_laws::{accepted_lines_are_batched, tried_lines_are_those_offered};
 
-/// Two runs whose bays noted alike exchanges sent a sink in mode batch the same bytes, where its tries were cut alike and have
+/// Two runs whose bays had alike exchanges sent a sink in mode batch the same bytes, where its tries were cut alike and have
 /// lines of the same bays in the same order.
 pub fn same_audit<P: Plant, R: Routes>()
     ensures log { (set : Settings) (options : RunOptions) (one other : Ended R P.L P.W P.H P.K P.Y P.D)
         (runs : TwoRuns (bay_handles R.Routes P.L.Dial P.W.BatchSink P.H.BatchSink P.K.Clock P.Y.Diary P.D.Door
         P.D.C.Source P.D.C.ByteSink P.D.C.Conn.own) P.Rt set options P.opens one other)
         → set.log ≡ Batch → P.opens.log ≡ Some (Some [])
-        → AllPairs (AlikeBays (bay_handles R.Routes P.L.Dial P.W.BatchSink P.H.BatchSink P.K.Clock P.Y.Diary P.D.Door
-        P.D.C.Source P.D.C.ByteSink P.D.C.Conn.own)) one.bays.items other.bays.items
+        → AlikeBays (bay_handles R.Routes P.L.Dial P.W.BatchSink P.H.BatchSink P.K.Clock P.Y.Diary P.D.Door
+        P.D.C.Source P.D.C.ByteSink P.D.C.Conn.own)
+        P.Rt set options P.opens one other runs
         → AlikeDrains P.W.BatchSink one.log other.log → SameDrains P.W.BatchSink one.log other.log }
     ensures hook { (set : Settings) (options : RunOptions) (one other : Ended R P.L P.W P.H P.K P.Y P.D)
         (runs : TwoRuns (bay_handles R.Routes P.L.Dial P.W.BatchSink P.H.BatchSink P.K.Clock P.Y.Diary P.D.Door
         P.D.C.Source P.D.C.ByteSink P.D.C.Conn.own) P.Rt set options P.opens one other)
         → set.hook ≡ Batch → P.opens.hook ≡ Some (Some [])
-        → AllPairs (AlikeBays (bay_handles R.Routes P.L.Dial P.W.BatchSink P.H.BatchSink P.K.Clock P.Y.Diary P.D.Door
-        P.D.C.Source P.D.C.ByteSink P.D.C.Conn.own)) one.bays.items other.bays.items
+        → AlikeBays (bay_handles R.Routes P.L.Dial P.W.BatchSink P.H.BatchSink P.K.Clock P.Y.Diary P.D.Door
+        P.D.C.Source P.D.C.ByteSink P.D.C.Conn.own)
+        P.Rt set options P.opens one other runs
         → AlikeDrains P.H.BatchSink one.hook other.hook → SameDrains P.H.BatchSink one.hook other.hook }
 {
     accepted_lines_are_batched::<P, R>();
@@ -45,15 +46,17 @@ pub fn same_audit_at_once<P: Plant, R: Routes>()
         (runs : TwoRuns (bay_handles R.Routes P.L.Dial P.W.BatchSink P.H.BatchSink P.K.Clock P.Y.Diary P.D.Door
         P.D.C.Source P.D.C.ByteSink P.D.C.Conn.own) P.Rt set options P.opens one other)
         → (set.log ≡ Blocking) ⊎ (set.log ≡ Strict) → P.opens.log ≡ Some (Some [])
-        → AllPairs (AlikeBays (bay_handles R.Routes P.L.Dial P.W.BatchSink P.H.BatchSink P.K.Clock P.Y.Diary P.D.Door
-        P.D.C.Source P.D.C.ByteSink P.D.C.Conn.own)) one.bays.items other.bays.items
+        → AlikeBays (bay_handles R.Routes P.L.Dial P.W.BatchSink P.H.BatchSink P.K.Clock P.Y.Diary P.D.Door
+        P.D.C.Source P.D.C.ByteSink P.D.C.Conn.own)
+        P.Rt set options P.opens one other runs
         → AlikeOwn P.W.BatchSink one.log other.log → SameOwn P.W.BatchSink one.log other.log }
     ensures hook { (set : Settings) (options : RunOptions) (one other : Ended R P.L P.W P.H P.K P.Y P.D)
         (runs : TwoRuns (bay_handles R.Routes P.L.Dial P.W.BatchSink P.H.BatchSink P.K.Clock P.Y.Diary P.D.Door
         P.D.C.Source P.D.C.ByteSink P.D.C.Conn.own) P.Rt set options P.opens one other)
         → (set.hook ≡ Blocking) ⊎ (set.hook ≡ Strict) → P.opens.hook ≡ Some (Some [])
-        → AllPairs (AlikeBays (bay_handles R.Routes P.L.Dial P.W.BatchSink P.H.BatchSink P.K.Clock P.Y.Diary P.D.Door
-        P.D.C.Source P.D.C.ByteSink P.D.C.Conn.own)) one.bays.items other.bays.items
+        → AlikeBays (bay_handles R.Routes P.L.Dial P.W.BatchSink P.H.BatchSink P.K.Clock P.Y.Diary P.D.Door
+        P.D.C.Source P.D.C.ByteSink P.D.C.Conn.own)
+        P.Rt set options P.opens one other runs
         → AlikeOwn P.H.BatchSink one.hook other.hook → SameOwn P.H.BatchSink one.hook other.hook }
 {
     tried_lines_are_those_offered::<P, R>();
@@ -61,7 +64,7 @@ pub fn same_audit_at_once<P: Plant, R: Routes>()
     cut_alike_sent_alike();
 }
 
-/// Of two runs whose bays served requests that look alike the bays noted alike exchanges.
+/// Of two runs whose bays served requests that look alike the bays had alike exchanges.
 pub fn alike_requests_make_alike_bays<P: Plant, R: Routes>()
     ensures { (set : Settings) (options : RunOptions) (one other : Ended R P.L P.W P.H P.K P.Y P.D)
         (runs : TwoRuns (bay_handles R.Routes P.L.Dial P.W.BatchSink P.H.BatchSink P.K.Clock P.Y.Diary P.D.Door
@@ -69,8 +72,9 @@ pub fn alike_requests_make_alike_bays<P: Plant, R: Routes>()
         → AlikeRuns (bay_handles R.Routes P.L.Dial P.W.BatchSink P.H.BatchSink P.K.Clock P.Y.Diary P.D.Door
         P.D.C.Source P.D.C.ByteSink P.D.C.Conn.own)
         P.Rt set options P.opens one other runs
-        → AllPairs (AlikeBays (bay_handles R.Routes P.L.Dial P.W.BatchSink P.H.BatchSink P.K.Clock P.Y.Diary P.D.Door
-        P.D.C.Source P.D.C.ByteSink P.D.C.Conn.own)) one.bays.items other.bays.items }
+        → AlikeBays (bay_handles R.Routes P.L.Dial P.W.BatchSink P.H.BatchSink P.K.Clock P.Y.Diary P.D.Door
+        P.D.C.Source P.D.C.ByteSink P.D.C.Conn.own)
+        P.Rt set options P.opens one other runs }
 {
     a_door_notes_its_requests::<<P::D as Door>::C>();
     alike_requests_are_noted_alike();

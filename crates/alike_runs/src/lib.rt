@@ -3,10 +3,10 @@
 //! `alike_requests_leave_the_same_audit` goes from requests to bytes. Its premise is of each bay: it served requests that look alike at
 //! their levels (`alike_requests`), pairwise and in order; the same became of each offer of a line to a sink; and of each sink: its
 //! tries were cut alike, and a sink that all bays share has the lines of the same bays in the same order. Then each sink was sent
-//! the same bytes. `same_audit` and `same_audit_at_once` say it of what bays noted.
+//! the same bytes. `same_audit` and `same_audit_at_once` say it of the exchanges that bays had.
 //!
-//! These laws speak of plants that tell: whose diaries have what was noted, and whose ports have what they were given. Over TCP
-//! ports tell nothing, and so do these laws. Equal drops and equal cuts are premises; that a schedule gives them is said of steps
+//! These laws speak of plants that tell: whose ports have what they were given. Over TCP ports tell nothing, and so do these laws.
+//! Equal drops and equal cuts are premises; that a schedule gives them is said of steps
 //! alone, by `two_worlds`.
 #![tactic(auto)]
 

@@ -1,17 +1,18 @@
 -- The exchanges of connections, one after another.
-use Rattle.std.proofs.Common.{◌≡◌, ℕ, ◌+◌, Bool, true, false, List, [], ◌∷◌, ◌++◌, length, Option, None, Some, inl, inr, refl, sym, ap, subst, ◌∙◌, append_assoc, append-nil, length-append, arith}
+use Rattle.std.proofs.Common.{◌≡◌, ℕ, ◌+◌, false, List, [], ◌∷◌, ◌++◌, Option, None, Some, inl, inr, refl, sym, ap, subst, ◌∙◌, append_assoc, append-nil, length-append, arith}
 use Rattle.audit_core.specs.Offers.{Due, offers_due}
 use Rattle.audit_core.specs.Owed.{owed}
 use Rattle.audit_core.specs.declared.offers.OfferNote.{OfferNote}
 use Rattle.audit_core.specs.declared.settings.Settings.{Settings}
-use Rattle.bay_runs.specs.Runs.{ConnTells, ServedConn, Ran, ends_of}
-use Rattle.bay_laws.specs.Whole.{AllInMemory, SameLane, SameLanes, TellsEach, TellsAll, is_out_of_memory}
+use Rattle.bay_runs.specs.Runs.{ConnTells, ServedConn, Ran, ends_of, exchanges_of}
+use Rattle.bay_laws.specs.Whole.{SameLane, SameLanes, TellsEach, TellsAll, is_out_of_memory}
 use Rattle.connection_laws.specs.Whole.{due_in, offered_in, offered_of, offers_in, Tells, CanLeave}
 use Rattle.audit_core.specs.declared.offers.Outcome.{Outcome}
 use Rattle.audit_core.specs.declared.sinks.Sink.{Sink}
 use Rattle.audit_core.specs.declared.sinks.Sink.TheVariants.{Log, Webhook}
 use Rattle.event_offers.specs.Lanes.{LaneState, LanesState}
 use Rattle.event_offers.specs.Offering.{OffersFit, OffersTo, OffersAll}
+use Rattle.front_ports.specs.Cause.{Rose}
 use Rattle.front_ports.specs.Told.{Adds}
 use Rattle.session_core.specs.Bays.{BayState}
 use Rattle.http_edge.specs.declared.request.Request.{Request}
@@ -30,8 +31,8 @@ Join = (these those : List Due) (m k n : LanesState) (notes more : List OfferNot
     → OffersAll these m notes k → OffersAll those k more n → OffersAll (these ++ those) m (notes ++ more) n
 
 abbrev pub ToldWhole : Type 0
-ToldWhole = (set : Settings) (peer : List ℕ) (m n : BayState) (c d : ConnState) (end : ConnEnd) → Serves set peer m n c d end
-    → (xs : List Exchange) × (rest : List Due) × Tells set m n xs rest × CanLeave end rest
+ToldWhole = (set : Settings) (peer : List ℕ) (m n : BayState) (c d : ConnState) (end : ConnEnd) (xs : List Exchange)
+    → Serves set peer m n c d end xs → (rest : List Due) × Tells set m n xs rest × CanLeave end rest
 
 adds_join : {T : Type 0} (a b c : Option (List T)) (xs ys : List T) → Adds a b xs → Adds b c ys → Adds a c (xs ++ ys)
 adds_join None b c xs ys h k = subst (λ o. Adds o c ys) h k
@@ -116,44 +117,44 @@ same_all (due ∷ dues) m notes n h =
 abbrev pub Keeps : BayState → BayState → Type 0
 Keeps m n = (n.boot ≡ m.boot) × (n.opening ≡ m.opening)
 
-keeps_ran : (set : Settings) (peer : List ℕ) (m : BayState) (rs : List Request) (out : List ℕ) (n : BayState)
-    → RanRequests set peer m rs out n → Keeps m n
-keeps_ran set peer m [] out n h = (ap (λ (s : BayState). s.boot) h.1, ap (λ (s : BayState). s.opening) h.1)
-keeps_ran set peer m (r ∷ rs) out n h =
-    let later = keeps_ran set peer h.2 rs h.1 n h.5 in
-    (later.0 ∙ h.3.boot_is, later.1 ∙ h.3.opening_is)
+keeps_ran : (set : Settings) (peer : List ℕ) (m : BayState) (rs : List Request) (out : List ℕ) (n : BayState) (xs : List Exchange)
+    → RanRequests set peer m rs out n xs → Keeps m n
+keeps_ran set peer m [] out n xs h = (ap (λ (s : BayState). s.boot) h.1, ap (λ (s : BayState). s.opening) h.1)
+keeps_ran set peer m (r ∷ rs) out n xs h =
+    let later = keeps_ran set peer h.2 rs h.1 n h.4 h.8 in
+    (later.0 ∙ h.5.boot_is, later.1 ∙ h.5.opening_is)
 
 keeps_halts : (set : Settings) (peer : List ℕ) (left : Option (List ℕ)) (rs : List Request) (m n : BayState) (w0 w : Option (List ℕ))
-    → HaltsAt set peer left rs m n w0 w → Keeps m n
-keeps_halts set peer left rs m n w0 w (inl h) =
-    (ap (λ (s : BayState). s.boot) h.same, ap (λ (s : BayState). s.opening) h.same)
-keeps_halts set peer left rs m n w0 w (inr h) = (h.2.boot_is, h.2.opening_is)
+    (rose : Type 0) (xs : List Exchange) → HaltsAt set peer left rs m n w0 w rose xs → Keeps m n
+keeps_halts set peer left rs m n w0 w rose xs (inl h) =
+    (ap (λ (s : BayState). s.boot) h.1.same, ap (λ (s : BayState). s.opening) h.1.same)
+keeps_halts set peer left rs m n w0 w rose xs (inr h) = (h.4.boot_is, h.4.opening_is)
 
-keeps_broken : (set : Settings) (peer : List ℕ) (m n : BayState) (c d : ConnState) (end : Relayed) → ServedBroken set peer m n c d end → Keeps m n
-keeps_broken set peer m n c d end h =
-    let first = keeps_ran set peer m h.requests h.out h.middle h.ran in
+keeps_broken : (set : Settings) (peer : List ℕ) (m n : BayState) (c d : ConnState) (end : Relayed) (xs : List Exchange)
+    → ServedBroken set peer m n c d end xs → Keeps m n
+keeps_broken set peer m n c d end xs h =
+    let first = keeps_ran set peer m h.requests h.out h.middle h.before h.ran in
     (h.broken.boot_is ∙ first.0, h.broken.opening_is ∙ first.1)
 
-keeps_serves : (set : Settings) (peer : List ℕ) (m n : BayState) (c d : ConnState) (end : ConnEnd) → Serves set peer m n c d end → Keeps m n
-keeps_serves set peer m n c d (conn_end.Stopped end) h = keeps_ran set peer m h.requests h.out n h.ran
-keeps_serves set peer m n c d conn_end.ReadFault h = keeps_ran set peer m h.0.requests h.0.out n h.0.ran
-keeps_serves set peer m n c d conn_end.WriteFault h =
-    let first = keeps_ran set peer m h.0.requests h.0.out h.0.middle h.0.ran in
+keeps_serves : (set : Settings) (peer : List ℕ) (m n : BayState) (c d : ConnState) (end : ConnEnd) (xs : List Exchange)
+    → Serves set peer m n c d end xs → Keeps m n
+keeps_serves set peer m n c d (conn_end.Stopped end) xs h = keeps_ran set peer m h.requests h.out n xs h.ran
+keeps_serves set peer m n c d conn_end.ReadFault xs h = keeps_ran set peer m h.0.requests h.0.out n xs h.0.ran
+keeps_serves set peer m n c d conn_end.WriteFault xs h =
+    let first = keeps_ran set peer m h.0.requests h.0.out h.0.middle h.0.before h.0.ran in
     (h.0.cut.boot_is ∙ first.0, h.0.cut.opening_is ∙ first.1)
-keeps_serves set peer m n c d conn_end.BackendCut h = keeps_broken set peer m n c d relayed.BackendCut h
-keeps_serves set peer m n c d conn_end.StreamSpent h = keeps_broken set peer m n c d relayed.StreamSpent h
-keeps_serves set peer m n c d conn_end.NumbersSpent h = keeps_ran set peer m h.requests h.out n h.ran
-keeps_serves set peer m n c d conn_end.NoMemory h =
-    let first = keeps_ran set peer m h.requests h.out h.middle h.ran in
-    let last = keeps_halts set peer c.left h.requests h.middle n h.so_far d.written h.halts in
+keeps_serves set peer m n c d conn_end.BackendCut xs h = keeps_broken set peer m n c d relayed.BackendCut xs h
+keeps_serves set peer m n c d conn_end.StreamSpent xs h = keeps_broken set peer m n c d relayed.StreamSpent xs h
+keeps_serves set peer m n c d conn_end.NumbersSpent xs h = keeps_ran set peer m h.requests h.out n xs h.ran
+keeps_serves set peer m n c d conn_end.NoMemory xs h =
+    let first = keeps_ran set peer m h.requests h.out h.middle h.before h.ran in
+    let last = keeps_halts set peer c.left h.requests h.middle n h.so_far d.written (Rose c.write_faults d.write_faults) h.last h.halts in
     (last.0 ∙ first.0, last.1 ∙ first.1)
 
 -- ---- all of them
 
 none_told : (set : Settings) (m : BayState) → TellsAll set m m [] []
 none_told set m = record {
-  due = [];
-  offered_is = refl;
   offered = (refl, refl);
   noted = adds_none m.notes;
   number_is = omega arith;
@@ -166,33 +167,28 @@ none_told set m = record {
 more_told : Join → (set : Settings) (m k n : BayState) (end : ConnEnd) (ends : List ConnEnd) (xs ys : List Exchange) (rest : List Due)
     → Tells set m k xs rest → CanLeave end rest → Keeps m k → TellsAll set k n ends ys → TellsAll set m n (end ∷ ends) (xs ++ ys)
 more_told join set m k n end ends xs ys rest h can kept j = record {
-  due = h.due ++ j.due;
-  offered_is = ap (λ l. l ++ j.due) h.offered_is ∙ ap (λ l. offered_in set xs ++ l) j.offered_is ∙ sym (offered_append set xs ys);
-  offered = subst (λ l. OffersAll (h.due ++ j.due) m.lanes l n.lanes) (sym (offers_append xs ys))
-      (join h.due j.due m.lanes k.lanes n.lanes (offers_in xs) (offers_in ys) h.offered j.offered);
+  offered = subst (λ l. OffersAll (offered_in set (xs ++ ys)) m.lanes l n.lanes) (sym (offers_append xs ys))
+      (subst (λ d. OffersAll d m.lanes (offers_in xs ++ offers_in ys) n.lanes) (sym (offered_append set xs ys))
+      (join (offered_in set xs) (offered_in set ys) m.lanes k.lanes n.lanes (offers_in xs) (offers_in ys) h.offered j.offered));
   noted = adds_join m.notes k.notes n.notes xs ys h.noted j.noted;
   number_is = omega (arith, h.number_is, j.number_is, length-append xs ys);
   whole = λ w. due_append set xs ys
-      ∙ ap (λ l. l ++ due_in set ys) (h.due_is ∙ ap (λ l. h.due ++ l) (nothing_left end rest can w.0) ∙ append-nil h.due)
-      ∙ ap (λ l. h.due ++ l) (j.whole w.1);
-  lanes = lanes_two m.lanes k.lanes n.lanes (same_all h.due m.lanes (offers_in xs) k.lanes h.offered) j.lanes;
+      ∙ ap (λ l. l ++ due_in set ys)
+      (h.due_is ∙ ap (λ l. offered_in set xs ++ l) (nothing_left end rest can w.0) ∙ append-nil (offered_in set xs))
+      ∙ ap (λ l. offered_in set xs ++ l) (j.whole w.1)
+      ∙ sym (offered_append set xs ys);
+  lanes = lanes_two m.lanes k.lanes n.lanes (same_all (offered_in set xs) m.lanes (offers_in xs) k.lanes h.offered) j.lanes;
   boot_is = j.boot_is ∙ kept.0;
   opening_is = j.opening_is ∙ kept.1;
 }
 
--- what each connection told, and all of them
-abbrev pub Told : Settings → BayState → List ConnEnd → BayState → Type 0
-Told set m ends n = (xs : List Exchange) × TellsEach set m ends n xs × TellsAll set m n ends xs
-
 pub door_told : {C : Type 0} → Join → ToldWhole → (tells : C → ConnTells) (set : Settings) (m n : BayState) (all : List (ServedConn C))
-    → Ran tells set m all n → Told set m (ends_of all) n
-door_told join law tells set m n [] r =
-    ([], (refl, r), subst (λ (b : BayState). TellsAll set m b [] []) (sym r) (none_told set m))
+    → Ran tells set m all n → TellsEach set m all n × TellsAll set m n (ends_of all) (exchanges_of all)
+door_told join law tells set m n [] r = (r, subst (λ (b : BayState). TellsAll set m b [] []) (sym r) (none_told set m))
 door_told join law tells set m n (s ∷ more) r =
-    let own = law set (tells s.conn).peer m r.0 (tells s.conn).state (tells s.back).state s.end r.1 in
-    let kept = keeps_serves set (tells s.conn).peer m r.0 (tells s.conn).state (tells s.back).state s.end r.1 in
+    let own = law set (tells s.conn).peer m r.0 (tells s.conn).state (tells s.back).state s.end s.exchanges r.1 in
+    let kept = keeps_serves set (tells s.conn).peer m r.0 (tells s.conn).state (tells s.back).state s.end s.exchanges r.1 in
     let later = door_told join law tells set r.0 n more r.2 in (
-      own.0 ++ later.0,
-      (own.0, later.0, own.1, r.0, refl, own.2, own.3, later.1),
-      more_told join set m r.0 n s.end (ends_of more) own.0 later.0 own.1 own.2 own.3 kept later.2,
+      (own.0, r.0, own.1, own.2, later.0),
+      more_told join set m r.0 n s.end (ends_of more) s.exchanges (exchanges_of more) own.0 own.1 own.2 kept later.1,
     )

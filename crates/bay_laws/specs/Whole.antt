@@ -1,7 +1,8 @@
 -- What the connections of a door do together (Kubernetes, "Auditing").
-use Rattle.std.specs.Prelude.{◌≡◌, ℕ, ◌+◌, Bool, true, false, List, [], ◌∷◌, ◌++◌, length}
+use Rattle.std.specs.Prelude.{◌≡◌, ◌+◌, Bool, true, false, List, [], ◌∷◌, length}
 use Rattle.audit_core.specs.Offers.{Due}
 use Rattle.audit_core.specs.declared.settings.Settings.{Settings}
+use Rattle.bay_runs.specs.Runs.{ServedConn}
 use Rattle.connection_laws.specs.Whole.{Tells, CanLeave, due_in, offered_in, offers_in}
 use Rattle.event_offers.specs.Lanes.{LaneState, LanesState}
 use Rattle.event_offers.specs.Offering.{OffersAll}
@@ -25,12 +26,11 @@ abbrev pub AllInMemory : List ConnEnd → Type 0
 AllInMemory [] = Unit {0}
 AllInMemory (end ∷ ends) = (is_out_of_memory end ≡ false) × AllInMemory ends
 
--- the exchanges are those of connections that ended so, one after another
-abbrev pub TellsEach : Settings → BayState → List ConnEnd → BayState → List Exchange → Type 0
-TellsEach set m [] n xs = (xs ≡ []) × (n ≡ m)
-TellsEach set m (end ∷ ends) n xs =
-    (ys zs : List Exchange) × (rest : List Due) × (k : BayState) × (xs ≡ ys ++ zs)
-    × Tells set m k ys rest × CanLeave end rest × TellsEach set k ends n zs
+-- the exchanges of each connection are told whole, one connection after another
+abbrev pub TellsEach : {C : Type 0} → Settings → BayState → List (ServedConn C) → BayState → Type 0
+TellsEach set m [] n = n ≡ m
+TellsEach set m (s ∷ more) n =
+    (rest : List Due) × (k : BayState) × Tells set m k s.exchanges rest × CanLeave s.end rest × TellsEach set k more n
 
 -- what no offer changes of a lane, and of a bay's lanes
 pub record SameLane (m n : LaneState) : Type 0 where
@@ -46,12 +46,10 @@ pub record SameLanes (m n : LanesState) : Type 0 where
 -- a bay's diary, its lanes and its numbers tell these exchanges and no other. Where no connection ran out of memory, each offer
 -- that they are due was made
 pub record TellsAll (set : Settings) (m n : BayState) (ends : List ConnEnd) (xs : List Exchange) : Type 0 where
-  pub due : List Due
-  pub offered_is : due ≡ offered_in set xs
-  pub offered : OffersAll due m.lanes (offers_in xs) n.lanes
+  pub offered : OffersAll (offered_in set xs) m.lanes (offers_in xs) n.lanes
   pub noted : Adds m.notes n.notes xs
   pub number_is : n.number ≡ m.number + length xs
-  pub whole : AllInMemory ends → due_in set xs ≡ due
+  pub whole : AllInMemory ends → due_in set xs ≡ offered_in set xs
   pub lanes : SameLanes m.lanes n.lanes
   pub boot_is : n.boot ≡ m.boot
   pub opening_is : n.opening ≡ m.opening

@@ -1,9 +1,8 @@
-ghost use Rattle.std.specs.Prelude.{◌≡◌, List};
+ghost use Rattle.std.specs.Prelude.{List};
 ghost use Rattle.audit_core.specs.declared.settings.Settings.{Settings};
-ghost use Rattle.bay_runs.specs.Runs.{ConnTells, ServedConn, Ran, ends_of};
+ghost use Rattle.bay_runs.specs.Runs.{ConnTells, ServedConn, Ran, ends_of, exchanges_of};
 ghost use Rattle.bay_laws.specs.Whole.{TellsEach, TellsAll};
 ghost use Rattle.session_core.specs.Bays.{BayState};
-ghost use Rattle.session_core.specs.declared.exchange.Exchange.{Exchange};
 
 use connection_laws::a_connection_is_told_whole;
 use event_offers::offers_join;
@@ -13,7 +12,7 @@ use event_offers::offers_join;
 pub fn a_door_is_told_whole<C>()
     ensures { (tells : C → ConnTells) (set : Settings) (m n : BayState) (all : List (ServedConn C))
         → Ran tells set m all n
-        → (xs : List Exchange) × TellsEach set m (ends_of all) n xs × TellsAll set m n (ends_of all) xs }
+        → TellsEach set m all n × TellsAll set m n (ends_of all) (exchanges_of all) }
 {
     a_connection_is_told_whole();
     offers_join();

@@ -1,10 +1,9 @@
 -- Connections that a door gave one after another.
-use Rattle.std.proofs.Common.{◌≡◌, ℕ, Bool, true, false, List, [], ◌∷◌, ◌++◌, map, Option, Some, None, IfSome, refl, sym, ap, subst, ◌∙◌, append_assoc, append-nil}
-use Rattle.std.proofs.lemmas.List.{map-append}
+use Rattle.std.proofs.Common.{◌≡◌, ℕ, true, false, List, [], ◌∷◌, ◌++◌, Option, Some, None, IfSome, refl, sym, ap, subst, ◌∙◌, append_assoc, append-nil}
 use Rattle.audit_core.specs.declared.settings.Settings.{Settings}
 use Rattle.bay_runs.specs.Counts.{counted, all_counted}
 use Rattle.bay_runs.specs.Loop.{ServesNext, GivesNone, SoFar}
-use Rattle.bay_runs.specs.Runs.{ConnTells, DoorState, ServedConn, Ran, GaveFirst, IsVisitOf, AreVisitsOf, NotesVisits, NoneSpent, StopsBy, Runs, is_spent, ends_of, conns_of}
+use Rattle.bay_runs.specs.Runs.{ConnTells, DoorState, ServedConn, Ran, GaveFirst, AreVisitsOf, NotesVisits, NoneSpent, StopsBy, Runs, is_spent, ends_of, conns_of}
 use Rattle.bay_runs.specs.declared.bay_stop.BayStop.{BayStop}
 use Rattle.bay_runs.specs.declared.bay_stop.BayStop.TheVariants as bay_stop
 use Rattle.bay_runs.specs.declared.end_counts.EndCounts.{EndCounts}
@@ -49,11 +48,11 @@ noted_one tells (Some visits) b c s h k =
 -- ---- one after another
 
 ran_more : {C : Type 0} (tells : C → ConnTells) (set : Settings) (m k n : BayState) (all : List (ServedConn C)) (s : ServedConn C)
-    → Ran tells set m all k → Serves set (tells s.conn).peer k n (tells s.conn).state (tells s.back).state s.end
+    → Ran tells set m all k → Serves set (tells s.conn).peer k n (tells s.conn).state (tells s.back).state s.end s.exchanges
     → Ran tells set m (all ++ s ∷ []) n
 ran_more tells set m k n [] s r h = (
   n,
-  subst (λ (b : BayState). Serves set (tells s.conn).peer b n (tells s.conn).state (tells s.back).state s.end) r h,
+  subst (λ (b : BayState). Serves set (tells s.conn).peer b n (tells s.conn).state (tells s.back).state s.end s.exchanges) r h,
   refl,
 )
 ran_more tells set m k n (t ∷ more) s r h = (r.0, r.1, ran_more tells set r.0 k n more s r.2 h)
@@ -120,36 +119,36 @@ none_so_far tells set m d counts = record {
 
 abbrev of_next : {C : Type 0} (tells : C → ConnTells) (set : Settings) (k n : BayState) (e f : DoorState C) (end : ConnEnd)
     (now after : EndCounts) → ServesNext tells set k e end n f now after → ServedConn C
-of_next tells set k n e f end now after h = record { conn = h.conn; back = h.back; end = end }
+of_next tells set k n e f end now after h = record { conn = h.conn; back = h.back; end = end; exchanges = h.exchanges }
 
 module _ {C : Type 0} (tells : C → ConnTells) (set : Settings) (m k n : BayState) (d e f : DoorState C) (before now after : EndCounts)
     (end : ConnEnd) (far : SoFar tells set m d k e before now) (next : ServesNext tells set k e end n f now after) where
   one : ServedConn C
-  one = record { conn = next.conn; back = next.back; end = end }
+  one = record { conn = next.conn; back = next.back; end = end; exchanges = next.exchanges }
 
-  ran_next : Ran tells set m (far.all ++ record { conn = next.conn; back = next.back; end = end } ∷ []) n
-  ran_next = ran_more tells set m k n far.all (record { conn = next.conn; back = next.back; end = end }) far.ran next.serves
+  ran_next : Ran tells set m (far.all ++ record { conn = next.conn; back = next.back; end = end; exchanges = next.exchanges } ∷ []) n
+  ran_next = ran_more tells set m k n far.all (record { conn = next.conn; back = next.back; end = end; exchanges = next.exchanges }) far.ran next.serves
 
-  gave_next : GaveFirst d.left (conns_of (far.all ++ record { conn = next.conn; back = next.back; end = end } ∷ [])) f.left
+  gave_next : GaveFirst d.left (conns_of (far.all ++ record { conn = next.conn; back = next.back; end = end; exchanges = next.exchanges } ∷ [])) f.left
   gave_next = subst
-      (λ l. GaveFirst d.left l f.left) (sym (conns_more far.all (record { conn = next.conn; back = next.back; end = end })))
+      (λ l. GaveFirst d.left l f.left) (sym (conns_more far.all (record { conn = next.conn; back = next.back; end = end; exchanges = next.exchanges })))
       (gave_more d.left e.left f.left (conns_of far.all) next.conn far.gave next.gave)
 
-  noted_next : NotesVisits tells d.given (far.all ++ record { conn = next.conn; back = next.back; end = end } ∷ []) f.given
-  noted_next = notes_more tells d.given e.given f.given far.all (record { conn = next.conn; back = next.back; end = end } ∷ []) far.noted next.noted
+  noted_next : NotesVisits tells d.given (far.all ++ record { conn = next.conn; back = next.back; end = end; exchanges = next.exchanges } ∷ []) f.given
+  noted_next = notes_more tells d.given e.given f.given far.all (record { conn = next.conn; back = next.back; end = end; exchanges = next.exchanges } ∷ []) far.noted next.noted
 
-  counted_next : after ≡ all_counted before (ends_of (far.all ++ record { conn = next.conn; back = next.back; end = end } ∷ []))
+  counted_next : after ≡ all_counted before (ends_of (far.all ++ record { conn = next.conn; back = next.back; end = end; exchanges = next.exchanges } ∷ []))
   counted_next = next.counted ∙ ap (λ c. counted c end) far.counted ∙ sym (counted_more before (ends_of far.all) end)
-      ∙ ap (λ l. all_counted before l) (sym (ends_more far.all (record { conn = next.conn; back = next.back; end = end })))
+      ∙ ap (λ l. all_counted before l) (sym (ends_more far.all (record { conn = next.conn; back = next.back; end = end; exchanges = next.exchanges })))
 
   pub more_so_far : is_spent end ≡ false → SoFar tells set m d n f before after
   more_so_far other = record {
-    all = far.all ++ record { conn = next.conn; back = next.back; end = end } ∷ [];
+    all = far.all ++ record { conn = next.conn; back = next.back; end = end; exchanges = next.exchanges } ∷ [];
     ran = ran_next;
     gave = gave_next;
     noted = noted_next;
     counted = counted_next;
-    none = subst (λ l. NoneSpent l) (sym (ends_more far.all (record { conn = next.conn; back = next.back; end = end })))
+    none = subst (λ l. NoneSpent l) (sym (ends_more far.all (record { conn = next.conn; back = next.back; end = end; exchanges = next.exchanges })))
         (none_more (ends_of far.all) end far.none other);
     closes = next.closes ∙ far.closes;
     faults = next.faults ∙ far.faults;
@@ -157,7 +156,7 @@ module _ {C : Type 0} (tells : C → ConnTells) (set : Settings) (m k n : BaySta
 
   pub spent_runs : end ≡ conn_end.NumbersSpent → Runs tells set m d bay_stop.NumbersSpent n f before after
   spent_runs is = record {
-    all = far.all ++ record { conn = next.conn; back = next.back; end = end } ∷ [];
+    all = far.all ++ record { conn = next.conn; back = next.back; end = end; exchanges = next.exchanges } ∷ [];
     ran = ran_next;
     gave = gave_next;
     noted = noted_next;
@@ -167,7 +166,7 @@ module _ {C : Type 0} (tells : C → ConnTells) (set : Settings) (m k n : BaySta
       next.closes ∙ far.closes,
       ends_of far.all,
       far.none,
-      ends_more far.all (record { conn = next.conn; back = next.back; end = end }) ∙ ap (λ x. ends_of far.all ++ x ∷ []) is,
+      ends_more far.all (record { conn = next.conn; back = next.back; end = end; exchanges = next.exchanges }) ∙ ap (λ x. ends_of far.all ++ x ∷ []) is,
     );
   }
 

@@ -1,5 +1,5 @@
 -- How far a bay came at its door.
-use Rattle.std.specs.Prelude.{◌≡◌, ℕ, List, [], ◌∷◌}
+use Rattle.std.specs.Prelude.{◌≡◌, List, [], ◌∷◌}
 use Rattle.audit_core.specs.declared.settings.Settings.{Settings}
 use Rattle.bay_runs.specs.Counts.{counted, all_counted}
 use Rattle.bay_runs.specs.Runs.{ConnTells, DoorState, ServedConn, Ran, GaveFirst, NotesVisits, NoneSpent, StopsBy, ends_of, conns_of}
@@ -8,15 +8,17 @@ use Rattle.bay_runs.specs.declared.end_counts.EndCounts.{EndCounts}
 use Rattle.session_core.specs.Bays.{BayState}
 use Rattle.session_core.specs.Connection.{Serves}
 use Rattle.session_core.specs.declared.conn_end.ConnEnd.{ConnEnd}
+use Rattle.session_core.specs.declared.exchange.Exchange.{Exchange}
 
 -- the next connection was given, served, handed back and counted
 pub record ServesNext {C : Type 0} (tells : C → ConnTells) (set : Settings) (m : BayState) (d : DoorState C) (end : ConnEnd) (n : BayState)
     (e : DoorState C) (before after : EndCounts) : Type 0 where
   pub conn : C
   pub back : C
-  pub serves : Serves set (tells conn).peer m n (tells conn).state (tells back).state end
+  pub exchanges : List Exchange
+  pub serves : Serves set (tells conn).peer m n (tells conn).state (tells back).state end exchanges
   pub gave : GaveFirst d.left (conn ∷ []) e.left
-  pub noted : NotesVisits tells d.given (record { conn = conn; back = back; end = end } ∷ []) e.given
+  pub noted : NotesVisits tells d.given (record { conn = conn; back = back; end = end; exchanges = exchanges } ∷ []) e.given
   pub closes : e.closes ≡ d.closes
   pub faults : e.faults ≡ d.faults
   pub counted : after ≡ counted before end

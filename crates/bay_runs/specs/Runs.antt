@@ -15,6 +15,7 @@ use Rattle.session_core.specs.Bays.{BayState}
 use Rattle.session_core.specs.Connection.{ConnState, Serves}
 use Rattle.session_core.specs.declared.conn_end.ConnEnd.{ConnEnd}
 use Rattle.session_core.specs.declared.conn_end.ConnEnd.TheVariants as conn_end
+use Rattle.session_core.specs.declared.exchange.Exchange.{Exchange}
 
 -- ---- what is told
 
@@ -49,11 +50,12 @@ door_state d door = record {
   faults = d.faults door;
 }
 
--- a connection as the door gave it and as it was handed back, and how it ended
+-- a connection as the door gave it and as it was handed back, how it ended, and the exchanges that it had
 pub record ServedConn (C : Type 0) : Type 0 where
   pub conn : C
   pub back : C
   pub end : ConnEnd
+  pub exchanges : List Exchange
 
 abbrev pub ends_of : {C : Type 0} → List (ServedConn C) → List ConnEnd
 ends_of all = map (λ s. s.end) all
@@ -61,13 +63,18 @@ ends_of all = map (λ s. s.end) all
 abbrev pub conns_of : {C : Type 0} → List (ServedConn C) → List C
 conns_of all = map (λ s. s.conn) all
 
+-- the exchanges of all of them, in order
+abbrev pub exchanges_of : {C : Type 0} → List (ServedConn C) → List Exchange
+exchanges_of [] = []
+exchanges_of (s ∷ more) = s.exchanges ++ exchanges_of more
+
 -- ---- connections one after another
 
--- each connection was served from the state that the one before left
+-- each connection was served from the state that the one before left, and had these exchanges
 abbrev pub Ran : {C : Type 0} → (C → ConnTells) → Settings → BayState → List (ServedConn C) → BayState → Type 0
 Ran tells set m [] n = n ≡ m
 Ran tells set m (s ∷ more) n =
-    (k : BayState) × Serves set (tells s.conn).peer m k (tells s.conn).state (tells s.back).state s.end
+    (k : BayState) × Serves set (tells s.conn).peer m k (tells s.conn).state (tells s.back).state s.end s.exchanges
     × Ran tells set k more n
 
 -- ---- the door

@@ -7,7 +7,7 @@ use Rattle.audit_core.specs.declared.offers.Outcome.{Outcome}
 use Rattle.audit_core.specs.declared.offers.Outcome.TheVariants as outcome
 use Rattle.audit_core.specs.declared.settings.Settings.{Settings}
 use Rattle.audit_core.specs.declared.sinks.Sink.{Sink}
-use Rattle.event_offers.specs.Offering.{OffersAll}
+use Rattle.event_offers.specs.Offering.{OffersAll, note_of}
 use Rattle.event_offers.specs.Taken.{is_for}
 use Rattle.front_ports.specs.Told.{Adds}
 use Rattle.session_core.specs.Bays.{BayState}
@@ -33,13 +33,29 @@ abbrev pub offers_in : List Exchange → List OfferNote
 offers_in [] = []
 offers_in (x ∷ xs) = x.offers ++ offers_in xs
 
+-- of what is due it is noted what became of it, in order
+abbrev pub AreNotesOf : List Due → List OfferNote → Type 0
+AreNotesOf [] notes = notes ≡ []
+AreNotesOf (due ∷ dues) notes =
+    (own : Outcome) × (rest : List OfferNote) × (notes ≡ note_of due own ∷ rest) × AreNotesOf dues rest
+
+-- what was offered of an exchange is a prefix of what its events are due, and this is the rest
+pub record IsOffered (set : Settings) (x : Exchange) (rest : List Due) : Type 0 where
+  pub due_is : offers_due set (owed x.decision x.facts) ≡ offered_of set x ++ rest
+  pub notes : AreNotesOf (offered_of set x) x.offers
+
+-- of each exchange all was offered, but of the last one a rest may be left
+abbrev pub EachOffered : Settings → List Exchange → List Due → Type 0
+EachOffered set [] rest = rest ≡ []
+EachOffered set (x ∷ []) rest = IsOffered set x rest
+EachOffered set (x ∷ y ∷ more) rest = IsOffered set x [] × EachOffered set (y ∷ more) rest
+
 -- a bay's diary, its lanes and its numbers tell these exchanges and no other: each offer that they are due was made, in order, and
 -- noted, and nothing else was offered; but a rest may not have been reached
 pub record Tells (set : Settings) (m n : BayState) (xs : List Exchange) (rest : List Due) : Type 0 where
-  pub due : List Due
-  pub due_is : due_in set xs ≡ due ++ rest
-  pub offered_is : due ≡ offered_in set xs
-  pub offered : OffersAll due m.lanes (offers_in xs) n.lanes
+  pub due_is : due_in set xs ≡ offered_in set xs ++ rest
+  pub each : EachOffered set xs rest
+  pub offered : OffersAll (offered_in set xs) m.lanes (offers_in xs) n.lanes
   pub noted : Adds m.notes n.notes xs
   pub number_is : n.number ≡ m.number + length xs
 

@@ -1,4 +1,4 @@
-ghost use Rattle.std.specs.Prelude.{◌≡◌, ℕ, List};
+ghost use Rattle.std.specs.Prelude.{ℕ, List};
 ghost use Rattle.audit_core.specs.Offers.{Due};
 ghost use Rattle.audit_core.specs.declared.offers.OfferNote.{OfferNote};
 ghost use Rattle.audit_core.specs.declared.settings.Settings.{Settings};
@@ -14,12 +14,12 @@ ghost use Rattle.session_core.specs.declared.exchange.Exchange.{Exchange};
 
 use event_offers::offers_join;
 
-/// However a connection ends, its exchanges are noted in order, and what they were offered is all that the lanes were
-/// offered meanwhile. Nothing that is due is left out, but where memory ran out.
+/// However a connection ends, all exchanges that it had are noted in order, and what they were offered is all that the lanes were
+/// offered meanwhile. Nothing that is due is left out, but where memory ran out: then a rest of the last one's.
 pub fn a_connection_is_told_whole()
-    ensures { (set : Settings) (peer : List ℕ) (m n : BayState) (c d : ConnState) (end : ConnEnd)
-        → Serves set peer m n c d end
-        → (xs : List Exchange) × (rest : List Due) × Tells set m n xs rest × CanLeave end rest }
+    ensures { (set : Settings) (peer : List ℕ) (m n : BayState) (c d : ConnState) (end : ConnEnd) (xs : List Exchange)
+        → Serves set peer m n c d end xs
+        → (rest : List Due) × Tells set m n xs rest × CanLeave end rest }
 {
     offers_join();
 }

@@ -1,10 +1,10 @@
 -- Handles that have done nothing yet: what they tell is empty, and their counts are 0.
-use Rattle.std.specs.Prelude.{◌≡◌, ℕ, List, [], Option, Some, IfSome}
+use Rattle.std.specs.Prelude.{◌≡◌, ℕ, List, [], Option, None, Some, IfSome, All, ⊤}
 use Rattle.front_base.specs.Line.{Line}
 use Rattle.front_ports.specs.declared.dial.Call.{Call}
 use Rattle.front_ports.specs.declared.door.Visit.{Visit}
 use Rattle.log_sink.specs.Texts.{log_text}
-use Rattle.truncate_backend.specs.Tries.{SinkTells, SentAfter}
+use Rattle.truncate_backend.specs.Tries.{Try, SinkTells, SentAfter, SentBy, IsNoted}
 use Rattle.webhook_sink.specs.Hooked.{hook_text}
 
 -- a door that gave nothing
@@ -53,8 +53,17 @@ pub record IsNewSink (opens : SinkOpens) (sink : SinkTells) : Type 0 where
   pub no_fault : sink.faults ≡ 0
   pub no_refusal : sink.refusals ≡ 0
 
+-- where bytes and tries are both told, the bytes are those of the tries: the text of each, or the first bytes of it where its port failed
+abbrev pub SentTexts : (List Line → List ℕ) → Option (Option (List ℕ)) → Option (List Try) → Type 0
+SentTexts text None tries = ⊥
+SentTexts text (Some None) tries = ⊤
+SentTexts text (Some (Some bytes)) None = ⊤
+SentTexts text (Some (Some bytes)) (Some tries) = SentBy text tries bytes
+
 -- what a sink tells that opened so: the text of a try is the same, and where its port told that it was given nothing then, it was
--- given the bytes of the sink's tries, where both are still told
+-- given the bytes of the sink's tries, where both are still told, and so their texts. Each try is noted as it was
 pub record SentAll (opens : SinkOpens) (sink : SinkTells) : Type 0 where
   pub text_is : sink.text ≡ opens.text
   pub bytes : opens.sent ≡ Some (Some []) → SentAfter [] opens.text sink.sent sink.tries
+  pub noted : IfSome sink.tries (All (IsNoted opens.text))
+  pub written : opens.sent ≡ Some (Some []) → SentTexts opens.text sink.sent sink.tries

@@ -1,5 +1,5 @@
 -- What was rehearsed: a run of `serve` over memory.
-use Rattle.std.specs.Prelude.{◌≡◌, ℕ, List, [], All, Some}
+use Rattle.std.specs.Prelude.{◌≡◌, ℕ, List, [], All, Some, IfSome, slice_get}
 use Rattle.apiservice_table.specs.declared.table_routes.TableRoutes.{TableRoutes}
 use Rattle.front_plants.specs.MemorySinks.{told_openings}
 use Rattle.front_plants.specs.Plants.{PlantTells}
@@ -9,12 +9,13 @@ use Rattle.front_ports.specs.declared.mem_dial.MemDial.{MemDial}
 use Rattle.front_ports.specs.declared.mem_door.MemDoor.{MemDoor}
 use Rattle.log_sink.specs.declared.log.LogSink.{LogSink}
 use Rattle.proxy_runs.specs.Setup.{settings_of, options_of}
+use Rattle.rehearse_check.specs.Planned.{Follows}
 use Rattle.rehearse_plan.specs.Words.{Asked}
 use Rattle.rehearse_runs.specs.Handles.{MemConn, mem_handles}
 use Rattle.rehearse_setting.specs.Sent.{IsDue}
 use Rattle.rehearse_setting.specs.Setting.{IsConfig, Opens, words_of}
 use Rattle.serve_config.specs.declared.config.ServeConfig.{ServeConfig}
-use Rattle.serve_runs.specs.Served.{RunServed}
+use Rattle.serve_runs.specs.Served.{RunServed, run_exchanges}
 use Rattle.serve_runs.specs.declared.ended.Ended.{Ended}
 use Rattle.session_core.specs.declared.diary.MemDiary.{MemDiary}
 use Rattle.truncate_backend.specs.declared.mem_notes.MemNotes.{MemNotes}
@@ -38,3 +39,8 @@ pub record WasServed (T : Type 0) (bays : ℕ) (plan : Asked) (ended : MemEnded)
   pub sent : IsDue plan.start plan.count bays before.due
   pub run : RunServed mem_handles T (settings_of config.words config.loaded) (options_of config.words config.words.listen) told_openings
       before after tables ended
+
+-- each bay of that run had the exchanges that were planned for it, in order
+abbrev pub ServedAsPlanned : (T : Type 0) (bays : ℕ) (plan : Asked) (ended : MemEnded) → WasServed T bays plan ended → Type 0
+ServedAsPlanned T bays plan ended was =
+    (bay : ℕ) → IfSome (slice_get ended.bays.items bay) (λ end. Follows plan.start plan.count bays bay (run_exchanges was.run bay))

@@ -3,7 +3,7 @@
 //!
 //! The main contract is that of `run_rehearse`. Where it ends with status 0, the text that it wrote is the summary of the
 //! plan, as one thread works it out, whatever the threads did; the exchanges of each bay are those of its requests, in order
-//! (`Agrees`); and as many lines were written as there are events. The run that is left is one of `serve_runs::run_serve`, so that
+//! (`Agrees`, of diaries; `planned_requests_were_served`, of its connections); and as many lines were written as there are events. The run that is left is one of `serve_runs::run_serve`, so that
 //! all laws of runs hold of it (`WasServed`): by the settings and options that the words and files of a rehearsal state, with routes
 //! that begin with their APIServices, and over a plant by which each bay is due the connection that sends its requests.
 //!
@@ -12,5 +12,7 @@
 #![tactic(auto)]
 
 mod command;
+mod laws;
 
 pub use command::{Answer, MemEnded, Rehearsed, run_plan, run_rehearse};
+pub use laws::planned_requests_were_served;

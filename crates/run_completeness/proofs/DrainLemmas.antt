@@ -1,5 +1,5 @@
 -- What a drainer's counts say.
-use Rattle.std.proofs.Common.{◌≡◌, ◌+◌, ◌≤◌, ◌<◌, ◌-◌, ◌^◌, min, ℕ, zero, suc, List, [], ◌∷◌, length, slice_get, Option, Some, None, IfSome, refl, sym, ap, ◌∙◌, subst, arith, sum_by}
+use Rattle.std.proofs.Common.{◌≡◌, ◌+◌, ◌≤◌, ◌<◌, ◌-◌, ◌^◌, min, ℕ, zero, suc, List, length, slice_get, Option, Some, None, IfSome, refl, sym, ap, ◌∙◌, subst, arith, sum_by}
 use Rattle.any_lane.specs.declared.lane.AnyLane.{AnyLane}
 use Rattle.audit_core.specs.declared.settings.Settings.{Settings}
 use Rattle.audit_core.specs.declared.sinks.Sink.{Sink}
@@ -14,6 +14,7 @@ use Rattle.run_completeness.proofs.ShareLemmas.{all_of_each, shares, total, tota
 use Rattle.run_completeness.proofs.WrittenLemmas.{all_done, as_many, few}
 use Rattle.serve_roles.specs.Doors.{BayHandles}
 use Rattle.serve_roles.specs.declared.bay_end.BayEnd.{BayEnd}
+use Rattle.session_core.specs.declared.exchange.Exchange.{Exchange}
 use Rattle.shared_queue.specs.Bays.{of_bay}
 use Rattle.sink_lanes.specs.declared.ending.SinkEnd.{SinkEnd}
 use Rattle.truncate_backend.specs.Tries.{Try, done_of, lines_of}
@@ -68,25 +69,25 @@ held_all : (written done all held offered : ℕ) → written ≡ min done (2 ^ 6
 held_all written done all held offered w o l a b = omega (arith, w, o, l, a, b)
 
 module _ {R L N W H K Y D C S T : Type 0} (h : BayHandles R L N W H K Y D C) (s : sinks.Ghosts S) (set : Settings) (sink : Sink)
-    (options : RunOptions) (allots : List ℕ) (bays : List (BayEnd R L K Y D)) (end : SinkEnd S K) (lanes : List (AnyLane S T)) (count : length bays ≡ options.bays)
+    (options : RunOptions) (allots : List ℕ) (xs : ℕ → List Exchange) (bays : List (BayEnd R L K Y D)) (end : SinkEnd S K) (lanes : List (AnyLane S T)) (count : length bays ≡ options.bays)
     {k : clocks.Ghosts K} {opens : SinkOpens} (d : IsDrained s k opens options.bays options.buffer allots options.limits lanes end)
-    (each : (k : ℕ) → IfSome (slice_get bays k) (KeepsBatched h set sink options.buffer allots (of_bay k (lines_of d.tries)) k)) where
+    (each : (k : ℕ) → IfSome (slice_get bays k) (KeepsBatched h set sink options.buffer allots (of_bay k (lines_of d.tries)) (xs k) k)) where
   abbrev held : ℕ → ℕ
   held k = length (of_bay k (lines_of d.tries))
 
   bay_few : (k : ℕ) → IfSome (slice_get bays k) (λ x. held k ≤ offered_to sink x)
   bay_few k =
-      map_some (KeepsBatched h set sink options.buffer allots (of_bay k (lines_of d.tries)) k) (λ x. held k ≤ offered_to sink x) (slice_get bays k)
-      (λ x b. each_few (held k) (count_of is_full sink (offers_in b.told.exchanges)) _ (offered_to sink x) b.account b.offered) (each k)
+      map_some (KeepsBatched h set sink options.buffer allots (of_bay k (lines_of d.tries)) (xs k) k) (λ x. held k ≤ offered_to sink x) (slice_get bays k)
+      (λ x b. each_few (held k) (count_of is_full sink (offers_in (xs k))) _ (offered_to sink x) b.account b.offered) (each k)
 
   all_held : length (lines_of d.tries) ≤ total held bays
   all_held = shares bays (lines_of d.tries) (λ bay above. d.others bay (subst (λ n. n ≤ bay) count above))
 
-  bay_keeps : (k : ℕ) (x : BayEnd R L K Y D) → KeepsBatched h set sink options.buffer allots (of_bay k (lines_of d.tries)) k x
-      → held k ≡ offered_to sink x → KeptBay h set sink (of_bay k (lines_of d.tries)) k x
+  bay_keeps : (k : ℕ) (x : BayEnd R L K Y D) → KeepsBatched h set sink options.buffer allots (of_bay k (lines_of d.tries)) (xs k) k x
+      → held k ≡ offered_to sink x → KeptBay h set sink (of_bay k (lines_of d.tries)) (xs k) k x
   bay_keeps k x b e = record {
     told = b.told;
-    kept = b.keeps (no_full (held k) (count_of is_full sink (offers_in b.told.exchanges)) _ (offered_to sink x) b.account b.offered e);
+    kept = b.keeps (no_full (held k) (count_of is_full sink (offers_in (xs k))) _ (offered_to sink x) b.account b.offered e);
   }
 
   both_some : {A : Type 0} (P Q E : A → Type 0) (o : Option A) → ((x : A) → P x → Q x → E x) → IfSome o P → IfSome o Q → IfSome o E
@@ -96,7 +97,7 @@ module _ {R L N W H K Y D C S T : Type 0} (h : BayHandles R L N W H K Y D C) (s 
   written : done_of d.tries ≡ lines_of d.tries → AllWritten d.drain d.tries
   written e = all_written d.drain d.tries d.unwritten d.each d.written_is d.lost_is e
 
-  pub batches_keep : BatchesKeepAll h s set sink options allots bays end
+  pub batches_keep : BatchesKeepAll h s set sink options allots xs bays end
   batches_keep = record {
     allotted = d.allotted.count;
     drain = d.drain;
@@ -114,8 +115,8 @@ module _ {R L N W H K Y D C S T : Type 0} (h : BayHandles R L N W H K Y D C) (s 
     as_many = λ offered below. (
       written (as_many d.tries (wrote_all d.drain.written (length (done_of d.tries)) (length (lines_of d.tries)) (total held bays)
           (sum_by (offered_to sink) bays) d.written_is offered below (few d.tries) all_held (total_most (offered_to sink) held bays bay_few))),
-      (λ k. both_some (KeepsBatched h set sink options.buffer allots (of_bay k (lines_of d.tries)) k) (λ x. held k ≡ offered_to sink x)
-          (KeptBay h set sink (of_bay k (lines_of d.tries)) k) (slice_get bays k) (bay_keeps k) (each k)
+      (λ k. both_some (KeepsBatched h set sink options.buffer allots (of_bay k (lines_of d.tries)) (xs k) k) (λ x. held k ≡ offered_to sink x)
+          (KeptBay h set sink (of_bay k (lines_of d.tries)) (xs k) k) (slice_get bays k) (bay_keeps k) (each k)
           (all_of_each (offered_to sink) held bays bay_few
           (held_all d.drain.written (length (done_of d.tries)) (length (lines_of d.tries)) (total held bays) (sum_by (offered_to sink) bays)
           d.written_is offered below (few d.tries) all_held) k)),

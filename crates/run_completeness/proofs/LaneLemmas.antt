@@ -1,12 +1,12 @@
 -- What one lane was offered and keeps.
-use Rattle.std.proofs.Common.{◌≡◌, ◌+◌, ◌≤◌, ◌<◌, ◌-◌, ◌^◌, min, ◌⊎◌, ℕ, Bool, true, List, [], ◌∷◌, ◌++◌, length, sum, get_or, Option, Some, None, IfSome, refl, sym, ap, ◌∙◌, subst, arith}
+use Rattle.std.proofs.Common.{◌≡◌, ◌+◌, ◌≤◌, ◌<◌, ◌-◌, ◌^◌, min, ◌⊎◌, ℕ, Bool, true, List, [], ◌++◌, length, sum, get_or, Option, Some, None, IfSome, refl, sym, ap, ◌∙◌, subst, arith}
 use Rattle.std.specs.Prelude.{option_map}
 use Rattle.audit_core.specs.Offers.{Due}
 use Rattle.audit_core.specs.declared.offers.OfferNote.{OfferNote}
 use Rattle.audit_core.specs.declared.offers.Outcome.{Outcome}
 use Rattle.audit_core.specs.declared.sinks.Sink.{Sink}
 use Rattle.connection_laws.specs.Whole.{Counts, count_of, is_full, is_failure}
-use Rattle.event_offers.specs.Lanes.{LaneState, LanesState}
+use Rattle.event_offers.specs.Lanes.{LanesState}
 use Rattle.event_offers.specs.Offering.{OffersAll}
 use Rattle.event_offers.specs.Taken.{is_taken, is_tried, lane_of, lines_for}
 use Rattle.front_base.specs.Line.{Line}

@@ -4,7 +4,7 @@ use Rattle.any_lane.specs.declared.lane.AnyLane.{AnyLane}
 use Rattle.audit_core.specs.declared.settings.Settings.{Settings}
 use Rattle.bay_laws.specs.Whole.{AllInMemory}
 use Rattle.bay_runs.specs.Counts.{all_counted, counted, no_ends}
-use Rattle.bay_runs.specs.Runs.{ends_of}
+use Rattle.bay_runs.specs.Runs.{ends_of, exchanges_of}
 use Rattle.bay_runs.specs.declared.end_counts.EndCounts.{EndCounts}
 use Rattle.front_ports.specs.Told.{Adds}
 use Rattle.http_edge.specs.declared.request.End.TheVariants as end
@@ -47,14 +47,11 @@ pub counted_all : (n e m x : ℕ) → n ≡ e → n ≡ m + x → m ≡ 0 → e 
 counted_all n e m x p q r = omega (arith, p, q, r)
 
 module _ {R L N W H T K Y D C : Type 0} (h : BayHandles R L N W H K Y D C) where
-  abbrev pub bay_told : (set : Settings) (log_new hook_new : SinkOpens) (boot : ℕ) (due : ℕ → Option (List C)) (tables : List R) (logs : List (AnyLane W T)) (hooks : List (AnyLane H T))
-      (k : ℕ) (end : BayEnd R L K Y D) (b : BayServed h set log_new hook_new boot due tables logs hooks k end) → BayTold h set end
+  pub bay_told : (set : Settings) (log_new hook_new : SinkOpens) (boot : ℕ) (due : ℕ → Option (List C)) (tables : List R) (logs : List (AnyLane W T)) (hooks : List (AnyLane H T))
+      (k : ℕ) (end : BayEnd R L K Y D) (b : BayServed h set log_new hook_new boot due tables logs hooks k end) → BayTold h set (exchanges_of b.runs.all) end
   bay_told set log_new hook_new boot due tables logs hooks k end b = record {
-    exchanges = b.exchanges;
-    noted = subst (λ z. IfSome z (λ notes. notes ≡ b.exchanges)) (ap (λ n. n.notes) b.ends)
-        (adds_all b.m.notes b.n.notes b.exchanges b.opens.diary b.told.noted);
-    number_is = counted_all b.n.number end.number b.m.number (length b.exchanges) (ap (λ n. n.number) b.ends) b.told.number_is b.opens.number;
-    due = b.told.due;
-    offered_is = b.told.offered_is;
+    noted = subst (λ z. IfSome z (λ notes. notes ≡ exchanges_of b.runs.all)) (ap (λ n. n.notes) b.ends)
+        (adds_all b.m.notes b.n.notes (exchanges_of b.runs.all) b.opens.diary b.told.noted);
+    number_is = counted_all b.n.number end.number b.m.number (length (exchanges_of b.runs.all)) (ap (λ n. n.number) b.ends) b.told.number_is b.opens.number;
     whole = λ none. b.told.whole (in_memory no_ends (ends_of b.runs.all) (sym (ap (λ (c : EndCounts). c.no_memory) b.runs.counted) ∙ none)).1;
   }

@@ -11,11 +11,12 @@ ghost use Rattle.http_edge.specs.declared.request.Request.{Request};
 ghost use Rattle.plant_lanes.specs.declared.options.RunOptions.{RunOptions};
 ghost use Rattle.run_completeness.specs.Kept.{AllClosed, BatchesKeepAll, TriesKeepAll, lines_due};
 ghost use Rattle.serve_roles.specs.Doors.{bay_handles};
-ghost use Rattle.serve_runs.specs.Served.{RunServed};
+ghost use Rattle.serve_runs.specs.Served.{RunServed, run_exchanges};
 ghost use Rattle.serve_runs.specs.declared.ended.Ended.{Ended};
 ghost use Rattle.serve_runs.specs.declared.ended.RunStatus.TheVariants.{Done};
 ghost use Rattle.session_core.specs.Bays.{BayState};
 ghost use Rattle.session_core.specs.Exchange.{ExchangedTo};
+ghost use Rattle.session_core.specs.declared.exchange.Exchange.{Exchange};
 ghost use Rattle.stream_relay.specs.declared.stream.Relayed.{Relayed};
 
 use apiservice_table::Routes;
@@ -38,14 +39,14 @@ pub fn nothing_is_lost_in_batches<P: Plant, R: Routes>()
         P.D.C.Source P.D.C.ByteSink P.D.C.Conn.own) P.Rt set options P.opens before after tables ended)
         → set.log ≡ Batch
         → BatchesKeepAll (bay_handles R.Routes P.L.Dial P.W.BatchSink P.H.BatchSink P.K.Clock P.Y.Diary P.D.Door
-        P.D.C.Source P.D.C.ByteSink P.D.C.Conn.own) P.W.BatchSink set Log options served.log_allots ended.bays.items ended.log }
+        P.D.C.Source P.D.C.ByteSink P.D.C.Conn.own) P.W.BatchSink set Log options served.log_allots (run_exchanges served) ended.bays.items ended.log }
     ensures hook { (set : Settings) (options : RunOptions) (before after : PlantTells P.D.C) (tables : List R)
         (ended : Ended R P.L P.W P.H P.K P.Y P.D)
         (served : RunServed (bay_handles R.Routes P.L.Dial P.W.BatchSink P.H.BatchSink P.K.Clock P.Y.Diary P.D.Door
         P.D.C.Source P.D.C.ByteSink P.D.C.Conn.own) P.Rt set options P.opens before after tables ended)
         → set.hook ≡ Batch
         → BatchesKeepAll (bay_handles R.Routes P.L.Dial P.W.BatchSink P.H.BatchSink P.K.Clock P.Y.Diary P.D.Door
-        P.D.C.Source P.D.C.ByteSink P.D.C.Conn.own) P.H.BatchSink set Webhook options served.hook_allots ended.bays.items ended.hook }
+        P.D.C.Source P.D.C.ByteSink P.D.C.Conn.own) P.H.BatchSink set Webhook options served.hook_allots (run_exchanges served) ended.bays.items ended.hook }
 {
     each_lane_gets_its_lines();
     refusals_are_counted();
@@ -55,18 +56,18 @@ pub fn nothing_is_lost_in_batches<P: Plant, R: Routes>()
 pub fn nothing_is_lost_at_once<P: Plant, R: Routes>()
     ensures log { (set : Settings) (options : RunOptions) (before after : PlantTells P.D.C) (tables : List R)
         (ended : Ended R P.L P.W P.H P.K P.Y P.D)
-        → RunServed (bay_handles R.Routes P.L.Dial P.W.BatchSink P.H.BatchSink P.K.Clock P.Y.Diary P.D.Door
-        P.D.C.Source P.D.C.ByteSink P.D.C.Conn.own) P.Rt set options P.opens before after tables ended
+        (served : RunServed (bay_handles R.Routes P.L.Dial P.W.BatchSink P.H.BatchSink P.K.Clock P.Y.Diary P.D.Door
+        P.D.C.Source P.D.C.ByteSink P.D.C.Conn.own) P.Rt set options P.opens before after tables ended)
         → (set.log ≡ Blocking) ⊎ (set.log ≡ Strict)
         → TriesKeepAll (bay_handles R.Routes P.L.Dial P.W.BatchSink P.H.BatchSink P.K.Clock P.Y.Diary P.D.Door
-        P.D.C.Source P.D.C.ByteSink P.D.C.Conn.own) P.W.BatchSink set Log ended.bays.items ended.log }
+        P.D.C.Source P.D.C.ByteSink P.D.C.Conn.own) P.W.BatchSink set Log (run_exchanges served) ended.bays.items ended.log }
     ensures hook { (set : Settings) (options : RunOptions) (before after : PlantTells P.D.C) (tables : List R)
         (ended : Ended R P.L P.W P.H P.K P.Y P.D)
-        → RunServed (bay_handles R.Routes P.L.Dial P.W.BatchSink P.H.BatchSink P.K.Clock P.Y.Diary P.D.Door
-        P.D.C.Source P.D.C.ByteSink P.D.C.Conn.own) P.Rt set options P.opens before after tables ended
+        (served : RunServed (bay_handles R.Routes P.L.Dial P.W.BatchSink P.H.BatchSink P.K.Clock P.Y.Diary P.D.Door
+        P.D.C.Source P.D.C.ByteSink P.D.C.Conn.own) P.Rt set options P.opens before after tables ended)
         → (set.hook ≡ Blocking) ⊎ (set.hook ≡ Strict)
         → TriesKeepAll (bay_handles R.Routes P.L.Dial P.W.BatchSink P.H.BatchSink P.K.Clock P.Y.Diary P.D.Door
-        P.D.C.Source P.D.C.ByteSink P.D.C.Conn.own) P.H.BatchSink set Webhook ended.bays.items ended.hook }
+        P.D.C.Source P.D.C.ByteSink P.D.C.Conn.own) P.H.BatchSink set Webhook (run_exchanges served) ended.bays.items ended.hook }
 {
     each_lane_gets_its_lines();
     refusals_are_counted();
@@ -85,8 +86,8 @@ pub fn a_run_without_faults_is_done<P: Plant, R: Routes>()
 /// An exchange is noted with a failed dial, or with a failed link, only where its dial counted that, or where the count stood at its last
 /// value.
 pub fn failed_links_are_counted()
-    ensures dial { (set : Settings) (peer : List ℕ) (r : Request) (m : BayState) (text : List ℕ) (n : BayState) (end : Relayed)
-        → (done : ExchangedTo set peer r m text n end) → done.x.link ≡ DialFailed → Rose m.dial.faults n.dial.faults }
-    ensures link { (set : Settings) (peer : List ℕ) (r : Request) (m : BayState) (text : List ℕ) (n : BayState) (end : Relayed)
-        → (done : ExchangedTo set peer r m text n end) → done.x.link ≡ LinkFault → Rose m.dial.link_faults n.dial.link_faults }
+    ensures dial { (set : Settings) (peer : List ℕ) (r : Request) (m : BayState) (text : List ℕ) (n : BayState) (end : Relayed) (x : Exchange)
+        → ExchangedTo set peer r m text n end x → x.link ≡ DialFailed → Rose m.dial.faults n.dial.faults }
+    ensures link { (set : Settings) (peer : List ℕ) (r : Request) (m : BayState) (text : List ℕ) (n : BayState) (end : Relayed) (x : Exchange)
+        → ExchangedTo set peer r m text n end x → x.link ≡ LinkFault → Rose m.dial.link_faults n.dial.link_faults }
 {}

@@ -1,3 +1,4 @@
 mod LaneLemmas
+mod RecordLemmas
 mod TellLemmas
 pub mod SinkLemmas

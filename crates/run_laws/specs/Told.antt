@@ -1,6 +1,6 @@
 -- What a whole run tells of its audit lines (Kubernetes, "Auditing": audit backends).
-use Rattle.std.specs.Prelude.{◌≡◌, ◌<◌, ◌≤◌, ◌+◌, ◌-◌, ◌⊎◌, ℕ, List, [], length, sum, get_or, slice_get, Option, Some, IfSome, All}
-use Rattle.audit_core.specs.Offers.{Due}
+use Rattle.std.specs.Prelude.{◌≡◌, ◌<◌, ◌≤◌, ◌+◌, ◌-◌, ◌⊎◌, ℕ, Bool, List, [], length, sum, get_or, slice_get, Some, IfSome, All}
+use Rattle.audit_core.specs.declared.offers.Outcome.{Outcome}
 use Rattle.audit_core.specs.declared.settings.Settings.{Settings}
 use Rattle.audit_core.specs.declared.sinks.Sink.{Sink}
 use Rattle.batch_backend.specs.Batches.{WithinLimits}
@@ -18,43 +18,46 @@ use Rattle.serve_roles.specs.declared.bay_end.BayEnd.{BayEnd}
 use Rattle.session_core.specs.declared.exchange.Exchange.{Exchange}
 use Rattle.shared_queue.specs.Bays.{of_bay}
 use Rattle.sink_lanes.specs.declared.ending.SinkEnd.{SinkEnd}
-use Rattle.truncate_backend.specs.Tries.{Try, lines_of}
+use Rattle.truncate_backend.specs.Tries.{Try, IsNoted, IsSingle, lines_of}
 use Rattle.truncate_backend.specs.declared.sink.BatchSink as sinks
 
--- A bay numbered these exchanges, which are those of its diary where that is told. This is what their events were due at the sinks,
--- as far as it was offered: all of it, unless memory ran out within a connection
-pub record BayTold {R L N W H K Y D C : Type 0} (h : BayHandles R L N W H K Y D C) (set : Settings) (end : BayEnd R L K Y D) : Type 0 where
-  pub exchanges : List Exchange
-  pub noted : IfSome (h.diary.notes end.diary) (λ notes. notes ≡ exchanges)
-  pub number_is : end.number ≡ length exchanges
-  pub due : List Due
-  pub offered_is : due ≡ offered_in set exchanges
-  pub whole : end.counts.no_memory ≡ 0 → due_in set exchanges ≡ due
+-- A bay numbered these exchanges, which are those of its diary where that is told. All that their events are due at the sinks was
+-- offered, unless memory ran out within a connection
+pub record BayTold {R L N W H K Y D C : Type 0} (h : BayHandles R L N W H K Y D C) (set : Settings) (xs : List Exchange) (end : BayEnd R L K Y D) : Type 0 where
+  pub noted : IfSome (h.diary.notes end.diary) (λ notes. notes ≡ xs)
+  pub number_is : end.number ≡ length xs
+  pub whole : end.counts.no_memory ≡ 0 → due_in set xs ≡ offered_in set xs
+
+-- the lines of a bay's offers to a sink that became such, by its exchanges: of what their events are due, as far as it was offered
+abbrev pub lines_by : (Outcome → Bool) → Settings → Sink → List Exchange → ℕ → List Line
+lines_by keeps set sink xs bay = lines_for keeps sink bay 0 (offered_in set xs) (offers_in xs)
 
 -- ---- a sink in batch mode
 
--- The lines of a bay that were put are the lines of its offers that were taken, in order. An offer was Full only where these are all of
--- the bay's allotment, or the capacity is at most these and the allotments of the other bays together
+-- Of a bay with these exchanges: its lines that were put are the lines of its offers that were taken, in order. An offer was Full only
+-- where these are all of the bay's allotment, or the capacity is at most these and the allotments of the other bays together
 pub record BatchedLines {R L N W H K Y D C : Type 0} (h : BayHandles R L N W H K Y D C) (set : Settings) (sink : Sink) (capacity : ℕ)
-    (allots : List ℕ) (put : List Line) (bay : ℕ) (end : BayEnd R L K Y D) : Type 0 where
-  pub told : BayTold h set end
-  pub lines : put ≡ lines_for is_taken sink bay 0 told.due (offers_in told.exchanges)
-  pub full : 0 < count_of is_full sink (offers_in told.exchanges)
+    (allots : List ℕ) (put : List Line) (xs : List Exchange) (bay : ℕ) (end : BayEnd R L K Y D) : Type 0 where
+  pub told : BayTold h set xs end
+  pub lines : put ≡ lines_by is_taken set sink xs bay
+  pub full : 0 < count_of is_full sink (offers_in xs)
       → (length put ≡ get_or allots bay 0) ⊎ (capacity + get_or allots bay 0 ≤ length put + sum allots)
 
--- The bays of its queue have these allotments. Its one drainer made these tries, each within the limits. Their lines, joined, have of each bay what was accepted of it, once and in
--- order, and no line of anybody else. What the sink's port was given are the bytes that the tries sent. Where less time than a line may
--- wait lies between the first and the last moment of the drainer, each try but the last one ended for its number or its bytes
+-- The bays of its queue have these allotments, and had these exchanges. Its one drainer made these tries, each within the limits. Their
+-- lines, joined, have of each bay what was accepted of it, once and in order, and no line of anybody else. What the sink's port was given
+-- are the bytes that the tries sent, and each try sent all of its text, unless its port failed. Where less time than a line may wait lies
+-- between the first and the last moment of the drainer, each try but the last one ended for its number or its bytes
 pub record BatchesTell {R L N W H K Y D C S : Type 0} (h : BayHandles R L N W H K Y D C) (s : sinks.Ghosts S) (opens : SinkOpens) (set : Settings) (sink : Sink)
-    (options : RunOptions) (allots : List ℕ) (bays : List (BayEnd R L K Y D)) (end : SinkEnd S K) : Type 0 where
+    (options : RunOptions) (allots : List ℕ) (xs : ℕ → List Exchange) (bays : List (BayEnd R L K Y D)) (end : SinkEnd S K) : Type 0 where
   pub allotted : AreAllotted opens.allots options.bays allots
   pub drain : DrainEnd S K
   pub drain_is : end.drain ≡ Some drain
   pub tries : List Try
   pub told : IfSome (s.tells drain.sink).tries (λ own. own ≡ tries)
   pub within : All (λ (t : Try). WithinLimits options.limits t.lines) tries
+  pub noted : All (IsNoted opens.text) tries
   pub each : (bay : ℕ) → IfSome (slice_get bays bay)
-      (BatchedLines h set sink options.buffer allots (of_bay bay (lines_of tries)) bay)
+      (BatchedLines h set sink options.buffer allots (of_bay bay (lines_of tries)) (xs bay) bay)
   pub others : (bay : ℕ) → options.bays ≤ bay → of_bay bay (lines_of tries) ≡ []
   pub sent : SentAll opens (s.tells drain.sink)
   pub full : drain.ended - drain.began < options.limits.wait → FullButLast options.limits tries
@@ -62,16 +65,17 @@ pub record BatchesTell {R L N W H K Y D C S : Type 0} (h : BayHandles R L N W H 
 
 -- ---- a sink that is written to at once
 
--- The tries of the bay's own sink have one line each of its offers that were taken or failed, in order; and what its port was given are
--- the bytes that these tries sent
+-- Of a bay with these exchanges: the tries of its own sink have one line each of its offers that were taken or failed, in order; and what
+-- its port was given are the bytes that these tries sent, each of them its whole line, unless the port failed
 pub record TriedLines {R L N W H K Y D C S : Type 0} (h : BayHandles R L N W H K Y D C) (s : sinks.Ghosts S) (opens : SinkOpens) (set : Settings) (sink : Sink)
-    (own : List S) (bay : ℕ) (end : BayEnd R L K Y D) : Type 0 where
-  pub told : BayTold h set end
+    (own : List S) (xs : List Exchange) (bay : ℕ) (end : BayEnd R L K Y D) : Type 0 where
+  pub told : BayTold h set xs end
   pub to : S
   pub to_is : slice_get own bay ≡ Some to
-  pub lines : IfSome (s.tells to).tries (λ tries. lines_of tries ≡ lines_for is_tried sink bay 0 told.due (offers_in told.exchanges))
+  pub lines : IfSome (s.tells to).tries (λ tries. lines_of tries ≡ lines_by is_tried set sink xs bay)
+  pub single : IfSome (s.tells to).tries (All IsSingle)
   pub sent : SentAll opens (s.tells to)
 
 abbrev pub TriesTell : {R L N W H K Y D C S : Type 0} → BayHandles R L N W H K Y D C → sinks.Ghosts S → SinkOpens → Settings → Sink
-    → List (BayEnd R L K Y D) → SinkEnd S K → Type 0
-TriesTell h s opens set sink bays end = (bay : ℕ) → IfSome (slice_get bays bay) (TriedLines h s opens set sink end.own.items bay)
+    → (ℕ → List Exchange) → List (BayEnd R L K Y D) → SinkEnd S K → Type 0
+TriesTell h s opens set sink xs bays end = (bay : ℕ) → IfSome (slice_get bays bay) (TriedLines h s opens set sink end.own.items (xs bay) bay)

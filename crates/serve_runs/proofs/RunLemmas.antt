@@ -303,7 +303,6 @@ module _ {R L N W H T K Y D C : Type 0} (h : BayHandles R L N W H K Y D C) where
         n = state_of h b.own.bay;
         ends = refl;
         runs = ran.runs;
-        exchanges = ran.exchanges;
         each = ran.each;
         told = ran.told;
       }

@@ -1,11 +1,11 @@
 -- A whole run: what each bay did, and what became of what it offered.
-use Rattle.std.specs.Prelude.{◌≡◌, ℕ, List, [], length, slice_get, Option, Some, IfSome}
+use Rattle.std.specs.Prelude.{◌≡◌, ℕ, List, [], length, slice_get, Option, Some, None, IfSome}
 use Rattle.any_lane.specs.Lanes.{any_lane}
 use Rattle.any_lane.specs.declared.lane.AnyLane.{AnyLane}
 use Rattle.audit_core.specs.declared.settings.Settings.{Settings}
 use Rattle.bay_laws.specs.Whole.{TellsEach, TellsAll}
 use Rattle.bay_runs.specs.Counts.{no_ends}
-use Rattle.bay_runs.specs.Runs.{DoorState, Runs, door_state, ends_of}
+use Rattle.bay_runs.specs.Runs.{DoorState, Runs, door_state, ends_of, exchanges_of}
 use Rattle.event_offers.specs.Lanes.{lane_state}
 use Rattle.front_plants.specs.Fresh.{IsNewClock, IsNewDial, IsNewDoor, IsNewSink, Openings, SinkOpens, log_opens, hook_opens}
 use Rattle.front_plants.specs.Plants.{PlantTells}
@@ -45,8 +45,8 @@ pub record Sees {R L N W H K Y D C : Type 0} (h : BayHandles R L N W H K Y D C) 
   pub seen : m.seen ≡ h.routes.seen routes
   pub own : m.own ≡ h.routes.own routes
 
--- Of a bay: from its beginning, with the routes that it was given, it served the connections that were due to it, one after another, and these exchanges are all that
--- it noted and offered. What it leaves is what it told at its end, with its lanes
+-- Of a bay: from its beginning, with the routes that it was given, it served the connections that were due to it, one after another, and the
+-- exchanges of these are all that it noted and offered. What it leaves is what it told at its end, with its lanes
 pub record BayServed {R L N W H T K Y D C : Type 0} (h : BayHandles R L N W H K Y D C) (set : Settings) (log_new hook_new : SinkOpens) (boot : ℕ) (due : ℕ → Option (List C))
     (tables : List R) (logs : List (AnyLane W T)) (hooks : List (AnyLane H T)) (bay : ℕ) (end : BayEnd R L K Y D) : Type 0 where
   pub m : BayState
@@ -77,9 +77,8 @@ pub record BayServed {R L N W H T K Y D C : Type 0} (h : BayHandles R L N W H K 
     notes = h.diary.notes end.diary;
   }
   pub runs : Runs (tells_of h) set m d end.stop n (door_state h.door end.door) no_ends end.counts
-  pub exchanges : List Exchange
-  pub each : TellsEach set m (ends_of runs.all) n exchanges
-  pub told : TellsAll set m n (ends_of runs.all) exchanges
+  pub each : TellsEach set m runs.all n
+  pub told : TellsAll set m n (ends_of runs.all) (exchanges_of runs.all)
 
 -- Of a run: it had these calls of its plant and no other, none of which failed; what each bay did; what became of all lines that
 -- bays offered for each sink; and its status is told by why bays stopped
@@ -98,3 +97,21 @@ pub record RunServed {R L N W H K Y D C : Type 0} (h : BayHandles R L N W H K Y 
   pub log : SinkServed h.log h.clock (log_opens opens) set.log options.bays options.buffer log_allots options.limits logs ended.log
   pub hook : SinkServed h.hook h.clock (hook_opens opens options.hook_url) set.hook options.bays options.buffer hook_allots options.limits hooks ended.hook
   pub status_is : ended.status ≡ status_of (stops_of ended.bays.items)
+
+-- ---- the exchanges of a run
+
+module _ {R L N W H T K Y D C : Type 0} (h : BayHandles R L N W H K Y D C) (set : Settings) (log_new hook_new : SinkOpens) (boot : ℕ) (due : ℕ → Option (List C))
+    (tables : List R) (logs : List (AnyLane W T)) (hooks : List (AnyLane H T)) where
+  -- those of a bay's connections, in order; none where there is no such bay
+  abbrev pub exchanges_if : (bay : ℕ) (end : Option (BayEnd R L K Y D)) → IfSome end (BayServed h set log_new hook_new boot due tables logs hooks bay)
+      → List Exchange
+  exchanges_if bay None b = []
+  exchanges_if bay (Some end) b = exchanges_of b.runs.all
+
+module _ {R L N W H K Y D C : Type 0} {h : BayHandles R L N W H K Y D C} {T : Type 0} {set : Settings} {options : RunOptions} {opens : Openings}
+    {before after : PlantTells C} {tables : List R} {ended : Ended R L W H K Y D} where
+  -- those of each bay
+  abbrev pub run_exchanges : RunServed h T set options opens before after tables ended → ℕ → List Exchange
+  run_exchanges served bay =
+      exchanges_if h set (log_opens opens) (hook_opens opens options.hook_url) served.boot before.due tables served.logs served.hooks bay
+      (slice_get ended.bays.items bay) (served.each bay)

@@ -1,4 +1,3 @@
-use Rattle.std.proofs.Common.{◌≡◌}
 use Rattle.bay_runs.specs.Loop.{SoFar}
 use Rattle.bay_runs.specs.Runs.{conn_tells, door_state}
 use Rattle.session_core.specs.Bays.{bay_state, IsReady}

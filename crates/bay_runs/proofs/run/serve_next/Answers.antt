@@ -1,6 +1,6 @@
-use Rattle.std.proofs.Common.{◌≡◌, List, [], ◌∷◌, Option, Some, sym, subst, ◌∙◌}
+use Rattle.std.proofs.Common.{◌≡◌, [], ◌∷◌, sym, subst, ◌∙◌}
 use Rattle.std.specs.Option.{MatchOption}
-use Rattle.bay_runs.specs.Runs.{ServedConn, GaveFirst, conn_tells}
+use Rattle.bay_runs.specs.Runs.{GaveFirst, conn_tells}
 use Rattle.front_ports.specs.Doors.{GivesFirst, CountsEnd, NotesVisit}
 use Rattle.bay_runs.proofs.RunLemmas.{gave_one, noted_one}
 use Rattle.bay_runs.proofs.run.serve_next.Goals as goal
@@ -23,11 +23,12 @@ returns-in-Ok-Some-clause-ok g c =
     record {
       conn = conn;
       back = back;
-      serves = c.serve_connection-end.ensures.serves;
+      exchanges = c.serve_connection-end.ensures.serves.0;
+      serves = c.serve_connection-end.ensures.serves.1;
       gave = subst (λ o. GaveFirst (g.O.Door.left before) (conn ∷ []) o) (sym c.done.ensures.left)
           (gave_one (g.O.Door.left before) (g.O.Door.left given) conn first);
       noted = noted_one (conn_tells g.O.C.Source g.O.C.ByteSink g.O.C.Conn) (g.O.Door.given before) (g.O.Door.given given) (g.O.Door.given after)
-          (record { conn = conn; back = back; end = c.serve_connection-end.result }) noted c.done.ensures.noted;
+          (record { conn = conn; back = back; end = c.serve_connection-end.result; exchanges = c.serve_connection-end.ensures.serves.0 }) noted c.done.ensures.noted;
       closes = c.done.ensures.closes ∙ end;
       faults = c.done.ensures.faults ∙ says.cause.sound;
       counted = c.count.ensures;

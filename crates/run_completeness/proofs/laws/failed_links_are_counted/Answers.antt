@@ -3,7 +3,7 @@ use Rattle.run_completeness.proofs.LinkLemmas.{dial_counted, link_counted}
 use Rattle.run_completeness.proofs.laws.failed_links_are_counted.Goals as goal
 
 pub returns-clause-dial : goal.returns-clause-dial
-returns-clause-dial c set peer r m text n end done e = dial_counted _ _ _ m.dial n.dial done.came done.sent (sym done.link_is ∙ e)
+returns-clause-dial c set peer r m text n end x done e = dial_counted _ _ _ m.dial n.dial done.came done.sent (sym done.link_is ∙ e)
 
 pub returns-clause-link : goal.returns-clause-link
-returns-clause-link c set peer r m text n end done e = link_counted _ _ _ m.dial n.dial done.came done.sent (sym done.link_is ∙ e)
+returns-clause-link c set peer r m text n end x done e = link_counted _ _ _ m.dial n.dial done.came done.sent (sym done.link_is ∙ e)

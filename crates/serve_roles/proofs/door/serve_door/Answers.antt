@@ -14,4 +14,4 @@ pub returns-clause-ran : goal.returns-clause-ran
 returns-clause-ran g c =
     let runs = c.run_bay-stop.ensures.runs in
     let told = c.a_door_is_told_whole.ensures _ _ _ _ runs.all runs.ran in
-    record { runs = runs; exchanges = told.0; each = told.1; told = told.2 }
+    record { runs = runs; each = told.0; told = told.1 }
