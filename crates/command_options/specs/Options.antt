@@ -103,7 +103,7 @@ least option.ShutdownTimeout = 0
 abbrev pub most : Ranged → ℕ
 most option.MaxEventSize = 4194304
 most option.Moment = 253370764799999999
-most option.Bays = 64
+most option.Bays = 1024
 most option.Connections = 18446744073709551615
 most option.BatchBuffer = 100000
 most option.BatchMaxSize = 10000
@@ -121,7 +121,7 @@ most option.ShutdownTimeout = 3600000
 abbrev pub default_of : Ranged → ℕ
 default_of option.MaxEventSize = 1048576
 default_of option.Moment = 0
-default_of option.Bays = 8
+default_of option.Bays = 64
 default_of option.Connections = 0
 default_of option.BatchBuffer = 10000
 default_of option.BatchMaxSize = 400

@@ -90,7 +90,7 @@ impl Ranged {
         match self {
             Ranged::MaxEventSize => 4_194_304,
             Ranged::Moment => 253_370_764_799_999_999,
-            Ranged::Bays => 64,
+            Ranged::Bays => 1_024,
             Ranged::Connections => u64::MAX,
             Ranged::BatchBuffer => 100_000,
             Ranged::BatchMaxSize => 10_000,
@@ -110,7 +110,7 @@ impl Ranged {
         match self {
             Ranged::MaxEventSize => 1_048_576,
             Ranged::Moment | Ranged::Connections => 0,
-            Ranged::Bays => 8,
+            Ranged::Bays => 64,
             Ranged::BatchBuffer => 10_000,
             Ranged::BatchMaxSize => 400,
             Ranged::BatchMaxWait | Ranged::StallTimeout => 30_000,

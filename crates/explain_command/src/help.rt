@@ -106,7 +106,7 @@ Listening:
   --listen=A.B.C.D:PORT      where connections are accepted; localhost:PORT
                              too (default: 127.0.0.1:8001)
   --bays=N                   connections served at once, of which a watch takes
-                             one as long as it lasts: 1 to 64 (default: 8)
+                             one as long as it lasts: 1 to 1024 (default: 64)
 
 Audit events go to a log, to a webhook, or to both:
   --audit-log-path=PATH      log of events, - for standard output

@@ -10,7 +10,8 @@ use Rattle.batch_backend.specs.Batches.{WithinLimits}
 use Rattle.batch_backend.specs.Closes.{FullButLast}
 use Rattle.batch_backend.specs.declared.limits.Limits.{Limits}
 use Rattle.front_base.specs.Line.{Line}
-use Rattle.front_plants.specs.Fresh.{SinkOpens, IsNewSink, SentAll}
+use Rattle.front_plants.specs.Fresh.{Openings, SinkOpens, IsNewSink, SentAll, SentTexts, log_opens}
+use Rattle.log_sink.specs.Texts.{log_text}
 use Rattle.plant_lanes.specs.Lanes.{AreAllotted, AreShared, AreOwn}
 use Rattle.plant_lanes.specs.Served.{IsDrained, IsOwn, CanAllEnd, AreAllServed}
 use Rattle.front_ports.specs.declared.clock.Clock as clocks
@@ -25,7 +26,8 @@ use Rattle.sink_lanes.specs.Ends.{CanEnd, Ends, own_parts, queued_part, queued_p
 use Rattle.sink_lanes.specs.Lanes.{own_lane, queue_lane}
 use Rattle.sink_lanes.specs.Together.{SameAny, StayTogether, StaysTogether, ToldQueued}
 use Rattle.sink_lanes.specs.declared.ending.SinkEnd.{SinkEnd}
-use Rattle.truncate_backend.specs.Tries.{Try, SinkTells, SentAfter, KeepsSent, lines_of}
+use Rattle.truncate_backend.specs.Told.{JoinedEach}
+use Rattle.truncate_backend.specs.Tries.{Try, SinkTells, SentAfter, SentBy, KeepsSent, IsNoted, IsDone, lines_of, sent_bytes, texts_of}
 use Rattle.truncate_backend.specs.declared.sink.BatchSink as sinks
 
 pairs_count : {A B : Type 0} (T : A → B → Type 0) (xs : List A) (ys : List B) → AllPairs T xs ys → length ys ≡ length xs
@@ -88,17 +90,65 @@ none_sent text sent (Some ts) e h =
     subst (λ (z : Option (Option (List ℕ))). SentAfter [] text z (Some ts)) (sym e)
     (subst (λ (z : List Try). SentAfter [] text (Some (Some [])) (Some z)) (sym h) refl)
 
-pub sent_all : (opens : SinkOpens) (m n : SinkTells) → IsNewSink opens m → KeepsSent m n → SentAll opens n
-sent_all opens m n new keeps =
+-- the laws of `truncate_backend` on new sinks that are called
+pub record NewLaws : Type 0 where
+  pub first : (text : List Line → List ℕ) (a b : Option (List Try)) → IfSome a (λ ts. ts ≡ []) → JoinedEach (IsNoted text) a b
+      → IfSome b (All (IsNoted text))
+  pub texts : (text : List Line → List ℕ) (ts : List Try) → All (IsNoted text) ts → SentBy text ts (sent_bytes text ts)
+
+abbrev pub JoinsSent : Type 0
+JoinsSent = (a b c : SinkTells) → KeepsSent a b → KeepsSent b c → KeepsSent a c
+
+sent_texts : NewLaws → (text : List Line → List ℕ) (sent : Option (Option (List ℕ))) (tries : Option (List Try)) → SentAfter [] text sent tries
+    → IfSome tries (All (IsNoted text)) → SentTexts text sent tries
+sent_texts laws text None tries h n = absurd h
+sent_texts laws text (Some None) tries h n = tt
+sent_texts laws text (Some (Some bytes)) None h n = tt
+sent_texts laws text (Some (Some bytes)) (Some ts) h n = subst (SentBy text ts) (sym h) (laws.texts text ts n)
+
+pub sent_all : NewLaws → (opens : SinkOpens) (m n : SinkTells) → IsNewSink opens m → KeepsSent m n → SentAll opens n
+sent_all laws opens m n new keeps =
     let text : n.text ≡ opens.text = keeps.text_is ∙ new.text_is in
+    let bytes : opens.sent ≡ Some (Some []) → SentAfter [] opens.text n.sent n.tries =
+    λ e.
+    subst (λ (z : List Line → List ℕ). SentAfter [] z n.sent n.tries) text
+    (keeps.follows [] (none_sent m.text m.sent m.tries (new.sent_is ∙ e) new.no_try)) in
+    let noted : IfSome n.tries (All (IsNoted opens.text)) =
+    subst (λ (z : List Line → List ℕ). IfSome n.tries (All (IsNoted z))) new.text_is
+    (laws.first m.text m.tries n.tries new.no_try keeps.noted) in
     record {
       text_is = text;
-      bytes = λ e.
-          subst (λ (z : List Line → List ℕ). SentAfter [] z n.sent n.tries) text
-          (keeps.follows [] (none_sent m.text m.sent m.tries (new.sent_is ∙ e) new.no_try));
+      bytes = bytes;
+      noted = noted;
+      written = λ e. sent_texts laws opens.text n.sent n.tries (bytes e) noted;
     }
 
-module _ {S R K : Type 0} (s : sinks.Ghosts S) (clock : clocks.Ghosts K) (opens : SinkOpens) (stay : StaysTogether S R K s clock) where
+-- ---- where each try is Done
+
+given_is : (opens : SinkOpens) (sink : SinkTells) (tries : List Try) (bytes : List ℕ) → SentAll opens sink → opens.sent ≡ Some (Some [])
+    → sink.tries ≡ Some tries → sink.sent ≡ Some (Some bytes) → (bytes ≡ sent_bytes opens.text tries) × All (IsNoted opens.text) tries
+given_is opens sink tries bytes all e t s =
+    let after : SentAfter [] opens.text sink.sent (Some tries) =
+    subst (λ (z : Option (List Try)). SentAfter [] opens.text sink.sent z) t (all.bytes e) in (
+      subst (λ (z : Option (Option (List ℕ))). SentAfter [] opens.text z (Some tries)) s after,
+      subst (λ (z : Option (List Try)). IfSome z (All (IsNoted opens.text))) t all.noted,
+    )
+
+pub done_texts : ((text : List Line → List ℕ) (ts : List Try) → All (IsNoted text) ts → All IsDone ts → sent_bytes text ts ≡ texts_of text ts)
+    → (opens : SinkOpens) (sink : SinkTells) (tries : List Try) (bytes : List ℕ) → SentAll opens sink → opens.sent ≡ Some (Some [])
+    → sink.tries ≡ Some tries → sink.sent ≡ Some (Some bytes) → All IsDone tries → bytes ≡ texts_of opens.text tries
+done_texts done opens sink tries bytes all e t s d =
+    let given = given_is opens sink tries bytes all e t s in
+    given.0 ∙ done opens.text tries given.1 d
+
+pub done_log : ((ts : List Try) → All (IsNoted log_text) ts → All IsDone ts → sent_bytes log_text ts ≡ log_text (lines_of ts))
+    → (opens : Openings) (sink : SinkTells) (tries : List Try) (bytes : List ℕ) → SentAll (log_opens opens) sink → opens.log ≡ Some (Some [])
+    → sink.tries ≡ Some tries → sink.sent ≡ Some (Some bytes) → All IsDone tries → bytes ≡ log_text (lines_of tries)
+done_log done opens sink tries bytes all e t s d =
+    let given = given_is (log_opens opens) sink tries bytes all e t s in
+    given.0 ∙ done tries given.1 d
+
+module _ {S R K : Type 0} (s : sinks.Ghosts S) (clock : clocks.Ghosts K) (opens : SinkOpens) (laws : NewLaws) (join : JoinsSent) (stay : StaysTogether S R K s clock) where
   -- where there is no drainer, nothing is left of one
   none_ran : (drain ran : Option (QueueDrain S R K)) → drain ≡ None → IfBoth (RanDrain s clock) drain ran → ran ≡ None
   none_ran None None e b = refl
@@ -154,8 +204,8 @@ module _ {S R K : Type 0} (s : sinks.Ghosts S) (clock : clocks.Ghosts K) (opens 
     lost_is = x.lost_is;
     cause = x.cause;
     fulls_are = x.fulls_are ∙ ap (λ n. min n (2 ^ 64 - 1)) (sym (fulls_in s after q));
-    sent = sent_all opens sink (s.tells left.sink) new
-        (record { text_is = sent.text_is ∙ t.sent.text_is; follows = λ before h. sent.follows before (t.sent.follows before h) });
+    noted = subst (λ (z : List Line → List ℕ). All (IsNoted z) x.tries) (sent.text_is ∙ (t.sent.text_is ∙ new.text_is)) x.noted;
+    sent = sent_all laws opens sink (s.tells left.sink) new (join sink (drain_state s r).sink (s.tells left.sink) t.sent sent);
     full = λ soon.
         subst (λ (z : Limits). FullButLast z x.tries) t.limits_are
         (x.full (subst (λ (z : Limits). left.ended - left.began < z.wait) (sym t.limits_are) soon));
@@ -174,18 +224,18 @@ module _ {S R K : Type 0} (s : sinks.Ghosts S) (clock : clocks.Ghosts K) (opens 
       (queued_after a.queued.queue after (subst (λ z. AllPairs SameAny z after) a.queued.lanes_are p))
       (subst (λ z. IfBoth (RanDrain s clock) z ran) a.queued.drain_is b) a.new t x
 
-module _ {S R K : Type 0} (s : sinks.Ghosts S) (clock : clocks.Ghosts K) (stay : StaysTogether S R K s clock) where
+module _ {S R K : Type 0} (s : sinks.Ghosts S) (clock : clocks.Ghosts K) (laws : NewLaws) (join : JoinsSent) (stay : StaysTogether S R K s clock) where
   pub can_all_end : CanAllEnd S R K s clock
-  can_all_end opens Off bays capacity allots limits before after drain ran a p b = none_ends s clock opens stay (queued_parts after) ran (none_ran s clock opens stay drain ran a.no_drain b)
+  can_all_end opens Off bays capacity allots limits before after drain ran a p b = none_ends s clock opens laws join stay (queued_parts after) ran (none_ran s clock opens laws join stay drain ran a.no_drain b)
   can_all_end opens Batch bays capacity allots limits before after drain ran a p b =
       (stay capacity allots limits a.sink before after drain ran a.queued p b).can_end
-  can_all_end opens Blocking bays capacity allots limits before after drain ran a p b = none_ends s clock opens stay (queued_parts after) ran (none_ran s clock opens stay drain ran a.no_drain b)
-  can_all_end opens Strict bays capacity allots limits before after drain ran a p b = none_ends s clock opens stay (queued_parts after) ran (none_ran s clock opens stay drain ran a.no_drain b)
+  can_all_end opens Blocking bays capacity allots limits before after drain ran a p b = none_ends s clock opens laws join stay (queued_parts after) ran (none_ran s clock opens laws join stay drain ran a.no_drain b)
+  can_all_end opens Strict bays capacity allots limits before after drain ran a p b = none_ends s clock opens laws join stay (queued_parts after) ran (none_ran s clock opens laws join stay drain ran a.no_drain b)
 
   pub are_all_served : AreAllServed S R K s clock
   are_all_served opens Off bays capacity allots limits before after drain ran end a p b o x =
-      none_left s clock opens stay (queued_parts after) ran end.drain (none_ran s clock opens stay drain ran a.no_drain b) x
+      none_left s clock opens laws join stay (queued_parts after) ran end.drain (none_ran s clock opens laws join stay drain ran a.no_drain b) x
   are_all_served opens Batch bays capacity allots limits before after drain ran end a p b o x =
-      batch_served s clock opens stay bays capacity allots limits before after drain ran end a p b x
-  are_all_served opens Blocking bays capacity allots limits before after drain ran end a p b o x = own_served s clock opens stay bays before after drain ran end a p b o x
-  are_all_served opens Strict bays capacity allots limits before after drain ran end a p b o x = own_served s clock opens stay bays before after drain ran end a p b o x
+      batch_served s clock opens laws join stay bays capacity allots limits before after drain ran end a p b x
+  are_all_served opens Blocking bays capacity allots limits before after drain ran end a p b o x = own_served s clock opens laws join stay bays before after drain ran end a p b o x
+  are_all_served opens Strict bays capacity allots limits before after drain ran end a p b o x = own_served s clock opens laws join stay bays before after drain ran end a p b o x

@@ -4,6 +4,6 @@ use Rattle.plant_lanes.specs.declared.options.RunOptions.{RunOptions}
 
 pub record AreFit (options : RunOptions) : Type 0 where
   pub some : 0 < options.bays
-  pub few : options.bays ≤ 64
+  pub few : options.bays ≤ 1024
   pub buffer : 0 < options.buffer
   pub lines : 0 < options.limits.lines

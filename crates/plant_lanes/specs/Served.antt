@@ -19,10 +19,11 @@ use Rattle.sink_lanes.specs.Ends.{CanEnd, Ends, own_parts, queued_parts}
 use Rattle.sink_lanes.specs.Lanes.{own_lane}
 use Rattle.sink_lanes.specs.Together.{SameAny, ToldQueued}
 use Rattle.sink_lanes.specs.declared.ending.SinkEnd.{SinkEnd}
-use Rattle.truncate_backend.specs.Tries.{Try, lines_of, done_of}
+use Rattle.truncate_backend.specs.Tries.{Try, IsNoted, lines_of, done_of}
 use Rattle.truncate_backend.specs.declared.sink.BatchSink as sinks
 
--- Of a sink in batch mode: these tries were made by its one drainer, and are those of the sink where it tells them. Their lines,
+-- Of a sink in batch mode: these tries were made by its one drainer, and are those of the sink where it tells them. Each is noted with all
+-- of its text, unless its port failed. Their lines,
 -- joined, have each bay's accepted lines in order, each once, and no line of anybody else. Each lane is one of a queue with these
 -- allotments, and was Full only where its own is spent, or where the queue can be full. A line stayed unwritten only where the sink
 -- counted a fault or a refusal; and the drainer counts the lines that were written and those that were not, and how often lanes were Full
@@ -37,6 +38,7 @@ pub record IsDrained {S R K : Type 0} (s : sinks.Ghosts S) (k : clocks.Ghosts K)
   pub accepted : (bay : ℕ) → IfSome (slice_get lanes bay) (ToldQueued s capacity allots bay (of_bay bay (lines_of tries)))
   pub others : (bay : ℕ) → bays ≤ bay → of_bay bay (lines_of tries) ≡ []
   pub within : All (λ (t : Try). WithinLimits limits t.lines) tries
+  pub noted : All (IsNoted opens.text) tries
   pub unwritten : ℕ
   pub each : length (done_of tries) + unwritten ≡ length (lines_of tries)
   pub written_is : drain.written ≡ min (length (done_of tries)) (2 ^ 64 - 1)

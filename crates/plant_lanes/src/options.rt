@@ -6,7 +6,7 @@ use front_base::{Address, Text};
 pub struct RunOptions {
     /// Where to listen.
     pub listen: Address,
-    /// How many bays serve, 1 to 64.
+    /// How many bays serve, 1 to 1024.
     pub bays: u16,
     /// How many connections the door of each bay gives, 0 for no end.
     pub connections: u64,

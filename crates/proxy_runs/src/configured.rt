@@ -24,7 +24,7 @@ pub fn can_run(words: &ServeWords) -> bool
     ensures max { result ≡ true → words.now.max_event ≤ MOST_LINE_BYTES }
 {
     words.bays > 0
-        && words.bays <= 64
+        && words.bays <= 1024
         && words.batch.buffer > 0
         && words.batch.max_lines > 0
         && words.max_event <= MOST_LINE_BYTES

@@ -103,7 +103,7 @@ pub fn make_bays<P: Plant, R: Routes + Drop>(
     hooks: Vec<AnyLane<P::H, P::Rt>>,
 ) -> Result<Vec<BayRole<R, P::L, P::W, P::H, P::Rt, P::K, P::Y, P::D>>, PlantFail>
     requires max { (arc_value shared.now.settings).max_event ≤ MOST_LINE_BYTES }
-    requires few { length routes.items ≤ 64 }
+    requires few { length routes.items ≤ 1024 }
     requires counts { (length logs.items ≡ length routes.items) × (length hooks.items ≡ length routes.items) }
     requires logs { (bay : ℕ) → IfSome (slice_get logs.items bay) (TakesLines bay (arc_value shared.now.settings).log) }
     requires hooks { (bay : ℕ) → IfSome (slice_get hooks.items bay) (TakesLines bay (arc_value shared.now.settings).hook) }

@@ -30,7 +30,7 @@ pub struct ServeWords {
     pub max_event: u64,
     /// Where connections are accepted.
     pub listen: Address,
-    /// How many connections are served at once, from 1 to 64.
+    /// How many connections are served at once, from 1 to 1024.
     pub bays: u16,
     /// After how many connections each bay ends, 0 for no end.
     pub connections: u64,

@@ -15,7 +15,7 @@ use std::marker::Brand;
 use std::sync::{Arc, Wait};
 
 /// The most lanes that a queue may have.
-pub const MOST_LANES: usize = 64;
+pub const MOST_LANES: usize = 1024;
 
 /// The most lines that a lane may be allotted: three for each request number that a bay may give.
 pub const MOST_ALLOTTED: u64 = 844_424_930_131_968;
