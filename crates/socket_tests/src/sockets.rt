@@ -208,13 +208,19 @@ fn a_stream_may_be_silent_while_its_client_is_there(rt: HostRuntime) -> Result<(
     Ok(())
 }
 
+// The same, but for a long time after the end.
+const PATIENT: TcpLimits = TcpLimits {
+    shutdown_timeout: 60_000,
+    ..SHORT
+};
+
 fn kind_of(fault: &DialFault) -> Option<ErrorKind> {
     fault.last_error().map(|error| error.kind())
 }
 
 #[test]
 fn a_link_without_a_client_outlives_a_close_and_moves(rt: HostRuntime) -> Result<(), Fail> {
-    let listener = listen(&rt, SHORT)?;
+    let listener = listen(&rt, PATIENT)?;
     let backend = TcpListener::bind(&rt, "127.0.0.1:0")?;
     let nobody = ServedClient::new();
     let fault = DialFault::new();
@@ -234,6 +240,32 @@ fn a_link_without_a_client_outlives_a_close_and_moves(rt: HostRuntime) -> Result
     drop(backend);
     assert!(rt; dial.dial(to).is_err());
     assert_eq!(rt; kind_of(&fault), Some(ErrorKind::ConnectionRefused));
+    Ok(())
+}
+
+fn dials(dial: &mut TcpDial<'_, HostRuntime>, to: Address) -> bool {
+    match dial.dial(to) {
+        Ok(link) => {
+            dial.done(link);
+            true
+        }
+        Err(_) => false,
+    }
+}
+
+#[test]
+fn nobody_dials_long_after_a_close(rt: HostRuntime) -> Result<(), Fail> {
+    let listener = listen(&rt, SHORT)?;
+    let backend = TcpListener::bind(&rt, "127.0.0.1:0")?;
+    let to = address_of(backend.local_addr()?);
+    let nobody = ServedClient::new();
+    let fault = DialFault::new();
+    let mut dial = TcpDial::new(&rt, &listener, &nobody, &fault);
+    listener.close();
+    assert!(rt; dials(&mut dial, to));
+    thread::sleep(&rt, Duration::from_millis(400));
+    assert!(rt; !dials(&mut dial, to));
+    assert_eq!(rt; kind_of(&fault), Some(ErrorKind::TimedOut));
     Ok(())
 }
 

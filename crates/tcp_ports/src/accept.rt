@@ -24,7 +24,7 @@ pub(crate) fn next_conn<'b, R: rt::Clock>(
 ) -> io::Result<Option<TcpConn<'b, R>>> {
     listener.wait_until_open(rt);
     for _ in 0..MOST_TURNS {
-        if listener.is_closed() {
+        if listener.is_seen_closed(rt) {
             return Ok(None);
         }
         match listener.accept() {
@@ -33,7 +33,7 @@ pub(crate) fn next_conn<'b, R: rt::Clock>(
                     return Ok(Some(conn));
                 }
             }
-            Err(_) if listener.is_closed() => return Ok(None),
+            Err(_) if listener.is_seen_closed(rt) => return Ok(None),
             Err(error) if is_passing(&error) || error.kind() == ErrorKind::ConnectionAborted => {}
             Err(error) if is_broken(&error) => return Err(error),
             Err(_) => thread::sleep(rt, Duration::from_millis(REST)),

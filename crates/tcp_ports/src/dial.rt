@@ -7,9 +7,11 @@ use crate::dial_fault::DialFault;
 use crate::limits::TcpLimits;
 use crate::link::TcpLink;
 use crate::listener::{SharedListener, set_options, socket_addr_of};
+use crate::poll::NO_SOCKET;
 use crate::served_client::ServedClient;
 use front_base::Address;
 use front_ports::{Dial, PortFault};
+use std::io::ErrorKind;
 use std::net::{Net, TcpStream};
 use std::{io, rt};
 
@@ -40,7 +42,8 @@ fn open_stream<R: Net<Stream = TcpStream>>(
 
 impl<'b, R: Net<Stream = TcpStream> + rt::Clock> TcpDial<'b, R> {
     /// A dial for the client that the door of the same bay notes, or for none where no door has `client`. The listener
-    /// gives the limits, and ends links of clients once it is closed. Why a call fails is noted in `fault`.
+    /// gives the limits, and ends links of clients once it is closed. A dial without a client fails at once where the listener
+    /// was closed longer ago than its `shutdown_timeout`. Why a call fails is noted in `fault`.
     pub fn new(
         rt: &'b R,
         listener: &'b SharedListener,
@@ -59,6 +62,14 @@ impl<'b, R: Net<Stream = TcpStream> + rt::Clock> TcpDial<'b, R> {
             link_faults: 0,
         }
     }
+
+    fn open(&self, to: Address) -> io::Result<TcpStream> {
+        let has_client = self.client.socket() != NO_SOCKET;
+        if !has_client && self.listener.is_past_shutdown(self.rt) {
+            return Err(io::Error::from(ErrorKind::TimedOut));
+        }
+        open_stream(self.rt, self.listener.limits(), to)
+    }
 }
 
 impl<'b, R: Net<Stream = TcpStream> + rt::Clock> Dial for TcpDial<'b, R> {
@@ -71,7 +82,7 @@ impl<'b, R: Net<Stream = TcpStream> + rt::Clock> Dial for TcpDial<'b, R> {
     ghost link_faults = { dial_link_faults };
 
     fn dial(&mut self, to: Address) -> Result<TcpLink<'b, R>, PortFault> {
-        match open_stream(self.rt, self.listener.limits(), to) {
+        match self.open(to) {
             Ok(stream) => Ok(TcpLink::new(self.rt, self.listener, self.client, self.fault, stream)),
             Err(error) => {
                 self.fault.note(&error);

@@ -149,19 +149,30 @@ impl SharedListener {
         }
     }
 
-    /// Whether it was closed so long ago that requests in progress don't go on.
-    pub(crate) fn is_past_shutdown(&self, rt: &impl rt::Clock) -> bool {
-        if !self.is_closed() {
-            return false;
-        }
+    // For how many milliseconds it has been seen to be closed.
+    fn closed_for(&self, rt: &impl rt::Clock) -> u64 {
         let now = millis_now(rt).max(1);
         let swapped = self
             .closed_at
             .compare_exchange(0, now, Ordering::SeqCst, Ordering::SeqCst);
         match swapped {
-            Ok(_) => false,
-            Err(since) => now.saturating_sub(since) > self.limits.shutdown_timeout,
+            Ok(_) => 0,
+            Err(since) => now.saturating_sub(since),
         }
+    }
+
+    /// Whether it is closed. The time of those who go on begins where somebody sees it first.
+    pub(crate) fn is_seen_closed(&self, rt: &impl rt::Clock) -> bool {
+        let closed = self.is_closed();
+        if closed {
+            self.closed_for(rt);
+        }
+        closed
+    }
+
+    /// Whether it was closed so long ago that requests in progress don't go on, and nobody dials without one.
+    pub(crate) fn is_past_shutdown(&self, rt: &impl rt::Clock) -> bool {
+        self.is_closed() && self.closed_for(rt) > self.limits.shutdown_timeout
     }
 
     /// Waits for the next connection, for `wake_interval` at most.
