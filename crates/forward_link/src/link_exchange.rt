@@ -61,7 +61,7 @@ pub fn exchange<D: Dial>(
     ensures faults { D.faults dial.old ≤ D.faults dial.new }
     ensures link_faults { D.link_faults dial.old ≤ D.link_faults dial.new }
 {
-    let mut link = match dial.dial(to) {
+    let mut link = match dial.dial(to, streamed) {
         Ok(link) => link,
         Err(_) => return Ok(LinkAnswer::DialFailed),
     };

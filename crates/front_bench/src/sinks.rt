@@ -119,7 +119,7 @@ impl Dial for LoopDial {
 
     ghost link_faults = { λ dial. dial.link_faults };
 
-    fn dial(&mut self, _to: Address) -> Result<LoopLink, PortFault> {
+    fn dial(&mut self, _to: Address, _long_running: bool) -> Result<LoopLink, PortFault> {
         let alloc = *self.buffer.allocator();
         Ok(LoopLink {
             buffer: mem::replace(&mut self.buffer, Vec::new(alloc)),

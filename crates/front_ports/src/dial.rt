@@ -30,8 +30,9 @@ pub trait Dial {
     /// How many links were handed back on which a read or a write had failed. It never falls.
     ghost link_faults: { Self → ℕ };
 
-    /// Opens one link to that address. After a failed dial the calls may be told no longer.
-    fn dial(&mut self, to: Address) -> Result<Self::K, PortFault>
+    /// Opens one link to that address, for a request that is long-running or not: only the body of a reply to one that is may
+    /// be silent for long. After a failed dial the calls may be told no longer.
+    fn dial(&mut self, to: Address, long_running: bool) -> Result<Self::K, PortFault>
         ensures cause { HasCause (faults self.old) (faults self.new) result }
         ensures fresh { IfOk result (λ link. (Self.K.read_faults link ≡ 0) × (Self.K.write_faults link ≡ 0)) }
         ensures noted { IfOk result (λ link.

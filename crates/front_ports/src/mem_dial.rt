@@ -126,7 +126,7 @@ impl Dial for MemDial {
 
     ghost link_faults = { dial_link_faults };
 
-    fn dial(&mut self, to: Address) -> Result<MemLink, PortFault>
+    fn dial(&mut self, to: Address, _long_running: bool) -> Result<MemLink, PortFault>
         ensures cause { HasCause (dial_faults self.old) (dial_faults self.new) result }
         ensures fresh { IfOk result (λ link. (duplex_read_faults link ≡ 0) × (duplex_write_faults link ≡ 0)) }
         ensures noted { IfOk result (λ link.

@@ -136,7 +136,7 @@ fn a_door_gives_its_connections_and_notes_them(rt: HostRuntime) -> Result<(), Fa
 
 // Opens a link, sends a text, reads the first bytes of the answer and hands the link back.
 fn ask<D: Dial>(dial: &mut D, to: Address, text: &[u8]) -> Result<[u8; 3], PortFault> {
-    let mut link = dial.dial(to)?;
+    let mut link = dial.dial(to, false)?;
     let mut answer = [0; 3];
     let sent = write_all(&mut link, text);
     let got = link.read(&mut answer);
@@ -185,8 +185,8 @@ fn each_dial_has_its_link_also_after_one_that_failed(rt: HostRuntime) -> Result<
 fn links_are_handed_back_in_any_order(rt: HostRuntime) -> Result<(), Fail> {
     let alloc = rt.alloc();
     let mut dial = MemDial::new(alloc, three_links(alloc)?, Vec::new(alloc))?;
-    let mut first = dial.dial(BACKEND).map_err(|_| "a dial")?;
-    let mut second = dial.dial(BACKEND).map_err(|_| "a dial")?;
+    let mut first = dial.dial(BACKEND, false).map_err(|_| "a dial")?;
+    let mut second = dial.dial(BACKEND, false).map_err(|_| "a dial")?;
     assert_eq!(rt; first.write(b"a"), Ok(1));
     assert_eq!(rt; second.write(b"b"), Ok(1));
     dial.done(second);

@@ -156,9 +156,10 @@ const HEAD: &str = "HTTP/1.1 200 OK\r\n\r\n";
 fn link_of<'b>(
     dial: &mut TcpDial<'b, HostRuntime>,
     backend: &TcpListener,
+    long_running: bool,
     reply: &str,
 ) -> Result<(TcpLink<'b, HostRuntime>, TcpStream), Fail> {
-    let mut link = dial.dial(address_of(backend.local_addr()?))?;
+    let mut link = dial.dial(address_of(backend.local_addr()?), long_running)?;
     let (mut peer, _) = backend.accept()?;
     peer.write_all(reply.as_bytes())?;
     if !reply.is_empty() {
@@ -181,7 +182,7 @@ fn stream_end(
     let mut dial = TcpDial::new(rt, listener, &served, &fault);
     let client = connect(rt, listener.address())?;
     let conn = next_of(&mut door)?;
-    let (mut link, mut peer) = link_of(&mut dial, backend, HEAD)?;
+    let (mut link, mut peer) = link_of(&mut dial, backend, true, HEAD)?;
     thread::sleep(rt, Duration::from_millis(600));
     peer.write_all(b"event")?;
     link.read(&mut [0u8; 64])?;
@@ -208,6 +209,30 @@ fn a_stream_may_be_silent_while_its_client_is_there(rt: HostRuntime) -> Result<(
     Ok(())
 }
 
+#[test]
+fn another_reply_may_be_silent_for_the_stall_timeout(rt: HostRuntime) -> Result<(), Fail> {
+    let listener = listen(&rt, SHORT)?;
+    let backend = TcpListener::bind(&rt, "127.0.0.1:0")?;
+    let served = ServedClient::new();
+    let mut door = TcpDoor::new(&rt, &listener, &served, 0);
+    let fault = DialFault::new();
+    let mut dial = TcpDial::new(&rt, &listener, &served, &fault);
+    let _client = connect(&rt, listener.address())?;
+    let conn = next_of(&mut door)?;
+    let (mut link, mut peer) = link_of(&mut dial, &backend, false, HEAD)?;
+    for _ in 0..3 {
+        thread::sleep(&rt, Duration::from_millis(200));
+        peer.write_all(b"a")?;
+        assert_eq!(rt; link.read(&mut [0u8; 64]), Ok(1));
+    }
+    let (end, spent) = read_out(&rt, &mut link)?;
+    assert_eq!(rt; end, Err(PortFault));
+    assert!(rt; spent >= 290 && spent < 2_000, "{spent} ms");
+    dial.done(link);
+    door.done(conn);
+    Ok(())
+}
+
 // The same, but for a long time after the end.
 const PATIENT: TcpLimits = TcpLimits {
     shutdown_timeout: 60_000,
@@ -228,7 +253,7 @@ fn a_link_without_a_client_outlives_a_close_and_moves(rt: HostRuntime) -> Result
     assert_eq!(rt; kind_of(&fault), None);
     listener.close();
     for (reply, least) in [("HTTP/1.1 200", 240), (HEAD, 290)] {
-        let (mut link, _peer) = link_of(&mut dial, &backend, reply)?;
+        let (mut link, _peer) = link_of(&mut dial, &backend, false, reply)?;
         assert_eq!(rt; write_all(&mut link, b"post"), Ok(()));
         let (end, spent) = read_out(&rt, &mut link)?;
         assert_eq!(rt; end, Err(PortFault));
@@ -238,13 +263,13 @@ fn a_link_without_a_client_outlives_a_close_and_moves(rt: HostRuntime) -> Result
     assert_eq!(rt; kind_of(&fault), Some(ErrorKind::TimedOut));
     let to = address_of(backend.local_addr()?);
     drop(backend);
-    assert!(rt; dial.dial(to).is_err());
+    assert!(rt; dial.dial(to, false).is_err());
     assert_eq!(rt; kind_of(&fault), Some(ErrorKind::ConnectionRefused));
     Ok(())
 }
 
 fn dials(dial: &mut TcpDial<'_, HostRuntime>, to: Address) -> bool {
-    match dial.dial(to) {
+    match dial.dial(to, false) {
         Ok(link) => {
             dial.done(link);
             true
@@ -395,7 +420,7 @@ fn ports_move_to_threads(rt: HostRuntime) -> Result<(), Fail> {
     let fault = DialFault::new();
     let mut dial = TcpDial::new(&rt, &listener, &client, &fault);
     let _client = connect(&rt, listener.address())?;
-    let link = dial.dial(listener.address())?;
+    let link = dial.dial(listener.address(), false)?;
     let conn = next_of(&mut door)?;
     assert!(rt; is_send(&door) && is_send(&dial) && is_send(&conn) && is_send(&link));
     Ok(())

@@ -81,9 +81,16 @@ impl<'b, R: Net<Stream = TcpStream> + rt::Clock> Dial for TcpDial<'b, R> {
 
     ghost link_faults = { dial_link_faults };
 
-    fn dial(&mut self, to: Address) -> Result<TcpLink<'b, R>, PortFault> {
+    fn dial(&mut self, to: Address, long_running: bool) -> Result<TcpLink<'b, R>, PortFault> {
         match self.open(to) {
-            Ok(stream) => Ok(TcpLink::new(self.rt, self.listener, self.client, self.fault, stream)),
+            Ok(stream) => Ok(TcpLink::new(
+                self.rt,
+                self.listener,
+                self.client,
+                self.fault,
+                stream,
+                long_running,
+            )),
             Err(error) => {
                 self.fault.note(&error);
                 self.faults = self.faults.saturating_add(1);

@@ -11,7 +11,8 @@ pub struct TcpLimits {
     pub read_header_timeout: u64,
     /// How many bytes a second a peer has to move, 0 for no floor. Only time in which a call waits counts.
     pub min_rate: u64,
-    /// How far a peer may fall behind `min_rate`, which is how long it may move nothing.
+    /// How far a peer may fall behind `min_rate`, which is how long it may move nothing; and how long the body of a reply may be
+    /// silent where its request isn't long-running.
     pub stall_timeout: u64,
     /// How long a connection that is handed back is read for, and its bytes dropped.
     pub linger_timeout: u64,
@@ -21,8 +22,8 @@ pub struct TcpLimits {
     pub dial_timeout: u64,
     /// How long reads may wait for one head of a reply in all.
     pub response_header_timeout: u64,
-    /// How long requests in progress may go on once the listener was closed. A reply that is silent once its head has come
-    /// ends within `wake_interval`, since it could be a watch.
+    /// How long requests in progress may go on once the listener was closed. The reply to a long-running request that is silent
+    /// once its head has come ends within `wake_interval`.
     pub shutdown_timeout: u64,
     /// How long one wait lasts at most before the state of the listener and of the client is looked at again, at least 1.
     pub wake_interval: u64,

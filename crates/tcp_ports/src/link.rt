@@ -27,6 +27,7 @@ pub struct TcpLink<'b, R> {
     client: &'b ServedClient,
     fault: &'b DialFault,
     stream: TcpStream,
+    long_running: bool,
     reply: ReplyScan,
     sending: RateFloor,
     read_faults: u64,
@@ -48,13 +49,14 @@ fn is_abandoned(listener: &SharedListener, client: RawFd, link: RawFd, streams: 
     !bytes && (gone || streams && listener.is_closed())
 }
 
-// Reads bytes of a reply. Once its head has come, a reply for a client may be silent: it could be a watch. Nothing else may,
-// and what has no client goes on where the listener is closed.
+// Reads bytes of a reply. Once its head has come, the reply to a long-running request of a client may be silent. Any other reply
+// for a client may be so for the stall timeout, and what has no client goes on where the listener is closed.
 fn read_reply(
     rt: &impl rt::Clock,
     listener: &SharedListener,
     client: RawFd,
     stream: &mut TcpStream,
+    long_running: bool,
     reply: &mut ReplyScan,
     buf: &mut [u8],
 ) -> io::Result<usize>
@@ -63,7 +65,8 @@ fn read_reply(
     let limits = listener.limits();
     let has_client = client != NO_SOCKET;
     for _ in 0..MOST_TURNS {
-        let streams = has_client && reply.is_in_body();
+        let in_body = has_client && reply.is_in_body();
+        let streams = in_body && long_running;
         let start = millis_now(rt);
         let read = read_some(stream, buf)?;
         if read.is_none() && is_abandoned(listener, client, stream.as_raw_fd(), streams) {
@@ -71,7 +74,11 @@ fn read_reply(
         }
         let count = read.unwrap_or(0);
         let waited = millis_now(rt).saturating_sub(start);
-        let late = !streams && reply.is_late(&buf[..count], waited, limits);
+        let late = if in_body {
+            reply.is_stalled(count, waited, limits.stall_timeout) && !long_running
+        } else {
+            reply.is_late(&buf[..count], waited, limits)
+        };
         if late || has_client && listener.is_past_shutdown(rt) {
             break;
         }
@@ -89,6 +96,7 @@ impl<'b, R: rt::Clock> TcpLink<'b, R> {
         client: &'b ServedClient,
         fault: &'b DialFault,
         stream: TcpStream,
+        long_running: bool,
     ) -> TcpLink<'b, R>
         ensures reads { link_read_faults result ≡ 0 }
         ensures writes { link_write_faults result ≡ 0 }
@@ -99,6 +107,7 @@ impl<'b, R: rt::Clock> TcpLink<'b, R> {
             client,
             fault,
             stream,
+            long_running,
             reply: ReplyScan::new(),
             sending: RateFloor::new(),
             read_faults: 0,
@@ -134,6 +143,7 @@ impl<'b, R: rt::Clock> Source for TcpLink<'b, R> {
             self.listener,
             client,
             &mut self.stream,
+            self.long_running,
             &mut self.reply,
             buf,
         ) {

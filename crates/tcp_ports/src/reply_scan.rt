@@ -7,6 +7,8 @@ use crate::pace::Pace;
 pub(crate) struct ReplyScan {
     place: Place,
     pace: Pace,
+    // For how many milliseconds no byte of the body has come.
+    silent: u64,
 }
 
 impl ReplyScan {
@@ -14,6 +16,7 @@ impl ReplyScan {
         ReplyScan {
             place: Place::Start,
             pace: Pace::new(),
+            silent: 0,
         }
     }
 
@@ -31,6 +34,16 @@ impl ReplyScan {
             place = place_after(place, *byte);
         }
         self.place = place;
+    }
+
+    /// A read waited so many milliseconds for so many bytes of the body. Whether none has come for so long.
+    pub(crate) fn is_stalled(&mut self, count: usize, waited: u64, most: u64) -> bool {
+        self.silent = if count > 0 {
+            0
+        } else {
+            self.silent.saturating_add(waited)
+        };
+        self.silent >= most
     }
 
     /// A read waited so many milliseconds for these bytes. Whether the backend is too slow with the head, or with the body.

@@ -56,7 +56,7 @@ pub fn exchange<D: Dial>(
     ensures exchanged { spec.Exchanged (D.calls dial.old) (D.calls dial.new) to (post_from before.now lines.now)
         (Rose (D.faults dial.old) (D.faults dial.new)) (Rose (D.link_faults dial.old) (D.link_faults dial.new)) result }
 {
-    let mut link = match dial.dial(to) {
+    let mut link = match dial.dial(to, false) {
         Ok(link) => link,
         Err(_) => {
             return Outcome {

@@ -90,8 +90,13 @@ impl<W: Write + Drop> Dial for TellingDial<W> {
 
     ghost link_faults = { λ _. 0 };
 
-    fn dial(&mut self, _to: Address) -> Result<TellingLink<W>, PortFault> {
-        let _ = self.out.write_all(b"a backend is dialed\n");
+    fn dial(&mut self, _to: Address, long_running: bool) -> Result<TellingLink<W>, PortFault> {
+        let line: &[u8] = if long_running {
+            b"a backend is dialed for a long-running request\n"
+        } else {
+            b"a backend is dialed\n"
+        };
+        let _ = self.out.write_all(line);
         Ok(TellingLink {
             out: mem::replace(&mut self.of_link, None),
             given: 0,
