@@ -2,7 +2,7 @@
 use Rattle.std.specs.Prelude.{ℕ, ◌||◌, Bool, if◌then◌else◌, List, [], ◌∷◌, codes}
 use Rattle.std.specs.Str.{bytes_eq}
 use Rattle.command_options.specs.declared.asked.Asked.{Asked}
-use Rattle.command_options.specs.declared.asked.Asked.TheVariants.{Help, Version, Explain, Serve, Rehearse, Unknown}
+use Rattle.command_options.specs.declared.asked.Asked.TheVariants.{Help, Version, Explain, Check, Serve, Rehearse, Unknown}
 use Rattle.command_options.specs.declared.asked.Topic.TheVariants as topic
 
 -- the option that asks for help
@@ -13,18 +13,21 @@ is_help_option word = bytes_eq word (codes "--help") || bytes_eq word (codes "-h
 abbrev pub command_of : List ℕ → Asked
 command_of word =
     if bytes_eq word (codes "explain") then Explain
+    else if bytes_eq word (codes "check") then Check
     else if bytes_eq word (codes "serve") then Serve
     else if bytes_eq word (codes "rehearse") then Rehearse
     else Unknown
 
 -- a command has that name
 abbrev pub is_command : List ℕ → Bool
-is_command word = bytes_eq word (codes "explain") || (bytes_eq word (codes "serve") || bytes_eq word (codes "rehearse"))
+is_command word = bytes_eq word (codes "explain")
+    || (bytes_eq word (codes "check") || (bytes_eq word (codes "serve") || bytes_eq word (codes "rehearse")))
 
 -- help on the command of that name
 abbrev pub help_on : List ℕ → Asked
 help_on word =
     if bytes_eq word (codes "explain") then Help topic.Explain
+    else if bytes_eq word (codes "check") then Help topic.Check
     else if bytes_eq word (codes "serve") then Help topic.Serve
     else if bytes_eq word (codes "rehearse") then Help topic.Rehearse
     else Unknown

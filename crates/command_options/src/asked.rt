@@ -8,6 +8,7 @@ pub enum Topic {
     /// The commands, and the exit statuses.
     Program,
     Explain,
+    Check,
     Serve,
     Rehearse,
 }
@@ -18,6 +19,7 @@ pub enum Asked {
     Help(Topic),
     Version,
     Explain,
+    Check,
     Serve,
     Rehearse,
     /// There is no command, or none of that name.
@@ -35,6 +37,8 @@ fn command_of(word: &str) -> Asked
 {
     if word == "explain" {
         Asked::Explain
+    } else if word == "check" {
+        Asked::Check
     } else if word == "serve" {
         Asked::Serve
     } else if word == "rehearse" {
@@ -48,7 +52,7 @@ fn command_of(word: &str) -> Asked
 pub fn is_command(word: &str) -> bool
     ensures { result ≡ spec.is_command word.now }
 {
-    word == "explain" || word == "serve" || word == "rehearse"
+    word == "explain" || word == "check" || word == "serve" || word == "rehearse"
 }
 
 fn help_on(word: &str) -> Asked
@@ -56,6 +60,8 @@ fn help_on(word: &str) -> Asked
 {
     if word == "explain" {
         Asked::Help(Topic::Explain)
+    } else if word == "check" {
+        Asked::Help(Topic::Check)
     } else if word == "serve" {
         Asked::Help(Topic::Serve)
     } else if word == "rehearse" {

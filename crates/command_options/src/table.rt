@@ -17,6 +17,8 @@ const EXPLAIN: [&str; 7] = [
     ROUTES,
 ];
 
+const CHECK: [&str; 1] = [POLICY];
+
 const SERVE: [&str; 24] = [
     TOKENS,
     POLICY,
@@ -48,6 +50,7 @@ const SERVE: [&str; 24] = [
 pub fn options_for(command: &str) -> &'static [&'static str] {
     match command {
         "explain" => &EXPLAIN,
+        "check" => &CHECK,
         "serve" => &SERVE,
         _ => &[],
     }

@@ -16,6 +16,7 @@ APIs, and writes audit events.
 
 Commands:
   explain   prints the audit events that requests cause
+  check     says whether a log of audit events conforms to a policy
   serve     serves a cluster API, and writes its audit events
   rehearse  serves requests in memory by threads, and sums them up
 
@@ -34,6 +35,7 @@ Exit status:
   7  the output could not be written
   8  there are more than 2^48 requests
   9  a request is malformed, too large or cut short
+  10 a line of a log does not conform to its policy
 
 With a status other than 0 one line on standard error names the status, and a
 second one says what was refused, and why.
@@ -80,6 +82,34 @@ lines, which are folded here:
 
   apiaggd explain --token-auth-file=examples/tokens.csv \
       --audit-policy-file=examples/audit-policy.json < examples/requests.http
+"#;
+
+const CHECK_HELP: &str = r#"Usage: apiaggd check [OPTION].. < LOG
+
+Says whether a log of audit events conforms to an audit policy: whether each
+line is one that a server with that policy may have written, and none that it
+wrote was changed, moved or recorded at another level. Reads the lines from
+standard input, as 'serve' and 'explain' write them. Of a log that was rotated
+all files are read in their order, as by cat.
+
+Where all lines conform it prints 'events N'. Else it prints 'line N REASON'
+for the first one that doesn't, and ends with status 10. The REASON is
+  form     it is not the text of an event, byte for byte, or it was cut
+  place    its object reference, status or bodies are not those of its request
+  level    the policy records such a request at another level, or omits that
+           stage of it
+  stage    the same request had that stage before, or a later one
+
+Options are written --NAME=VALUE or --NAME VALUE.
+
+  --audit-policy-file=FILE   audit policy, as JSON, of at most 16777216 bytes
+                             (default: every request at level Metadata)
+
+  -h, --help                 prints this help
+
+Example:
+  apiaggd explain < examples/list-pods.http | apiaggd check
+    events 2
 "#;
 
 pub const VERSION: &str = "apiaggd 0.1.0\n";
@@ -179,6 +209,7 @@ pub fn help_on(topic: Topic) -> &'static str {
     match topic {
         Topic::Program => HELP,
         Topic::Explain => EXPLAIN_HELP,
+        Topic::Check => CHECK_HELP,
         Topic::Serve => SERVE_HELP,
         Topic::Rehearse => REHEARSE_HELP,
     }

@@ -23,7 +23,7 @@ use Rattle.proxy_server.specs.Why.{TellsServing, TellsWords, status_of_load, sta
 use Rattle.refusal_text.specs.declared.refusal.Refusal.{Refusal}
 use Rattle.proxy_server.specs.declared.setup.Setup.{Setup}
 use Rattle.proxy_server.specs.declared.status.Status.{Status}
-use Rattle.proxy_server.specs.declared.status.Status.TheVariants.{Done, Usage, Configuration, ReadFault, PortFault, NoMemory, WriteFault, NumbersSpent, Input}
+use Rattle.proxy_server.specs.declared.status.Status.TheVariants.{Done, Usage, Configuration, ReadFault, PortFault, NoMemory, WriteFault, NumbersSpent, Input, Log}
 
 usage_due : (r : Result Command WordsFault) → words.Gives {A = ExplainWords} Explain (Err words_fault.Usage) r → r ≡ Err words_fault.Usage
 usage_due (Ok a) e = absurd (cc e)
@@ -109,6 +109,7 @@ module _ (line : List (List ℕ)) (files : FilesPort) (input output : Port) (why
   misused_by WriteFault e h = absurd h
   misused_by NumbersSpent e h = absurd h
   misused_by Input e h = absurd h
+  misused_by Log e h = absurd h
 
   pub misused_is : (status : Status) → command_of line ≡ Err words_fault.Usage → Run line files input output status why large
       → (status ≡ Usage) ⊎ (status ≡ NoMemory)

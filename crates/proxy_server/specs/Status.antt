@@ -1,7 +1,7 @@
 -- The statuses that the program ends with.
 use Rattle.std.specs.Prelude.{ℕ}
 use Rattle.proxy_server.specs.declared.status.Status.{Status}
-use Rattle.proxy_server.specs.declared.status.Status.TheVariants.{Done, Usage, Configuration, ReadFault, PortFault, NoMemory, WriteFault, NumbersSpent, Input}
+use Rattle.proxy_server.specs.declared.status.Status.TheVariants.{Done, Usage, Configuration, ReadFault, PortFault, NoMemory, WriteFault, NumbersSpent, Input, Log}
 
 abbrev pub code_of : Status → ℕ
 code_of Done = 0
@@ -13,3 +13,4 @@ code_of NoMemory = 6
 code_of WriteFault = 7
 code_of NumbersSpent = 8
 code_of Input = 9
+code_of Log = 10

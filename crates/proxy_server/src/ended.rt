@@ -180,6 +180,7 @@ fn why_of_serving(status: Status, progress: &Progress) -> Option<Refusal>
         Status::PortFault => None,
         Status::NoMemory => None,
         Status::NumbersSpent => None,
+        Status::Log => None,
     }
 }
 

@@ -22,6 +22,8 @@ pub enum Status {
     NumbersSpent,
     /// The input holds something that is refused.
     Input,
+    /// A line of a log doesn't conform to its policy.
+    Log,
 }
 
 impl Status {
@@ -39,6 +41,7 @@ impl Status {
             Status::WriteFault => 7,
             Status::NumbersSpent => 8,
             Status::Input => 9,
+            Status::Log => 10,
         }
     }
 
@@ -54,6 +57,7 @@ impl Status {
             Status::WriteFault => Some("write fault"),
             Status::NumbersSpent => Some("numbers spent"),
             Status::Input => Some("input"),
+            Status::Log => Some("log"),
         }
     }
 }

@@ -9,6 +9,7 @@ const PROGRAM_HELP: &str = "Try 'apiaggd --help'.";
 fn help_on(command: &str) -> &'static str {
     match command {
         "explain" => "Try 'apiaggd explain --help'.",
+        "check" => "Try 'apiaggd check --help'.",
         "serve" => "Try 'apiaggd serve --help'.",
         "rehearse" => "Try 'apiaggd rehearse --help'.",
         _ => PROGRAM_HELP,
