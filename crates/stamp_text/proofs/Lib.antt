@@ -1,0 +1,4 @@
+pub mod DayLemmas
+pub mod IdLemmas
+pub mod MomentLemmas
+pub mod Padding
