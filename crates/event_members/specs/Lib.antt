@@ -1,0 +1,4 @@
+pub mod Ranges
+pub mod ReadBack
+pub mod TextMembers
+pub mod Values
