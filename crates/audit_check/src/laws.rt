@@ -1,0 +1,41 @@
+ghost use Rattle.std.specs.Prelude.{ℕ, List, []};
+ghost use Rattle.std.specs.List.{AllByRecursion};
+ghost use Rattle.audit_core.specs.Exchange.{IsAnswered};
+ghost use Rattle.audit_core.specs.Owed.{owed, fitted_lines};
+ghost use Rattle.audit_core.specs.declared.answered.Answered.{Answered};
+ghost use Rattle.audit_core.specs.declared.link_note.LinkNote.{LinkNote};
+ghost use Rattle.audit_core.specs.declared.routed.Handling.{Handling};
+ghost use Rattle.audit_core.specs.declared.settings.Settings.{Settings};
+ghost use Rattle.audit_core.specs.declared.stamp.Stamp.{Stamp};
+ghost use Rattle.policy_rules.specs.declared.policy.Policy.{Policy};
+ghost use Rattle.http_edge.specs.declared.request.Request.{Request};
+ghost use Rattle.audit_check.specs.Conforms.{AllConform};
+ghost use Rattle.audit_check.specs.Logs.{MayStand, StagesRise};
+ghost use Rattle.audit_check.specs.OwnLines.{AreInRange, AreOfOthers};
+
+use audit_reader::reads_back;
+use json_prune::kept_is_json;
+use request_info::the_method_gives_the_verb_alone;
+
+/// A log conforms exactly where each of its lines may stand in one, and each has a later stage than the lines of its request
+/// before it.
+pub fn whole_logs_conform()
+    ensures each { (policy : Policy) (lines : List (List ℕ)) → AllConform policy [] lines → AllByRecursion (MayStand policy) lines }
+    ensures order { (policy : Policy) (lines : List (List ℕ)) → AllConform policy [] lines → StagesRise lines }
+    ensures enough { (policy : Policy) (lines : List (List ℕ)) → AllByRecursion (MayStand policy) lines → StagesRise lines
+        → AllConform policy [] lines }
+{
+    reads_back();
+}
+
+/// The lines of each exchange, fitted to any length, conform to the policy that it was recorded by, after any lines of
+/// other requests.
+pub fn own_lines()
+    ensures { (set : Settings) (stamp : Stamp) (r : Request) (handling : Handling) (note : LinkNote) (body : List ℕ)
+        (x : Answered) (max : ℕ) (before : List (List ℕ)) → IsAnswered set stamp r handling note body x → AreInRange x.facts
+        → AreOfOthers before x.facts.id → AllConform set.policy before (fitted_lines max (owed x.decision x.facts)) }
+{
+    kept_is_json();
+    the_method_gives_the_verb_alone();
+    reads_back();
+}

@@ -1,0 +1,21 @@
+//! Whether an audit log conforms to a policy: each line is that of an event, agrees with the request that it tells of,
+//! is recorded as the policy decides, and comes in the order of stages.
+//!
+//! The main contract is that of `Checker::line`: its answer is Ok exactly where the definition `Conforms` holds of the
+//! line after those that were accepted, and otherwise the first of the reasons why not, in the order of `LineFault`. The
+//! law `whole_logs_conform` says what that comes to for a whole log, and `own_lines` that what this server writes conforms.
+//!
+//! Nothing is promised of what a log leaves out: a request without any line, or without its last one, is no fault.
+#![tactic(auto)]
+
+mod block;
+mod checker;
+mod decided;
+mod fault;
+mod laws;
+mod place;
+mod seen;
+
+pub use checker::Checker;
+pub use fault::LineFault;
+pub use laws::{own_lines, whole_logs_conform};
