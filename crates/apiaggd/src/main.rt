@@ -10,7 +10,7 @@ mod streams;
 
 use command_options::Asked;
 use ending::{Ending, finish};
-use explain_command::{VERSION, explained, finish_told, help_on, print_text, words_of};
+use explain_command::{VERSION, checked, explained, finish_told, help_on, print_text, words_of};
 use proxy_server::Status;
 use rehearse::rehearsed;
 use serve::{Ready, can_serve, ending_of, left_of, port_fault, prepare};
@@ -25,6 +25,7 @@ fn other(rt: &HostRuntime, asked: Asked, words: &Vec<String>) -> ExitCode {
     match asked {
         Asked::Help(topic) => print_text(rt, help_on(topic)),
         Asked::Version => print_text(rt, VERSION),
+        Asked::Check => checked(rt, words),
         _ => explained(rt, words),
     }
 }

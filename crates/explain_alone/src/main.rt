@@ -1,9 +1,9 @@
-//! `explain`, help and the version alone: what `apiaggd` runs of its sources before they are proved, since they compile in a
+//! `explain`, `check`, help and the version alone: what `apiaggd` runs of its sources before they are proved, since they compile in a
 //! third of the time.
 #![tactic(auto)]
 
 use command_options::Asked;
-use explain_command::{VERSION, explained, finish_told, help_on, print_text, words_of};
+use explain_command::{VERSION, checked, explained, finish_told, help_on, print_text, words_of};
 use std::process::ExitCode;
 
 fn main(rt: HostRuntime) -> ExitCode {
@@ -14,6 +14,7 @@ fn main(rt: HostRuntime) -> ExitCode {
     match Asked::of(words.as_slice()) {
         Asked::Help(topic) => print_text(&rt, help_on(topic)),
         Asked::Version => print_text(&rt, VERSION),
+        Asked::Check => checked(&rt, &words),
         Asked::Explain | Asked::Serve | Asked::Rehearse | Asked::Unknown => explained(&rt, &words),
     }
 }

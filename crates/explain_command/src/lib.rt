@@ -1,14 +1,16 @@
-//! The command `explain` over a process's files, input and output, and what every command shares: the words, the pages of help,
-//! and how an end is told.
+//! The commands `explain` and `check` over a process's files, input and output, and what every command shares: the words, the pages of
+//! help, and how an end is told.
 //!
-//! The top call is `proxy_server::run_desk`, which has the contract. Nothing is promised of standard error.
+//! The top calls are `proxy_server::run_desk` and `check_command::run_check`, which have the contracts. Nothing is promised of standard error.
 #![tactic(auto)]
 
+mod check;
 mod ending;
 mod explain;
 mod help;
 mod words;
 
+pub use check::checked;
 pub use ending::finish_told;
 pub use explain::explained;
 pub use help::{VERSION, help_on, print_text};

@@ -1,0 +1,4 @@
+pub mod Words
+pub mod Config
+pub mod Answer
+pub mod Run

@@ -1,0 +1,60 @@
+// What is written of a log.
+ghost use Rattle.std.specs.Prelude.{◌≡◌, ◌<◌, ◌^◌, ◌++◌, IfOk, codes, string_bytes};
+ghost use Rattle.std.specs.Fmt.{decimal};
+ghost use Rattle.check_command.specs.Answer as spec;
+
+use audit_check::LineFault;
+use log_check::{CheckEnd, Checked};
+use std::alloc::{AllocError, Global};
+
+// The word of a reason why a line doesn't conform.
+fn word_of(fault: LineFault) -> &'static str
+    ensures { result.now ≡ spec.word_of fault }
+{
+    match fault {
+        LineFault::Form => "form",
+        LineFault::Place => "place",
+        LineFault::Level { .. } => "level",
+        LineFault::Stage { .. } => "stage",
+        LineFault::NoMemory => "",
+    }
+}
+
+fn refused_text(alloc: Global, lines: u64, fault: LineFault) -> Result<String, AllocError>
+    ensures { IfOk result (λ text. string_bytes text ≡ spec.refused_text lines fault) }
+{
+    let line = lines.saturating_add(1);
+    let word = word_of(fault);
+    format!(in alloc; "line {line} {word}\n")
+}
+
+/// The line that tells how far a log conforms, with a line feed; nothing where that isn't known.
+pub fn answer_text(alloc: Global, checked: Checked) -> Result<String, AllocError>
+    ensures { IfOk result (λ text. string_bytes text ≡ spec.answer_text checked.lines checked.end) }
+{
+    let lines = checked.lines;
+    match checked.end {
+        CheckEnd::Done => format!(in alloc; "events {lines}\n"),
+        CheckEnd::Refused(fault) => refused_text(alloc, lines, fault),
+        CheckEnd::Cut => refused_text(alloc, lines, LineFault::Form),
+        CheckEnd::ReadFault | CheckEnd::NumbersSpent | CheckEnd::NoMemory => Ok(String::new(alloc)),
+    }
+}
+
+/// Why the line after those that conform doesn't, in words.
+pub fn reason_of(end: CheckEnd) -> Option<&'static str> {
+    match end {
+        CheckEnd::Refused(LineFault::Form) => Some("not an event as this server writes it"),
+        CheckEnd::Refused(LineFault::Place) => {
+            Some("its object reference, status or bodies are not those of its request")
+        }
+        CheckEnd::Refused(LineFault::Level { .. }) => {
+            Some("the policy has another level for it, or omits its stage")
+        }
+        CheckEnd::Refused(LineFault::Stage { .. }) => {
+            Some("its request had this stage before, or a later one")
+        }
+        CheckEnd::Cut => Some("cut: the log ends within it"),
+        _ => None,
+    }
+}

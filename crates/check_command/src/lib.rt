@@ -1,0 +1,17 @@
+//! The command `check`: whether a log of audit events conforms to the policy of a file.
+//!
+//! The main contract is that of `run_check`. Its answer is 0 exactly where the whole input is lines that conform, and 10 exactly where one
+//! doesn't, with the number and the reason of the first such line; it says what was written with each status.
+//!
+//! Nothing is promised of which word is told of words that are no command line, nor of what a real file or standard input holds.
+#![tactic(auto)]
+
+mod answer;
+mod config;
+mod run;
+mod words;
+
+pub use answer::reason_of;
+pub use config::configure_check;
+pub use run::{CheckEnded, run_check};
+pub use words::read_check;

@@ -1,0 +1,93 @@
+//! Runs of `apiaggd check` over the files of this folder's `data`: what each ends with, what it writes, and what standard error says of it,
+//! on standard output, where it is compared byte by byte. `data/runs.txt` has a command line and the file of its log a row.
+//!
+//! What is wanted was worked out by hand from the definition of a log that conforms, from Kubernetes' page on auditing.
+#![tactic(auto)]
+
+use case_rows::{is_row, read_cases};
+use check_command::{reason_of, run_check};
+use front_base::Bytes;
+use front_ports::{Files, MemBytes};
+use log_check::Checked;
+use proxy_server::{Ended, ReaderSource, SystemFiles};
+use std::alloc::{AllocError, Global};
+use std::process::ExitCode;
+
+/// More than any answer has.
+const MOST_WRITTEN: u64 = 100;
+
+fn words_of(alloc: Global, line: &str) -> Result<Vec<String>, AllocError> {
+    let mut words = Vec::new(alloc);
+    for word in line.split_whitespace() {
+        words.push(String::from_str(alloc, word)?)?;
+    }
+    Ok(words)
+}
+
+// The bytes of a file, a line that is no event's where it can't be read.
+fn log_of(rt: &HostRuntime, name: &str) -> Bytes {
+    let alloc = rt.alloc();
+    match SystemFiles::new(rt).read(alloc, name) {
+        Ok(bytes) => bytes,
+        Err(_) => Bytes::new(Vec::new(alloc)),
+    }
+}
+
+// What is said of the first line that doesn't conform.
+fn line_text(alloc: Global, checked: Option<Checked>) -> Result<String, AllocError> {
+    let Some(checked) = checked else {
+        return Ok(String::new(alloc));
+    };
+    match reason_of(checked.end) {
+        Some(why) => {
+            let line = checked.lines.saturating_add(1);
+            format!(in alloc; "apiaggd: line {line}: {why}\n")
+        }
+        None => Ok(String::new(alloc)),
+    }
+}
+
+// One run over a log: its status, what it wrote, and what is told.
+fn told(rt: &HostRuntime, words: &Vec<String>, log: &[u8]) -> Result<String, AllocError> {
+    let alloc = rt.alloc();
+    let mut files = SystemFiles::new(rt);
+    let mut source = ReaderSource::new(log);
+    let Ok(mut out) = MemBytes::new(alloc, MOST_WRITTEN, Vec::new(alloc)) else {
+        return Ok(String::new(alloc));
+    };
+    let done = run_check(alloc, words, &mut files, &mut source, &mut out);
+    let checked = done.checked;
+    let ended = Ended::of(done.status, done.why);
+    let reason = ended.reason(files.reason(), source.reason(), None);
+    let text = ended.told(alloc, words.as_slice(), reason)?;
+    let line = line_text(alloc, checked)?;
+    let written = str::from_utf8(out.bytes()).unwrap_or("?");
+    format!(in alloc; "{}\n{written}{text}{line}", ended.status.code())
+}
+
+fn show(rt: &HostRuntime, row: &str) -> bool {
+    let (line, name) = match row.split_once(" < ") {
+        Some(parts) => parts,
+        None => (row, ""),
+    };
+    let Ok(words) = words_of(rt.alloc(), line) else {
+        return false;
+    };
+    let log = log_of(rt, name);
+    match told(rt, &words, log.as_slice()) {
+        Ok(text) => print!(rt; "apiaggd {row}\n{text}").is_ok(),
+        Err(_) => false,
+    }
+}
+
+fn main(rt: HostRuntime) -> ExitCode {
+    let Ok(runs) = read_cases(&rt, "runs.txt") else {
+        return ExitCode::from(1);
+    };
+    for row in runs.lines() {
+        if is_row(row) && !show(&rt, row) {
+            return ExitCode::from(1);
+        }
+    }
+    ExitCode::from(0)
+}

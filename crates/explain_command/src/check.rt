@@ -1,0 +1,34 @@
+// The command `check`, over this process's files, input and output.
+use crate::ending::finish_told;
+use check_command::{CheckEnded, reason_of, run_check};
+use log_check::Checked;
+use proxy_server::{Ended, ReaderSource, SystemFiles, WriterSink};
+use std::process::ExitCode;
+use warned_files::WarnedFiles;
+
+// Says why the first line that doesn't conform doesn't.
+fn say_line(host: &HostRuntime, checked: Checked) {
+    if let Some(why) = reason_of(checked.end) {
+        let line = checked.lines.saturating_add(1);
+        let _ = eprintln!(host; "apiaggd: line {line}: {why}");
+    }
+}
+
+/// Checks a log on standard input, says whether it conforms, and gives the status of the program.
+pub fn checked(host: &HostRuntime, words: &Vec<String>) -> ExitCode {
+    let mut files = WarnedFiles::new(host, words.as_slice(), SystemFiles::new(host));
+    let mut input = ReaderSource::new(host.stdin());
+    let mut out = WriterSink::new(host.stdout());
+    let CheckEnded {
+        status,
+        why,
+        checked,
+    } = run_check(host.alloc(), words, &mut files, &mut input, &mut out);
+    let ended = Ended::of(status, why);
+    let reason = ended.reason(files.files().reason(), input.reason(), out.reason());
+    let code = finish_told(host, words.as_slice(), &ended, reason);
+    if let Some(checked) = checked {
+        say_line(host, checked);
+    }
+    code
+}
