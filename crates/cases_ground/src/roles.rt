@@ -1,7 +1,9 @@
+// What runs in threads.
 use role_threads::{Role, Roles, run_roles};
+use std::alloc::Global;
 use std::sync::Wait;
 use std::sync::atomic::{AtomicUsize, Ordering};
-use std::test::Fail;
+use std::thread::Threads;
 
 // A bay that has so much to do.
 #[derive(Drop)]
@@ -43,27 +45,42 @@ impl<T: Wait> Role<T> for Waiter {
     }
 }
 
-#[test]
-fn drainers_wait_for_bays_and_all_come_back(rt: HostRuntime) -> Result<(), Fail> {
-    let alloc = rt.alloc();
+// Four bays, and two drainers.
+fn roles(alloc: Global) -> Roles<Worker, Waiter, Waiter> {
     let mut bays = Vec::new(alloc);
     for todo in 1..5u64 {
-        bays.push(Worker { todo, done: 0 })?;
+        let _ = bays.push(Worker { todo, done: 0 });
     }
-    let roles = Roles {
+    Roles {
         bays,
         log: Some(Waiter { ended: 0 }),
         hook: Some(Waiter { ended: 0 }),
-    };
-    let ran = run_roles(&rt, alloc, roles)?;
+    }
+}
+
+fn seen_by(drainer: &Option<Waiter>) -> usize {
+    match drainer {
+        Some(drainer) => drainer.ended,
+        None => 0,
+    }
+}
+
+fn done_by(bays: &[Worker]) -> u64 {
     let mut sum = 0u64;
-    for bay in ran.bays {
+    for bay in bays {
         sum = sum.saturating_add(bay.done);
     }
-    assert_eq!(rt; sum, 10);
-    let (Some(log), Some(hook)) = (ran.log, ran.hook) else {
-        return Err("two drainers")?;
-    };
-    assert_eq!(rt; (log.ended, hook.ended), (4, 4));
-    Ok(())
+    sum
+}
+
+/// How much four bays have done that had 1 to 4 to do, and how many bays each of two drainers has seen end.
+pub fn run_all<R: Threads + Wait + Sync>(threads: &R, alloc: Global) -> Option<(u64, usize, usize)> {
+    match run_roles(threads, alloc, roles(alloc)) {
+        Ok(ran) => Some((
+            done_by(ran.bays.as_slice()),
+            seen_by(&ran.log),
+            seen_by(&ran.hook),
+        )),
+        Err(_) => None,
+    }
 }
