@@ -2,6 +2,7 @@ ghost use Rattle.std.specs.Prelude.{IfOk};
 ghost use Rattle.front_ports.specs.Memory.{IsUnused};
 
 use crate::links::{link_of, told};
+use body_frames::Frame;
 use case_rows::{bytes_of, fields, spelled};
 use forward_link::{LinkAnswer, exchange};
 use front_base::{Address, NoMemory};
@@ -15,7 +16,7 @@ const TO: Address = Address {
 };
 
 fn dial_of(alloc: Global, input: &[u8], size: u32) -> Result<MemDial, NoMemory> {
-    let links = vec![in alloc; link_of(alloc, input, size)?]?;
+    let links = vec![in alloc; link_of(alloc, input, size, 100)?]?;
     MemDial::new(alloc, links, Vec::new(alloc))
 }
 
@@ -34,12 +35,26 @@ fn with_left(bytes: Vec<u8>, link: &mut MemLink) -> Vec<u8> {
     bytes
 }
 
+fn whole_text(alloc: Global, status: u16, body: &[u8]) -> String {
+    let body = spelled(alloc, body);
+    told(alloc, format!(in alloc; "Whole {status} \"{body}\""))
+}
+
+fn streamed_text(alloc: Global, status: u16, frame: Frame, body: &[u8]) -> String {
+    let body = spelled(alloc, body);
+    told(
+        alloc,
+        format!(in alloc; "Streamed {status} {frame:?} \"{body}\""),
+    )
+}
+
 // An answer in words. Of a reply that streams the bytes are those that came with its head, and then those of its link.
 fn answer_text(alloc: Global, dial: &mut MemDial, answer: LinkAnswer<MemLink>) -> String {
     match answer {
         LinkAnswer::Whole { head, body } => {
-            let body = spelled(alloc, body.as_slice());
-            told(alloc, format!(in alloc; "Whole {} \"{body}\"", head.status))
+            let text = whole_text(alloc, head.status, body.as_slice());
+            drop(head);
+            text
         }
         LinkAnswer::Streamed {
             head,
@@ -48,12 +63,11 @@ fn answer_text(alloc: Global, dial: &mut MemDial, answer: LinkAnswer<MemLink>) -
             link,
         } => {
             let mut link = link;
-            let body = spelled(alloc, with_left(rest.into_vec(), &mut link).as_slice());
+            let body = with_left(rest.into_vec(), &mut link);
             dial.done(link);
-            told(
-                alloc,
-                format!(in alloc; "Streamed {} {frame:?} \"{body}\"", head.status),
-            )
+            let text = streamed_text(alloc, head.status, frame, body.as_slice());
+            drop(head);
+            text
         }
         LinkAnswer::DialFailed => told(alloc, String::from_str(alloc, "DialFailed")),
         LinkAnswer::BadReply => told(alloc, String::from_str(alloc, "BadReply")),
@@ -100,6 +114,7 @@ fn text_by(alloc: Global, flags: &str, held: &[u8], size: u32) -> String {
             let mut dial = dial;
             let answer = exchanged(alloc, &mut dial, flags);
             let calls = calls_text(alloc, &dial, held);
+            drop(dial);
             told(alloc, format!(in alloc; "{answer} for {calls}"))
         }
         Err(_) => String::new(alloc),
@@ -130,4 +145,25 @@ pub fn show_exchange(rt: &HostRuntime, row: &str) -> io::Result<()> {
         show_cuts(rt, flags, input.as_slice(), size)?;
     }
     Ok(())
+}
+
+// A dial of one link, which takes so many bytes.
+fn narrow_dial(alloc: Global, room: u64) -> Result<MemDial, NoMemory> {
+    let links = vec![in alloc; link_of(alloc, b"HTTP/1.1 204 No\r\n\r\n", 300, room)?]?;
+    MemDial::new(alloc, links, Vec::new(alloc))
+}
+
+/// What two exchanges answer over a dial of one link, by a row of how many bytes that link takes.
+pub fn show_narrow(rt: &HostRuntime, row: &str) -> io::Result<()> {
+    let alloc = rt.alloc();
+    match narrow_dial(alloc, row.parse().unwrap_or(0)) {
+        Ok(dial) => {
+            let mut dial = dial;
+            let first = exchanged(alloc, &mut dial, "GET");
+            let second = exchanged(alloc, &mut dial, "GET");
+            drop(dial);
+            println!(rt; "{row} => {first}, {second}")
+        }
+        Err(_) => println!(rt; "{row} => no memory"),
+    }
 }

@@ -85,23 +85,37 @@ fn head_text(alloc: Global, head: Result<Bytes, NoMemory>) -> String {
 fn forwarded(alloc: Global, head: &Head, groups: &str, target: &Target) -> String {
     let user = user_of(alloc, groups);
     let sent = forward_head(alloc, head, &user, target, SENT, None);
+    drop(user);
     head_text(alloc, sent)
+}
+
+fn show_sent(
+    rt: &HostRuntime,
+    row: &str,
+    groups: &str,
+    text: &str,
+    target: &Target,
+) -> io::Result<()> {
+    let alloc = rt.alloc();
+    let to = target.address();
+    match request_of(alloc, text) {
+        Some(head) => {
+            let sent = forwarded(alloc, &head, groups, target);
+            drop(head);
+            println!(rt; "{row} => {sent} to {to:?}")
+        }
+        None => println!(rt; "{row} => no head"),
+    }
 }
 
 /// The head that is sent on, and where to, by a row of the target, ann's groups and the client's head.
 pub fn show_forwarded(rt: &HostRuntime, row: &str) -> io::Result<()> {
-    let alloc = rt.alloc();
     let (word, rest) = fields(row);
     let (groups, text) = fields(rest);
-    let target = target_of(alloc, word);
-    let to = target.address();
-    match request_of(alloc, text) {
-        Some(head) => println!(rt;
-            "{row} => {} to {to:?}",
-            forwarded(alloc, &head, groups, &target)
-        ),
-        None => println!(rt; "{row} => no head"),
-    }
+    let target = target_of(rt.alloc(), word);
+    let shown = show_sent(rt, row, groups, text, &target);
+    drop(target);
+    shown
 }
 
 // The bytes of a head, whose status has three digits.
@@ -114,7 +128,11 @@ fn written(alloc: Global, head: &ReplyHead) -> String {
 
 fn replied(alloc: Global, head: &ReplyHead, word: &str, old: bool, closing: bool) -> String {
     match client_head(alloc, head, REPLIED, &frame_of(word), old, closing) {
-        Ok(head) => written(alloc, &head),
+        Ok(head) => {
+            let text = written(alloc, &head);
+            drop(head);
+            text
+        }
         Err(_) => String::new(alloc),
     }
 }
@@ -129,6 +147,7 @@ pub fn show_reply(rt: &HostRuntime, row: &str) -> io::Result<()> {
     match reply_of(alloc, text) {
         Some(head) => {
             let told = replied(alloc, &head, word, version == "1.0", after == "closes");
+            drop(head);
             println!(rt; "{row} => {told}")
         }
         None => println!(rt; "{row} => no head"),

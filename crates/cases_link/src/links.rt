@@ -25,8 +25,8 @@ pub fn frame_of(word: &str) -> Frame {
     }
 }
 
-/// A link that gives these bytes, in reads of so many at most.
-pub fn link_of(alloc: Global, input: &[u8], size: u32) -> Result<MemLink, NoMemory>
+/// A link that gives these bytes, in reads of so many at most, and takes so many.
+pub fn link_of(alloc: Global, input: &[u8], size: u32, room: u64) -> Result<MemLink, NoMemory>
     ensures { IfOk result IsUnused }
 {
     let sizes = vec![in alloc; size; 300]?;
@@ -35,7 +35,7 @@ pub fn link_of(alloc: Global, input: &[u8], size: u32) -> Result<MemLink, NoMemo
         alloc,
         Script {
             input,
-            room: 100,
+            room,
             sizes,
             read_fails: Vec::new(alloc),
             write_fails: Vec::new(alloc),

@@ -1,5 +1,5 @@
 //! Cases of links to backends, over links in memory: the head that a backend gets for a request, the head that a client gets for
-//! a reply, what an exchange answers wherever the backend's bytes end, and what a client gets of a relayed body.
+//! a reply, and what an exchange answers wherever the backend's bytes end, and where a link takes no more or there is none.
 //!
 //! Expected values are worked out by hand, each from the section of RFC 9110 or RFC 9112, or the function of Go's ReverseProxy or of
 //! kube-apiserver, that stands above its rows.
@@ -8,7 +8,6 @@
 mod exchanges;
 mod heads;
 mod links;
-mod relays;
 
 use case_rows::{is_row, read_cases};
 use std::io;
@@ -18,9 +17,7 @@ const MATTERS: &str = "\
 forwarded.txt
 replies.txt
 exchanges.txt
-relays.txt
-pieces.txt
-kept.txt
+narrow.txt
 ";
 
 fn show(rt: &HostRuntime, matter: &str, row: &str) -> io::Result<()> {
@@ -28,9 +25,7 @@ fn show(rt: &HostRuntime, matter: &str, row: &str) -> io::Result<()> {
         "forwarded.txt" => heads::show_forwarded(rt, row),
         "replies.txt" => heads::show_reply(rt, row),
         "exchanges.txt" => exchanges::show_exchange(rt, row),
-        "relays.txt" => relays::show_relay(rt, row),
-        "pieces.txt" => relays::show_pieces(rt, row),
-        _ => relays::show_kept(rt, row),
+        _ => exchanges::show_narrow(rt, row),
     }
 }
 

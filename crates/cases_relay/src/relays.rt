@@ -51,44 +51,45 @@ fn kept_text(alloc: Global, keep: &Keep) -> String {
 }
 
 // What comes of a relay, of whose body the first bytes came with the head.
-fn relayed(alloc: Global, plan: Plan, first: &[u8], link: MemLink, conn: MemBytes) -> String {
-    let mut link = link;
-    let mut conn = conn;
+fn relayed(
+    alloc: Global,
+    plan: Plan,
+    first: &[u8],
+    link: &mut MemLink,
+    conn: &mut MemBytes,
+) -> String {
     let mut keep = Keep::new(alloc, true);
-    let answer = relay(
-        alloc, &mut link, plan.frame, first, &mut conn, plan.old, &mut keep,
-    );
+    let answer = relay(alloc, link, plan.frame, first, conn, plan.old, &mut keep);
     let got = got_text(alloc, plan, conn.bytes());
     let kept = kept_text(alloc, &keep);
+    drop(keep);
     told(alloc, format!(in alloc; "{answer:?}, {got}, kept {kept}"))
 }
 
 // The same to the byte, of a body that nobody wants kept.
-fn written(alloc: Global, plan: Plan, link: MemLink, conn: MemBytes) -> String {
-    let mut link = link;
-    let mut conn = conn;
+fn written(alloc: Global, plan: Plan, link: &mut MemLink, conn: &mut MemBytes) -> String {
     let mut keep = Keep::new(alloc, false);
-    let answer = relay(
-        alloc, &mut link, plan.frame, b"", &mut conn, plan.old, &mut keep,
-    );
+    let answer = relay(alloc, link, plan.frame, b"", conn, plan.old, &mut keep);
     let sent = spelled(alloc, conn.bytes());
     let kept = kept_text(alloc, &keep);
+    let total = keep.total();
+    drop(keep);
     told(
         alloc,
-        format!(in alloc; "{answer:?}, \"{sent}\", kept {kept} of {}", keep.total()),
+        format!(in alloc; "{answer:?}, \"{sent}\", kept {kept} of {total}"),
     )
 }
 
 // How much is kept of a body.
-fn counted(alloc: Global, frame: Frame, link: MemLink, conn: MemBytes) -> String {
-    let mut link = link;
-    let mut conn = conn;
+fn counted(alloc: Global, frame: Frame, link: &mut MemLink, conn: &mut MemBytes) -> String {
     let mut keep = Keep::new(alloc, true);
-    let answer = relay(alloc, &mut link, frame, b"", &mut conn, false, &mut keep);
+    let answer = relay(alloc, link, frame, b"", conn, false, &mut keep);
     let kept = keep.body().map(|body| body.len());
+    let total = keep.total();
+    drop(keep);
     told(
         alloc,
-        format!(in alloc; "{answer:?}, kept {kept:?} of {}", keep.total()),
+        format!(in alloc; "{answer:?}, kept {kept:?} of {total}"),
     )
 }
 
@@ -99,13 +100,24 @@ fn ports_of(
     size: u32,
     room: u64,
 ) -> Result<(MemLink, MemBytes), NoMemory> {
-    let conn = MemBytes::new(alloc, room, Vec::new(alloc))?;
-    Ok((link_of(alloc, input, size)?, conn))
+    let link = link_of(alloc, input, size, Vec::new(alloc))?;
+    match MemBytes::new(alloc, room, Vec::new(alloc)) {
+        Ok(conn) => Ok((link, conn)),
+        Err(fault) => {
+            drop(link);
+            Err(fault)
+        }
+    }
 }
 
 fn relayed_by(alloc: Global, plan: Plan, first: &[u8], after: &[u8]) -> String {
     match ports_of(alloc, after, plan.size, 1000) {
-        Ok((link, conn)) => relayed(alloc, plan, first, link, conn),
+        Ok((mut link, mut conn)) => {
+            let text = relayed(alloc, plan, first, &mut link, &mut conn);
+            drop(link);
+            drop(conn);
+            text
+        }
         Err(_) => String::new(alloc),
     }
 }
@@ -155,7 +167,12 @@ pub fn show_pieces(rt: &HostRuntime, row: &str) -> io::Result<()> {
         old: false,
     };
     match ports_of(alloc, bytes_of(alloc, text).as_slice(), plan.size, 1000) {
-        Ok((link, conn)) => println!(rt; "{row} => {}", written(alloc, plan, link, conn)),
+        Ok((mut link, mut conn)) => {
+            let text = written(alloc, plan, &mut link, &mut conn);
+            drop(link);
+            drop(conn);
+            println!(rt; "{row} => {text}")
+        }
         Err(_) => println!(rt; "{row} => no memory"),
     }
 }
@@ -166,10 +183,59 @@ pub fn show_kept(rt: &HostRuntime, row: &str) -> io::Result<()> {
     let size = row.parse().unwrap_or(0);
     let input = vec![in alloc; b'a'; size as usize].unwrap_or(Vec::new(alloc));
     match ports_of(alloc, input.as_slice(), 32768, size) {
-        Ok((link, conn)) => println!(rt;
-            "{row} => {}",
-            counted(alloc, Frame::Length(size), link, conn)
-        ),
+        Ok((mut link, mut conn)) => {
+            let text = counted(alloc, Frame::Length(size), &mut link, &mut conn);
+            drop(link);
+            drop(conn);
+            println!(rt; "{row} => {text}")
+        }
+        Err(_) => println!(rt; "{row} => no memory"),
+    }
+}
+
+// The number of a call that fails, or none.
+fn fails_of(alloc: Global, word: &str) -> Vec<u64> {
+    let mut fails = Vec::new(alloc);
+    if let Ok(number) = word.parse() {
+        let _ = fails.push(number);
+    }
+    fails
+}
+
+// The client, which fails at the writes of these numbers, beside the link, which fails at the reads.
+fn failing_ports(
+    alloc: Global,
+    size: u32,
+    reads: Vec<u64>,
+    writes: Vec<u64>,
+) -> Result<(MemLink, MemBytes), NoMemory> {
+    let link = link_of(alloc, b"hello", size, reads)?;
+    match MemBytes::new(alloc, 1000, writes) {
+        Ok(conn) => Ok((link, conn)),
+        Err(fault) => {
+            drop(link);
+            Err(fault)
+        }
+    }
+}
+
+/// What a client gets of a body of five bytes in reads of two, by a row of the read that fails and of the write that fails.
+pub fn show_fault(rt: &HostRuntime, row: &str) -> io::Result<()> {
+    let alloc = rt.alloc();
+    let (reads, writes) = fields(row);
+    let plan = Plan {
+        frame: Frame::Close,
+        size: 2,
+        old: false,
+    };
+    let (reads, writes) = (fails_of(alloc, reads), fails_of(alloc, writes));
+    match failing_ports(alloc, plan.size, reads, writes) {
+        Ok((mut link, mut conn)) => {
+            let text = written(alloc, plan, &mut link, &mut conn);
+            drop(link);
+            drop(conn);
+            println!(rt; "{row} => {text}")
+        }
         Err(_) => println!(rt; "{row} => no memory"),
     }
 }
