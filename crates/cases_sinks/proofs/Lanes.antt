@@ -5,7 +5,7 @@ use Rattle.shared_queue.specs.Lanes.{SameLane, lane_home, lane_bay}
 use Rattle.shared_queue.specs.Queues.{IsNewQueue, IsNewLane, AreOneQueue, outlet_home, outlet_allotments}
 use Rattle.shared_queue.specs.declared.lane.QueueLane.{QueueLane}
 use Rattle.shared_queue.specs.declared.outlet.QueueOutlet.{QueueOutlet}
-use Rattle.sink_tests.specs.Lanes.{IsOneLane}
+use Rattle.cases_sinks.specs.Lanes.{IsOneLane}
 
 home_one : {R : Type 0} (d : QueueLane R) (o : QueueOutlet R) → lane_home d ≡ outlet_home o → (k : ℕ) (z : QueueLane R)
     → k < length (d ∷ []) → lane_home (get_or (d ∷ []) k z) ≡ outlet_home o

@@ -1,14 +1,14 @@
 ghost use Rattle.std.specs.Prelude.{◌≡◌, ◌≤◌, ◌<◌, ◌+◌, [], ◌∷◌, All, IfSome, length};
 ghost use Rattle.shared_queue.specs.Lanes.{SameLane, lane_bay};
-ghost use Rattle.sink_tests.specs.Lanes.{IsOneLane, AreInOrder};
+ghost use Rattle.cases_sinks.specs.Lanes.{IsOneLane, AreInOrder};
 ghost use Rattle.shared_queue.specs.declared.making.TheConstants.{MOST_ALLOTTED};
 
-use crate::words::{add_offer, add_pop, add_step, line};
+use crate::words::{add_offer, add_pop, line};
+use case_rows::fields;
 use front_base::{Bytes, Line};
 use shared_queue::{QueueEnd, QueueLane, QueueOutlet, finish, make_queue};
-use std::alloc::Global;
+use std::alloc::{AllocError, Global};
 use std::sync::Wait;
-use std::test::Fail;
 use std::thread;
 use std::thread::{JoinHandle, Threads};
 use truncate_backend::{Lane, Offer, Outlet};
@@ -37,45 +37,44 @@ fn queue<R: Wait + Copy + Drop>(
 // Offers a line, and says what came of it.
 fn offer<R: Wait + Copy + Drop>(
     alloc: Global,
-    own: &mut String,
+    out: &mut String,
     lane: &mut QueueLane<R>,
     text: &str,
 )
     requires { lane_bay lane.old ≡ 0 }
     ensures { SameLane lane.old lane.new }
 {
-    add_offer(own, lane.offer(line(alloc, 0, text)));
+    add_offer(out, lane.offer(line(alloc, 0, text)));
 }
 
 // Offers a line or pops one, and says what came of it.
 fn step<R: Wait + Copy + Drop>(
     alloc: Global,
-    own: &mut String,
+    out: &mut String,
     lane: &mut QueueLane<R>,
     outlet: &mut QueueOutlet<R>,
-    row: &str,
+    step: &str,
 )
     requires { lane_bay lane.old ≡ 0 }
     ensures { lane_bay lane.new ≡ 0 }
 {
-    match add_step(own, row) {
-        "pop" => add_pop(own, outlet),
-        text => offer(alloc, own, lane, text),
+    match step {
+        "pop" => add_pop(out, outlet),
+        text => offer(alloc, out, lane, text),
     }
 }
 
-// Adds what comes of steps.
 fn steps_on<R: Wait + Copy + Drop>(
     alloc: Global,
-    own: &mut String,
+    out: &mut String,
     lane: &mut QueueLane<R>,
     outlet: &mut QueueOutlet<R>,
     steps: &str,
 )
     requires { lane_bay lane.old ≡ 0 }
 {
-    for row in steps.lines() {
-        step(alloc, own, lane, outlet, row);
+    for row in steps.split(' ') {
+        step(alloc, out, lane, outlet, row);
     }
 }
 
@@ -83,65 +82,55 @@ fn steps_on<R: Wait + Copy + Drop>(
 fn run<R: Wait + Copy + Drop>(
     rt: R,
     alloc: Global,
+    out: &mut String,
     capacity: u32,
     allots: Vec<u64>,
     steps: &str,
-) -> String
+)
     requires capacity { 0 < capacity }
     requires one { length allots.items ≡ 1 }
     requires allotted { All (λ n. n ≤ MOST_ALLOTTED) allots.items }
 {
-    let mut own = String::new(alloc);
     if let Some((mut lane, mut outlet)) = queue(rt, alloc, capacity, allots) {
-        steps_on(alloc, &mut own, &mut lane, &mut outlet, steps);
+        steps_on(alloc, out, &mut lane, &mut outlet, steps);
+        drop(lane);
+        drop(outlet);
     }
-    own
 }
 
-// A step, and what came of it.
-const ONE_PLACE: &str = "first: taken
-second: full second
-pop: first
-third: taken
-pop: third
-pop: none
-";
-
-// The second line would fit into the queue, and the fourth into an empty one.
-const ONE_ALLOTTED: &str = "first: taken
-second: full second
-pop: first
-pop: none
-third: full third
-";
-
-#[test]
-fn a_lane_is_full_with_its_queue_or_its_allotment(rt: HostRuntime) -> Result<(), Fail> {
-    let alloc = rt.alloc();
-    let one_place = run(rt, alloc, 1, vec![in alloc; 9]?, ONE_PLACE);
-    assert_eq!(rt; one_place.as_str(), ONE_PLACE);
-    let one_allotted = run(rt, alloc, 4, vec![in alloc; 1]?, ONE_ALLOTTED);
-    assert_eq!(rt; one_allotted.as_str(), ONE_ALLOTTED);
+/// What steps on a queue of one lane answer. A row has whether the queue has one place, or the lane one line allotted of four
+/// places, and the steps: a pop, or the line that is offered.
+pub fn show_queue<R: Wait + Copy + Drop>(
+    rt: R,
+    alloc: Global,
+    out: &mut String,
+    row: &str,
+) -> Result<(), AllocError> {
+    let (kind, steps) = fields(row);
+    match kind {
+        "place" => run(rt, alloc, out, 1, vec![in alloc; 9]?, steps),
+        _ => run(rt, alloc, out, 4, vec![in alloc; 1]?, steps),
+    }
     Ok(())
 }
 
 // Offers three lines to a lane, and says what came of each.
-fn offer_three<R: Wait + Copy + Drop>(alloc: Global, own: &mut String, lane: &mut QueueLane<R>)
+fn offer_three<R: Wait + Copy + Drop>(alloc: Global, out: &mut String, lane: &mut QueueLane<R>)
     requires { lane_bay lane.old ≡ 0 }
     ensures { SameLane lane.old lane.new }
 {
-    offer(alloc, own, lane, "first");
-    offer(alloc, own, lane, "second");
-    offer(alloc, own, lane, "third");
+    offer(alloc, out, lane, "first");
+    offer(alloc, out, lane, "second");
+    offer(alloc, out, lane, "third");
 }
 
-// How often the lane of an ended queue was full. Says what three pops give.
-fn left<R: Wait + Copy + Drop>(own: &mut String, mut end: QueueEnd<R>) -> u64 {
+// Says what three pops of an ended queue give, and how often its lane was full.
+fn left<R: Wait + Copy + Drop>(out: &mut String, end: &mut QueueEnd<R>) {
     let fulls = end.fulls();
-    add_pop(own, &mut end);
-    add_pop(own, &mut end);
-    add_pop(own, &mut end);
-    fulls
+    add_pop(out, end);
+    add_pop(out, end);
+    add_pop(out, end);
+    let _added = write!(out, " {fulls}");
 }
 
 // The lane of a queue of one lane, as `finish` takes it.
@@ -160,34 +149,26 @@ fn end_of_three<R: Wait + Copy + Drop>(
     rt: R,
     alloc: Global,
     allots: Vec<u64>,
-    own: &mut String,
-) -> Option<u64>
+    out: &mut String,
+) -> Option<()>
     requires { allots.items ≡ 9 ∷ [] }
 {
     let (mut lane, outlet) = queue(rt, alloc, 2, allots)?;
-    offer_three(alloc, own, &mut lane);
-    let lanes = one_lane(alloc, lane)?;
-    let end = finish(lanes, outlet);
-    Some(left(own, end))
+    offer_three(alloc, out, &mut lane);
+    let Some(lanes) = one_lane(alloc, lane) else {
+        drop(outlet);
+        return None;
+    };
+    let mut end = finish(lanes, outlet);
+    left(out, &mut end);
+    drop(end);
+    Some(())
 }
 
-// What came of three offers and, after the end, of three pops.
-const LEFT: &str = "taken
-taken
-full third
-first
-second
-none
-";
-
-#[test]
-fn an_end_gives_what_is_left(rt: HostRuntime) -> Result<(), Fail> {
-    let alloc = rt.alloc();
-    let mut own = String::new(alloc);
-    let fulls = end_of_three(rt, alloc, vec![in alloc; 9]?, &mut own);
-    assert_eq!(rt; fulls, Some(1));
-    assert_eq!(rt; own.as_str(), LEFT);
-    Ok(())
+/// What came of three offers, and, after the end of their queue, of three pops, and how often the lane was full.
+pub fn show_end<R: Wait + Copy + Drop>(rt: R, alloc: Global, out: &mut String) -> Option<()> {
+    let allots = vec![in alloc; 9].ok()?;
+    end_of_three(rt, alloc, allots, out)
 }
 
 // Offers a line of the lane's bay until the queue takes it.
@@ -288,12 +269,11 @@ fn take_of_three<R: Wait + Threads + Copy + Drop + Send + Sync + 'static>(
     }
 }
 
-#[test]
-fn lines_of_three_threads_come_once_and_in_order(rt: HostRuntime) -> Result<(), Fail> {
-    let allots = vec![in rt.alloc(); 200, 200, 200]?;
-    assert_eq!(rt;
-        take_of_three(rt, rt.alloc(), allots),
-        Some(([200, 200, 200], false))
-    );
-    Ok(())
+/// The lines of three threads come once and in order, and no other one: how many of each came, and whether one is left.
+pub fn show_threads<R: Wait + Threads + Copy + Drop + Send + Sync + 'static>(
+    rt: R,
+    alloc: Global,
+) -> Option<([u64; 3], bool)> {
+    let allots = vec![in alloc; 200, 200, 200].ok()?;
+    take_of_three(rt, alloc, allots)
 }
