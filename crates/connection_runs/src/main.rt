@@ -6,6 +6,8 @@
 ghost use Rattle.std.specs.Prelude.{◌≡◌, false, IfSome};
 ghost use Rattle.audit_core.specs.declared.sinks.SinkMode.TheVariants.{Off};
 ghost use Rattle.event_offers.specs.Lanes.{is_batch};
+ghost use Rattle.front_ports.specs.Memory.{IsUnused};
+ghost use Rattle.std.specs.List.{All};
 
 mod order;
 mod settings;
@@ -19,7 +21,7 @@ use front_ports::{MemBytes, MemClock, MemConn, MemDial, MemLink, Script};
 use local_replies::LocalPaths;
 use log_sink::LogSink;
 use order::show_order;
-use session_core::{Bay, MemDiary, serve_connection};
+use session_core::{Bay, ConnEnd, MemDiary, serve_connection};
 use settings::{routes_of, settings_of};
 use std::alloc::Global;
 use std::fs;
@@ -69,18 +71,36 @@ fn script(alloc: Global, input: &str) -> Result<Script, NoMemory> {
     })
 }
 
+// Adds a link whose backend replies so.
+fn push_link(alloc: Global, links: &mut Vec<MemLink>, line: &str) -> Result<(), NoMemory>
+    requires { All IsUnused links.old.items }
+    ensures { All IsUnused links.new.items }
+{
+    let reply = line.replace(alloc, "~", "\r\n")?;
+    let link = MemLink::new(alloc, script(alloc, &reply)?)?;
+    Ok(links.push(link)?)
+}
+
+// The numbers of the replies that are `!`, from 1.
+fn fails_of(alloc: Global, replies: &str) -> Result<Vec<u64>, NoMemory> {
+    let mut fails = Vec::new(alloc);
+    let mut number = 0u64;
+    for line in replies.lines() {
+        number = number.saturating_add(1);
+        if line == "!" {
+            fails.push(number)?;
+        }
+    }
+    Ok(fails)
+}
+
 // Backends that reply so, a line each, one after another. The one that replies `!` cannot be dialed.
 fn dial_of(alloc: Global, replies: &str) -> Result<MemDial, NoMemory> {
     let mut links = Vec::new(alloc);
-    let mut fails = Vec::new(alloc);
     for line in replies.lines() {
-        let reply = line.replace(alloc, "~", "\r\n")?;
-        let link = MemLink::new(alloc, script(alloc, &reply)?)?;
-        links.push(link)?;
-        if line == "!" {
-            fails.push(links.len() as u64)?;
-        }
+        push_link(alloc, &mut links, line)?;
     }
+    let fails = fails_of(alloc, replies)?;
     MemDial::new(alloc, links, fails)
 }
 
@@ -91,6 +111,18 @@ fn log_of(alloc: Global, fails: Vec<u64>) -> Option<OwnLog> {
     let out = MemBytes::new(alloc, ROOM, fails).ok()?;
     let sink = LogSink::start(alloc, out, NoNotes).ok()?;
     Some(OwnLane { sink })
+}
+
+// The log, and what stands for a webhook.
+fn logs_of(alloc: Global, fails: Vec<u64>) -> Option<(OwnLog, OwnLog)> {
+    let log = log_of(alloc, fails)?;
+    match log_of(alloc, Vec::new(alloc)) {
+        Some(hook) => Some((log, hook)),
+        None => {
+            drop(log);
+            None
+        }
+    }
 }
 
 // How the log is written to, and which of its writes fail: the first one of a strict log.
@@ -139,30 +171,50 @@ fn client_of(rt: &HostRuntime, name: &str) -> Option<MemConn> {
     let (file, call) = name.split_once('!').unwrap_or((name, ""));
     let input = text_of(rt, file)?;
     let mut ports = script(alloc, &input).ok()?;
-    fail_second(&mut ports, call).ok()?;
+    if fail_second(&mut ports, call).is_err() {
+        drop(ports);
+        return None;
+    }
     MemConn::new(alloc, [10, 0, 0, 7], ports).ok()
 }
 
-// A bay over these APIServices and these replies, with a log whose writes of these numbers fail.
-fn own_bay(rt: &HostRuntime, services: &str, replies: &str, fails: Vec<u64>) -> Option<OwnBay>
-    ensures { IfSome result (λ bay. (bay.number ≡ 0) × (bay.lanes.log_lines ≡ 0) × (bay.lanes.hook_lines ≡ 0)) }
+fn bay_over(alloc: Global, routes: TableRoutes, dial: MemDial, log: OwnLog, hook: OwnLog) -> OwnBay
+    ensures { (result.number ≡ 0) × (result.lanes.log_lines ≡ 0) × (result.lanes.hook_lines ≡ 0) }
 {
-    let alloc = rt.alloc();
-    Some(Bay {
+    Bay {
         boot: 1,
         number: 0,
-        routes: routes_of(alloc, &text_of(rt, services)?)?,
-        dial: dial_of(alloc, &text_of(rt, replies)?).ok()?,
+        routes,
+        dial,
         lanes: Lanes {
             bay: 2,
-            log: log_of(alloc, fails)?,
-            hook: log_of(alloc, Vec::new(alloc))?,
+            log,
+            hook,
             log_lines: 0,
             hook_lines: 0,
         },
         clock: MemClock::new(Moment::epoch(), 1),
         diary: MemDiary::new(alloc),
-    })
+    }
+}
+
+// A bay over these APIServices and these replies, with a log whose writes of these numbers fail.
+fn own_bay(alloc: Global, services: &str, replies: &str, fails: Vec<u64>) -> Option<OwnBay>
+    ensures { IfSome result (λ bay. (bay.number ≡ 0) × (bay.lanes.log_lines ≡ 0) × (bay.lanes.hook_lines ≡ 0)) }
+{
+    let (log, hook) = logs_of(alloc, fails)?;
+    let Some(routes) = routes_of(alloc, services) else {
+        drop(log);
+        drop(hook);
+        return None;
+    };
+    let Ok(dial) = dial_of(alloc, replies) else {
+        drop(log);
+        drop(hook);
+        drop(routes);
+        return None;
+    };
+    Some(bay_over(alloc, routes, dial, log, hook))
 }
 
 // What the diary notes, what the client got, what the backends were sent, and what the log says.
@@ -182,26 +234,89 @@ fn tell(rt: &HostRuntime, bay: &OwnBay, output: &[u8]) -> Option<()> {
     show(rt, bay.lanes.log.sink.out().bytes())
 }
 
-fn run(rt: &HostRuntime, row: &str) -> Option<()> {
-    let alloc = rt.alloc();
-    let mut names = row.split('|');
-    let client = names.next()?;
-    let replies = names.next()?;
-    let services = names.next()?;
-    let policy = names.next()?;
-    let (mode, fails) = log_mode(alloc, names.next()?)?;
-    let settings = own_settings(rt, policy, mode)?;
-    let paths = LocalPaths::new(alloc).ok()?;
-    let mut bay = own_bay(rt, services, replies, fails)?;
-    let mut conn = client_of(rt, client)?;
-    let end = serve_connection(alloc, &settings, &paths, &mut bay, &mut conn);
+// A row of `RUNS`.
+#[derive(Clone, Copy)]
+struct Run<'r> {
+    client: &'r str,
+    replies: &'r str,
+    services: &'r str,
+    policy: &'r str,
+    log: &'r str,
+}
+
+fn run_of(row: &str) -> Option<Run<'_>> {
+    let (client, rest) = row.split_once('|')?;
+    let (replies, rest) = rest.split_once('|')?;
+    let (services, rest) = rest.split_once('|')?;
+    let (policy, log) = rest.split_once('|')?;
+    Some(Run {
+        client,
+        replies,
+        services,
+        policy,
+        log,
+    })
+}
+
+// Tells how a connection ended, and what came of it.
+fn tell_end(
+    rt: &HostRuntime,
+    run: Run<'_>,
+    mode: SinkMode,
+    end: ConnEnd,
+    bay: &OwnBay,
+    output: &[u8],
+) -> Option<()> {
+    let Run {
+        client,
+        replies,
+        ..
+    } = run;
     print!(rt; "== {client}, {replies}, {mode:?}: {end:?}\n").ok()?;
-    tell(rt, &bay, conn.output())
+    tell(rt, bay, output)
+}
+
+// Serves a client, and tells what came of it.
+fn serve(rt: &HostRuntime, run: Run<'_>, settings: &Settings, bay: &mut OwnBay) -> Option<()>
+    requires settings { (settings.now.max_event ≡ 102400) × (is_batch settings.now.log ≡ false) × (settings.now.hook ≡ Off) }
+    requires bay { (bay.old.number ≡ 0) × (bay.old.lanes.log_lines ≡ 0) × (bay.old.lanes.hook_lines ≡ 0) }
+{
+    let mut conn = client_of(rt, run.client)?;
+    let Ok(paths) = LocalPaths::new(rt.alloc()) else {
+        drop(conn);
+        return None;
+    };
+    let end = serve_connection(rt.alloc(), settings, &paths, bay, &mut conn);
+    drop(paths);
+    let told = tell_end(rt, run, settings.log, end, bay, conn.output());
+    drop(conn);
+    told
+}
+
+// The same over a bay of its own.
+fn serve_run(rt: &HostRuntime, run: Run<'_>, settings: &Settings, fails: Vec<u64>) -> Option<()>
+    requires { (settings.now.max_event ≡ 102400) × (is_batch settings.now.log ≡ false) × (settings.now.hook ≡ Off) }
+{
+    let services = text_of(rt, run.services)?;
+    let replies = text_of(rt, run.replies)?;
+    let mut bay = own_bay(rt.alloc(), services.as_str(), replies.as_str(), fails)?;
+    let served = serve(rt, run, settings, &mut bay);
+    drop(bay);
+    served
+}
+
+fn show_run(rt: &HostRuntime, row: &str) -> Option<()> {
+    let run = run_of(row)?;
+    let (mode, fails) = log_mode(rt.alloc(), run.log)?;
+    let settings = own_settings(rt, run.policy, mode)?;
+    let served = serve_run(rt, run, &settings, fails);
+    drop(settings);
+    served
 }
 
 fn main(rt: HostRuntime) -> ExitCode {
     for row in RUNS.lines() {
-        let Some(()) = run(&rt, row) else {
+        let Some(()) = show_run(&rt, row) else {
             return ExitCode::from(1);
         };
     }

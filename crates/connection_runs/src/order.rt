@@ -7,14 +7,18 @@ mod lane;
 mod settings;
 mod time;
 
+ghost use Rattle.std.specs.Prelude.{◌≡◌};
+ghost use Rattle.audit_core.specs.declared.sinks.SinkMode.TheVariants.{Blocking, Strict};
+
 use apiservice_rows::read_rows;
 use apiservice_table::{RouteTable, TableRoutes, read_rows_fit};
+use audit_core::Settings;
 use client::TellingConn;
 use dial::TellingDial;
 use event_offers::Lanes;
 use lane::TellingLane;
 use local_replies::LocalPaths;
-use session_core::{Bay, serve_connection};
+use session_core::{Bay, ConnEnd, serve_connection};
 use settings::settings_of;
 use std::alloc::Global;
 use time::{TellingClock, TellingDiary};
@@ -28,16 +32,21 @@ fn routes(alloc: Global) -> Option<TableRoutes> {
     TableRoutes::new(alloc, RouteTable::from_rows(alloc, rows).ok()?).ok()
 }
 
-// One request of that target, over ports that tell. The log's lane fails from its first line on where `fails` says so.
-fn run(rt: &HostRuntime, target: &str, fails: bool) -> Option<()> {
-    let alloc = rt.alloc();
-    print!(rt; "== {target}\n").ok()?;
-    let settings = settings_of(alloc)?;
-    let paths = LocalPaths::new(alloc).ok()?;
+// Serves one connection over ports that tell. The log's lane fails from its first line on where `fails` says so.
+fn serve_told(
+    rt: &HostRuntime,
+    settings: &Settings,
+    paths: &LocalPaths,
+    routes: TableRoutes,
+    text: &str,
+    fails: bool,
+) -> ConnEnd
+    requires { (settings.now.max_event ≡ 102400) × (settings.now.log ≡ Strict) × (settings.now.hook ≡ Blocking) }
+{
     let mut bay = Bay {
         boot: 1,
         number: 0,
-        routes: routes(alloc)?,
+        routes,
         dial: TellingDial::new(rt.stdout(), rt.stdout()),
         lanes: Lanes {
             bay: 0,
@@ -49,11 +58,36 @@ fn run(rt: &HostRuntime, target: &str, fails: bool) -> Option<()> {
         clock: TellingClock::new(rt.stdout()),
         diary: TellingDiary { out: rt.stdout() },
     };
-    let text = format!(in alloc;
+    let mut conn = TellingConn::new(text.as_bytes(), rt.stdout());
+    let end = serve_connection(rt.alloc(), settings, paths, &mut bay, &mut conn);
+    drop(bay);
+    drop(conn);
+    end
+}
+
+fn end_of(rt: &HostRuntime, settings: &Settings, text: &str, fails: bool) -> Option<ConnEnd>
+    requires { (settings.now.max_event ≡ 102400) × (settings.now.log ≡ Strict) × (settings.now.hook ≡ Blocking) }
+{
+    let paths = LocalPaths::new(rt.alloc()).ok()?;
+    let Some(routes) = routes(rt.alloc()) else {
+        drop(paths);
+        return None;
+    };
+    let end = serve_told(rt, settings, &paths, routes, text, fails);
+    drop(paths);
+    Some(end)
+}
+
+// One request of that target.
+fn run(rt: &HostRuntime, target: &str, fails: bool) -> Option<()> {
+    print!(rt; "== {target}\n").ok()?;
+    let text = format!(in rt.alloc();
         "GET {target} HTTP/1.1\r\nHost: a\r\nConnection: close\r\n\r\n"
     ).ok()?;
-    let mut conn = TellingConn::new(text.as_bytes(), rt.stdout());
-    let end = serve_connection(alloc, &settings, &paths, &mut bay, &mut conn);
+    let settings = settings_of(rt.alloc())?;
+    let end = end_of(rt, &settings, text.as_str(), fails);
+    drop(settings);
+    let end = end?;
     print!(rt; "{end:?}\n").ok()
 }
 

@@ -34,9 +34,19 @@ pub fn settings_of(
 ) -> Option<Settings>
     ensures { IfSome result (λ set. (set.max_event ≡ 102400) × (set.log ≡ log) × (set.hook ≡ Off)) }
 {
-    let tokens = read_tokens(alloc, file_bytes(tokens)?).ok()?;
-    let policy = read_policy(alloc, file_bytes(policy)?).ok()?;
-    let endpoints = read_endpoints(alloc, file_bytes(endpoints)?).ok()?;
+    let tokens = file_bytes(tokens)?;
+    let policy = file_bytes(policy)?;
+    let endpoints = file_bytes(endpoints)?;
+    let tokens = read_tokens(alloc, tokens).ok()?;
+    let Ok(policy) = read_policy(alloc, policy) else {
+        drop(tokens);
+        return None;
+    };
+    let Ok(endpoints) = read_endpoints(alloc, endpoints) else {
+        drop(tokens);
+        drop(policy);
+        return None;
+    };
     Some(Settings {
         tokens,
         policy,

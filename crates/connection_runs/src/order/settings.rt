@@ -12,10 +12,20 @@ use token_users::read_tokens;
 pub fn settings_of(alloc: Global) -> Option<Settings>
     ensures { IfSome result (λ set. (set.max_event ≡ 102400) × (set.log ≡ Strict) × (set.hook ≡ Blocking)) }
 {
+    let tokens = read_tokens(alloc, b"".as_slice()).ok()?;
+    let Ok(policy) = Policy::all_metadata(alloc) else {
+        drop(tokens);
+        return None;
+    };
+    let Ok(endpoints) = read_endpoints(alloc, b"local,127.0.0.1:9001\n".as_slice()) else {
+        drop(tokens);
+        drop(policy);
+        return None;
+    };
     Some(Settings {
-        tokens: read_tokens(alloc, b"".as_slice()).ok()?,
-        policy: Policy::all_metadata(alloc).ok()?,
-        endpoints: read_endpoints(alloc, b"local,127.0.0.1:9001\n".as_slice()).ok()?,
+        tokens,
+        policy,
+        endpoints,
         max_event: 102_400,
         log: SinkMode::Strict,
         hook: SinkMode::Blocking,
