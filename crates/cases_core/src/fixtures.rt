@@ -1,11 +1,9 @@
-// Values of rows. A text that memory refuses comes out empty, so that the output of its case is a wrong one.
-ghost use Rattle.std.specs.Prelude.{◌≡◌, ◌≤◌, IfSome, length};
-ghost use Rattle.audit_core.specs.declared.sinks.SinkMode.TheVariants.{Off};
+ghost use Rattle.std.specs.Prelude.{◌≤◌, length};
 ghost use Rattle.front_base.specs.declared.file.TheConstants.{MOST_FILE_BYTES};
 
 use audit_core::{Settings, SinkMode};
 use case_rows::{bytes_of, read_cases};
-use front_base::{Bytes, MOST_FILE_BYTES, Text, Texts, User};
+use front_base::{Bytes, MOST_FILE_BYTES};
 use http_edge::Request;
 use http_head::{HeadAnswer, read_request};
 use policy_json::read_policy;
@@ -22,22 +20,6 @@ pub fn field(row: &str, number: usize) -> &str {
 /// Bytes as they are printed, where they are UTF-8.
 pub fn shown(bytes: &[u8]) -> &str {
     str::from_utf8(bytes).unwrap_or("not UTF-8")
-}
-
-pub fn text_of(alloc: Global, text: &str) -> Text {
-    match Text::copy_of(alloc, text) {
-        Ok(text) => text,
-        Err(_) => Text::new(String::new(alloc)),
-    }
-}
-
-/// The user `ann`.
-pub fn ann(alloc: Global) -> User {
-    User {
-        name: text_of(alloc, "ann"),
-        uid: text_of(alloc, ""),
-        groups: Texts::new(Vec::new(alloc)),
-    }
 }
 
 /// The request whose head and whose body these fields spell.
@@ -73,23 +55,19 @@ fn policy_of(rt: &HostRuntime, name: &str) -> Option<Policy> {
     read_policy(rt.alloc(), file_bytes(text.as_str())).ok()
 }
 
-/// The settings that the tokens and the policy of that file make, with such a log, no webhook and no endpoint.
-pub fn settings_of(
-    rt: &HostRuntime,
-    policy: &str,
-    max_event: u64,
-    log: SinkMode,
-) -> Option<Settings>
-    ensures { IfSome result (λ set. (set.max_event ≡ max_event) × (set.log ≡ log) × (set.hook ≡ Off)) }
-{
+/// The settings that the tokens and the policy of that file make, with no sink and no endpoint.
+pub fn settings_of(rt: &HostRuntime, policy: &str) -> Option<Settings> {
     let tokens = tokens_of(rt)?;
-    let policy = policy_of(rt, policy)?;
+    let Some(policy) = policy_of(rt, policy) else {
+        drop(tokens);
+        return None;
+    };
     Some(Settings {
         tokens,
         policy,
         endpoints: Endpoints::none(rt.alloc()),
-        max_event,
-        log,
+        max_event: 4_096,
+        log: SinkMode::Off,
         hook: SinkMode::Off,
     })
 }

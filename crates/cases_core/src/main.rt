@@ -1,60 +1,40 @@
-//! One exchange as values, its offers and its replies, over the cases of this folder's `data`, a case a line: how a request is
-//! recorded and answered, with the lines of its events; what becomes of an event that a log is offered; what a client
-//! gets of a backend's reply; and refusals. Each row is printed, and below it all that came of it.
+//! One exchange as values, over the cases of this folder's `data`, a case a line: how a request is recorded and answered, with
+//! the lines of its events. Each row is printed, and below it all that came of it.
 //!
-//! Stages and levels are those of Kubernetes' page on auditing, lines those of `Event` of `audit.k8s.io/v1`, and replies
-//! those of RFC 9110 and RFC 9112, worked out by hand.
+//! Stages and levels are those of Kubernetes' page on auditing, and lines those of `Event` of `audit.k8s.io/v1`, worked out by
+//! hand.
 #![tactic(auto)]
 
 mod fixtures;
-mod offered;
-mod replied;
 mod settled;
 
 use case_rows::{is_row, read_cases};
-use offered::show_offered;
-use replied::{show_refusal, show_replied};
 use settled::show_settled;
 use std::io;
 use std::process::ExitCode;
 
-// The files of cases, in the order in which they are shown.
-const FILES: [&str; 4] = ["settled.txt", "offered.txt", "replied.txt", "refusals.txt"];
-
-fn show_row(rt: &HostRuntime, name: &str, row: &str) -> io::Result<()> {
+fn show_row(rt: &HostRuntime, row: &str) -> io::Result<()> {
     println!(rt; "{row}")?;
-    match name {
-        "settled.txt" => show_settled(rt, row),
-        "offered.txt" => show_offered(rt, row),
-        "replied.txt" => show_replied(rt, row),
-        _ => show_refusal(rt, row),
-    }
+    show_settled(rt, row)
 }
 
-fn show_rows(rt: &HostRuntime, name: &str, text: &str) -> io::Result<()> {
-    println!(rt; "== {name}")?;
+fn show_rows(rt: &HostRuntime, text: &str) -> io::Result<()> {
+    println!(rt; "== settled.txt")?;
     for row in text.lines() {
         if is_row(row) {
-            show_row(rt, name, row)?;
+            show_row(rt, row)?;
         }
     }
     Ok(())
 }
 
-fn show_file(rt: &HostRuntime, name: &str) -> io::Result<()> {
-    let text = read_cases(rt, name)?;
-    show_rows(rt, name, text.as_str())
-}
-
-fn show_files(rt: &HostRuntime) -> io::Result<()> {
-    for name in FILES {
-        show_file(rt, name)?;
-    }
-    Ok(())
+fn show_file(rt: &HostRuntime) -> io::Result<()> {
+    let text = read_cases(rt, "settled.txt")?;
+    show_rows(rt, text.as_str())
 }
 
 fn main(rt: HostRuntime) -> ExitCode {
-    match show_files(&rt) {
+    match show_file(&rt) {
         Ok(()) => ExitCode::from(0),
         Err(_) => ExitCode::from(1),
     }

@@ -1,7 +1,7 @@
 use crate::fixtures::{field, request_of, settings_of, shown};
 use apiservice_rows::read_rows;
 use apiservice_table::{RouteTable, TableRoutes, read_rows_fit};
-use audit_core::{Answered, LineForm, LinkNote, Settings, SinkMode, Stamp, push_owed, settle};
+use audit_core::{Answered, LineForm, LinkNote, Settings, Stamp, push_owed, settle};
 use case_rows::read_cases;
 use front_base::{AuditId, Moment, NoMemory};
 use http_edge::Request;
@@ -34,36 +34,6 @@ fn routes_of(alloc: Global, services: &str) -> Option<TableRoutes> {
     TableRoutes::new(alloc, RouteTable::from_rows(alloc, rows).ok()?).ok()
 }
 
-// Answers a request, and keeps what is known of it.
-fn push_answered(
-    alloc: Global,
-    answers: &mut Vec<Answered>,
-    settings: &Settings,
-    routes: &mut TableRoutes,
-    request: &Request,
-) -> Result<(), NoMemory> {
-    let paths = LocalPaths::new(alloc)?;
-    let answered = settle(
-        alloc,
-        settings,
-        &paths,
-        routes,
-        &stamp(),
-        request,
-        LinkNote::Whole(200),
-        b"".as_slice(),
-    )?;
-    Ok(answers.push(answered)?)
-}
-
-fn answers_of(rt: &HostRuntime, settings: &Settings, request: &Request) -> Option<Vec<Answered>> {
-    let services = read_cases(rt, "services.json").ok()?;
-    let mut routes = routes_of(rt.alloc(), services.as_str())?;
-    let mut answers = Vec::new(rt.alloc());
-    push_answered(rt.alloc(), &mut answers, settings, &mut routes, request).ok()?;
-    Some(answers)
-}
-
 // The lines of the events, after what was there.
 fn lines_of(alloc: Global, answered: &Answered) -> Result<Vec<u8>, NoMemory> {
     let mut out = b"before\n".to_vec(alloc)?;
@@ -76,31 +46,77 @@ fn lines_of(alloc: Global, answered: &Answered) -> Result<Vec<u8>, NoMemory> {
 }
 
 fn show_answered(rt: &HostRuntime, answered: &Answered) -> io::Result<()> {
-    println!(rt; "  {:?}", answered.decision)?;
-    println!(rt; "  {:?}", answered.handling)?;
+    println!(rt; "  {:?}\n  {:?}", answered.decision, answered.handling)?;
     match lines_of(rt.alloc(), answered) {
         Ok(lines) => print!(rt; "{}", shown(lines.as_slice())),
         Err(_) => println!(rt; "  out of memory"),
     }
 }
 
-fn show_answers(rt: &HostRuntime, answers: &[Answered]) -> io::Result<()> {
-    for answered in answers {
-        show_answered(rt, answered)?;
-    }
-    Ok(())
+fn answer(
+    alloc: Global,
+    settings: &Settings,
+    paths: &LocalPaths,
+    routes: &mut TableRoutes,
+    request: &Request,
+) -> Result<Answered, NoMemory> {
+    settle(
+        alloc,
+        settings,
+        paths,
+        routes,
+        &stamp(),
+        request,
+        LinkNote::Whole(200),
+        b"".as_slice(),
+    )
 }
 
-fn show_request(rt: &HostRuntime, settings: &Settings, request: &Request) -> io::Result<()> {
-    match answers_of(rt, settings, request) {
-        Some(answers) => show_answers(rt, answers.as_slice()),
+fn show_routed(
+    rt: &HostRuntime,
+    settings: &Settings,
+    routes: &mut TableRoutes,
+    request: &Request,
+) -> io::Result<()> {
+    let Ok(paths) = LocalPaths::new(rt.alloc()) else {
+        return println!(rt; "  no answer");
+    };
+    let answered = answer(rt.alloc(), settings, &paths, routes, request);
+    drop(paths);
+    match answered {
+        Ok(answered) => {
+            let shown = show_answered(rt, &answered);
+            drop(answered);
+            shown
+        }
+        Err(_) => println!(rt; "  no answer"),
+    }
+}
+
+fn show_request(
+    rt: &HostRuntime,
+    services: &str,
+    settings: &Settings,
+    request: &Request,
+) -> io::Result<()> {
+    match routes_of(rt.alloc(), services) {
+        Some(mut routes) => {
+            let shown = show_routed(rt, settings, &mut routes, request);
+            drop(routes);
+            shown
+        }
         None => println!(rt; "  no answer"),
     }
 }
 
 fn show_by(rt: &HostRuntime, row: &str, settings: &Settings) -> io::Result<()> {
+    let services = read_cases(rt, "services.json")?;
     match request_of(rt.alloc(), field(row, 0), field(row, 1)) {
-        Some(request) => show_request(rt, settings, &request),
+        Some(request) => {
+            let shown = show_request(rt, services.as_str(), settings, &request);
+            drop(request);
+            shown
+        }
         None => println!(rt; "  no request"),
     }
 }
@@ -115,8 +131,12 @@ fn policy_of(row: &str) -> &str {
 
 /// How a request is recorded and answered, and the lines of its events. A row has the head, the body and the policy.
 pub fn show_settled(rt: &HostRuntime, row: &str) -> io::Result<()> {
-    match settings_of(rt, policy_of(row), 4_096, SinkMode::Off) {
-        Some(settings) => show_by(rt, row, &settings),
+    match settings_of(rt, policy_of(row)) {
+        Some(settings) => {
+            let shown = show_by(rt, row, &settings);
+            drop(settings);
+            shown
+        }
         None => println!(rt; "  no settings"),
     }
 }

@@ -1,9 +1,8 @@
 ghost use Rattle.std.specs.Prelude.{IfSome};
-ghost use Rattle.std.specs.List.{All};
 ghost use Rattle.exchange_replies.specs.Statuses.{IsFinalHandling};
 ghost use Rattle.front_ports.specs.Memory.{IsUnused};
 
-use crate::fixtures::{ann, field, request_of};
+use crate::fixtures::{ann, field};
 use audit_core::Handling;
 use case_rows::{bytes_of, spelled};
 use exchange_replies::{forward, refusal_text, reply_to};
@@ -11,6 +10,7 @@ use forward_link::Target;
 use front_base::{Address, AuditId, Bytes};
 use front_ports::{MemBytes, MemDial, MemLink, Script};
 use http_edge::Request;
+use http_head::{HeadAnswer, read_request};
 use stage_event::Show;
 use std::alloc::Global;
 use std::io;
@@ -20,6 +20,16 @@ const ID: AuditId = AuditId {
     bay: 0,
     number: 2,
 };
+
+fn request_of(alloc: Global, head: &str) -> Option<Request> {
+    match read_request(alloc, bytes_of(alloc, head).as_slice()) {
+        Ok(HeadAnswer::Whole { head, .. }) => Some(Request {
+            head,
+            body: Bytes::new(Vec::new(alloc)),
+        }),
+        _ => None,
+    }
+}
 
 // A backend that sends what the field spells.
 fn link_of(alloc: Global, reply: &str) -> Option<MemLink>
@@ -40,20 +50,6 @@ fn dial_of(alloc: Global, reply: &str) -> Option<MemDial> {
     MemDial::new(alloc, links, Vec::new(alloc)).ok()
 }
 
-// The one handling: the request is sent on.
-fn handlings(alloc: Global) -> Vec<Handling>
-    ensures { All IsFinalHandling result.items }
-{
-    let address = Address {
-        ip: [127, 0, 0, 1],
-        port: 9001,
-    };
-    match vec![in alloc; Handling::Proxied(Target::Delegate { address })] {
-        Ok(handlings) => handlings,
-        Err(_) => Vec::new(alloc),
-    }
-}
-
 // How the link is noted, how the reply ends, and what is kept of it.
 fn show_sent(
     rt: &HostRuntime,
@@ -66,7 +62,9 @@ fn show_sent(
 {
     let alloc = rt.alloc();
     let user = ann(alloc);
-    match forward(alloc, dial, request, &user, ID, handling, false) {
+    let sent = forward(alloc, dial, request, &user, ID, handling, false);
+    drop(user);
+    match sent {
         Ok(sent) => {
             let note = sent.note();
             let end = reply_to(alloc, dial, out, request, ID, handling, sent, Show::Whole);
@@ -76,50 +74,55 @@ fn show_sent(
     }
 }
 
-fn show_each(
-    rt: &HostRuntime,
-    request: &Request,
-    dial: &mut MemDial,
-    out: &mut MemBytes,
-    handlings: &[Handling],
-) -> io::Result<()>
-    requires { All IsFinalHandling handlings.now }
-{
-    for handling in handlings {
-        show_sent(rt, request, dial, out, handling)?;
-    }
-    println!(rt; "  {}", spelled(rt.alloc(), out.bytes()))
-}
-
+// The request is sent on.
 fn show_client(
     rt: &HostRuntime,
     request: &Request,
     dial: &mut MemDial,
     out: &mut MemBytes,
 ) -> io::Result<()> {
-    let handlings = handlings(rt.alloc());
-    show_each(rt, request, dial, out, handlings.as_slice())
+    let address = Address {
+        ip: [127, 0, 0, 1],
+        port: 9001,
+    };
+    let handling = Handling::Proxied(Target::Delegate { address });
+    let shown = show_sent(rt, request, dial, out, &handling);
+    drop(handling);
+    shown?;
+    println!(rt; "  {}", spelled(rt.alloc(), out.bytes()))
 }
 
 fn show_over(rt: &HostRuntime, request: &Request, dial: &mut MemDial) -> io::Result<()> {
     let alloc = rt.alloc();
     match MemBytes::new(alloc, 10_000, Vec::new(alloc)) {
-        Ok(mut out) => show_client(rt, request, dial, &mut out),
+        Ok(mut out) => {
+            let shown = show_client(rt, request, dial, &mut out);
+            drop(out);
+            shown
+        }
         Err(_) => println!(rt; "  out of memory"),
     }
 }
 
 fn show_request(rt: &HostRuntime, row: &str, request: &Request) -> io::Result<()> {
     match dial_of(rt.alloc(), field(row, 1)) {
-        Some(mut dial) => show_over(rt, request, &mut dial),
+        Some(mut dial) => {
+            let shown = show_over(rt, request, &mut dial);
+            drop(dial);
+            shown
+        }
         None => println!(rt; "  out of memory"),
     }
 }
 
 /// What a client gets of a backend's reply. A row has the head of the request, and the reply.
 pub fn show_replied(rt: &HostRuntime, row: &str) -> io::Result<()> {
-    match request_of(rt.alloc(), field(row, 0), "") {
-        Some(request) => show_request(rt, row, &request),
+    match request_of(rt.alloc(), field(row, 0)) {
+        Some(request) => {
+            let shown = show_request(rt, row, &request);
+            drop(request);
+            shown
+        }
         None => println!(rt; "  no request"),
     }
 }

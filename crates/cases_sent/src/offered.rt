@@ -1,21 +1,43 @@
 ghost use Rattle.std.specs.Prelude.{◌≡◌, ◌≤◌, IfSome};
 ghost use Rattle.audit_core.specs.declared.sinks.SinkMode.TheVariants as SinkMode;
 
-use crate::fixtures::{ann, field, settings_of, shown, text_of};
+use crate::fixtures::{ann, field, text_of};
 use audit_core::{Settings, SinkMode};
 use event_offers::{Lanes, offer_stage};
 use front_base::{AuditId, Info, Level, Moment, NoMemory, Stage};
 use front_ports::MemBytes;
 use log_sink::LogSink;
-use policy_rules::{Decision, Omit};
+use policy_rules::{Decision, Omit, Policy};
+use service_endpoints::Endpoints;
 use stage_event::Facts;
 use std::alloc::Global;
 use std::io;
+use token_users::read_tokens;
 use truncate_backend::{NoNotes, OwnLane};
 
 type OwnLog = OwnLane<LogSink<MemBytes, NoNotes>>;
 
 type OwnLanes = Lanes<OwnLog, OwnLog>;
+
+// The settings of a log whose lines have so many bytes at most, with no webhook.
+fn settings_of(alloc: Global, max_event: u64) -> Option<Settings>
+    ensures { IfSome result (λ set.
+        (set.max_event ≡ max_event) × (set.log ≡ SinkMode.Blocking) × (set.hook ≡ SinkMode.Off)) }
+{
+    let tokens = read_tokens(alloc, b"".as_slice()).ok()?;
+    let Ok(policy) = Policy::all_metadata(alloc) else {
+        drop(tokens);
+        return None;
+    };
+    Some(Settings {
+        tokens,
+        policy,
+        endpoints: Endpoints::none(alloc),
+        max_event,
+        log: SinkMode::Blocking,
+        hook: SinkMode::Off,
+    })
+}
 
 // A request for `/healthz`.
 fn info(alloc: Global) -> Info {
@@ -48,14 +70,6 @@ fn facts(alloc: Global) -> Facts {
         text_of(alloc, ""),
         Moment::epoch(),
     )
-}
-
-// One arrival.
-fn arrivals(alloc: Global) -> Vec<Facts> {
-    match vec![in alloc; facts(alloc)] {
-        Ok(arrivals) => arrivals,
-        Err(_) => Vec::new(alloc),
-    }
 }
 
 fn decision() -> Decision {
@@ -101,11 +115,20 @@ fn lanes_of(alloc: Global, fails: Vec<u64>) -> Option<OwnLanes>
     })
 }
 
+// The lines of a log as they are printed.
+fn lines(bytes: &[u8]) -> &str {
+    str::from_utf8(bytes).unwrap_or("not UTF-8")
+}
+
 fn show_lanes(rt: &HostRuntime, lanes: &OwnLanes) -> io::Result<()> {
     let bytes = lanes.log.sink.out().bytes();
-    println!(rt; "  {} lines, {} bytes", lanes.log_lines, bytes.len())?;
-    print!(rt; "{}", shown(bytes))?;
-    println!(rt; "  {} to the webhook", lanes.hook_lines)
+    println!(rt;
+        "  {} lines, {} bytes\n{}  {} to the webhook",
+        lanes.log_lines,
+        bytes.len(),
+        lines(bytes),
+        lanes.hook_lines
+    )
 }
 
 // What becomes of the event of an arrival.
@@ -152,11 +175,10 @@ fn show_bay(rt: &HostRuntime, settings: &Settings, lanes: &mut OwnLanes) -> io::
     requires sinks { (settings.now.log ≡ SinkMode.Blocking) × (settings.now.hook ≡ SinkMode.Off) }
     requires lines { (lanes.old.log_lines ≡ 7) × (lanes.old.hook_lines ≡ 0) }
 {
-    let arrivals = arrivals(rt.alloc());
-    match arrivals.first() {
-        Some(facts) => show_arrival(rt, settings, lanes, facts),
-        None => println!(rt; "  out of memory"),
-    }
+    let facts = facts(rt.alloc());
+    let shown = show_arrival(rt, settings, lanes, &facts);
+    drop(facts);
+    shown
 }
 
 fn show_by(rt: &HostRuntime, row: &str, settings: &Settings) -> io::Result<()>
@@ -164,7 +186,11 @@ fn show_by(rt: &HostRuntime, row: &str, settings: &Settings) -> io::Result<()>
     requires sinks { (settings.now.log ≡ SinkMode.Blocking) × (settings.now.hook ≡ SinkMode.Off) }
 {
     match lanes_of(rt.alloc(), fails_of(rt.alloc(), field(row, 1))) {
-        Some(mut lanes) => show_bay(rt, settings, &mut lanes),
+        Some(mut lanes) => {
+            let shown = show_bay(rt, settings, &mut lanes);
+            drop(lanes);
+            shown
+        }
         None => println!(rt; "  out of memory"),
     }
 }
@@ -172,8 +198,12 @@ fn show_by(rt: &HostRuntime, row: &str, settings: &Settings) -> io::Result<()>
 /// What becomes of an event that a log is offered. A row has the most bytes of a line, and the write that fails.
 pub fn show_offered(rt: &HostRuntime, row: &str) -> io::Result<()> {
     let most: u64 = field(row, 0).parse().unwrap_or(0);
-    match settings_of(rt, "metadata.json", most.min(4_194_304), SinkMode::Blocking) {
-        Some(settings) => show_by(rt, row, &settings),
+    match settings_of(rt.alloc(), most.min(4_194_304)) {
+        Some(settings) => {
+            let shown = show_by(rt, row, &settings);
+            drop(settings);
+            shown
+        }
         None => println!(rt; "  no settings"),
     }
 }
