@@ -1,13 +1,16 @@
 //! Cases of `explain` and of a rehearsal's plan: runs over an input that comes in pieces and an output that takes some, with
 //! the status and the bytes of each; runs of many requests over one table of APIs, with what each request comes to; the
-//! statuses; and the requests and the summary of a rehearsal. Each file of `data` holds the cases of one matter, one a line;
-//! a row is printed with what comes of it, and standard output is compared byte by byte.
+//! statuses; the requests and the summary of a rehearsal; runs that are refused, or leave events out, with what standard error
+//! says of each; and the ports between `explain` and the system, also where they fail. Each file of `data` holds the cases of one
+//! matter, one a line; a row is printed with what comes of it, and standard output is compared byte by byte.
 //!
 //! The expected values are worked out by hand: events from `audit.k8s.io/v1` and the policies of kube-apiserver's audit,
 //! codes from `apiregistration.k8s.io/v1`, refused requests from RFC 9112, and a rehearsal's from the kinds of its requests.
 #![tactic(auto)]
 
 mod plans;
+mod ports;
+mod refusals;
 mod run;
 mod talks;
 mod trickle;
@@ -20,7 +23,7 @@ use std::process::ExitCode;
 // The files of cases that are runs of many requests, and then those whose rows stand alone.
 const TALKS: &str = "routes.txt\ncodes.txt\n";
 
-const MATTERS: &str = "runs.txt\nstatuses.txt\nplans.txt\nbays.txt\n";
+const MATTERS: &str = "runs.txt\nstatuses.txt\nplans.txt\nbays.txt\nrefused.txt\nports.txt\n";
 
 fn status_of(code: u8) -> Option<Status> {
     match code {
@@ -52,7 +55,9 @@ fn answer(rt: &HostRuntime, matter: &str, row: &str) -> Result<String, AllocErro
         "runs.txt" => run::answer(rt, row),
         "statuses.txt" => status(alloc, row),
         "plans.txt" => plans::plan(alloc, row),
-        _ => plans::bays(alloc, row),
+        "bays.txt" => plans::bays(alloc, row),
+        "refused.txt" => refusals::answer(rt, row),
+        _ => ports::answer(rt, row),
     }
 }
 

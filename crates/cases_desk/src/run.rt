@@ -21,8 +21,8 @@ pub struct Ran {
     pub output: Vec<u8>,
 }
 
-// The words of a command line after the program's name.
-fn words_of(alloc: Global, line: &str) -> Result<Vec<String>, AllocError> {
+/// The words of a command line after the program's name.
+pub fn words_of(alloc: Global, line: &str) -> Result<Vec<String>, AllocError> {
     let mut words = Vec::new(alloc);
     for word in line.split(' ').skip(1) {
         words.push(String::from_str(alloc, word)?)?;
@@ -74,15 +74,14 @@ pub fn run(rt: &HostRuntime, line: &str, input: Vec<u8>, settings: &str) -> Resu
     let words = words_of(alloc, line)?;
     let mut source = source_of(alloc, input, settings)?;
     let mut out = sink_of(alloc, settings);
-    let ended = run_desk(
-        alloc,
-        &words,
-        &mut SystemFiles::new(rt),
-        &mut source,
-        &mut out,
-    );
+    let mut files = SystemFiles::new(rt);
+    let ended = run_desk(alloc, &words, &mut files, &mut source, &mut out);
+    let status = ended.status.code();
+    drop(ended);
+    drop(source);
+    drop(files);
     Ok(Ran {
-        status: ended.status.code(),
+        status,
         output: out.bytes,
     })
 }
