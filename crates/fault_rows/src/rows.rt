@@ -1,0 +1,41 @@
+use crate::lines::{ended_line, refused_line};
+use crate::runs::{Run, run_row};
+use case_rows::{is_row, read_cases};
+use std::alloc::Global;
+use std::io;
+use std::sync::Wait;
+use std::thread::Threads;
+
+// The line of a row's run. None where memory ran out.
+fn line_of<R: Threads + Wait + Copy + Send + Sync + Drop>(
+    threads: &R,
+    alloc: Global,
+    script: &str,
+    row: &str,
+) -> Option<String> {
+    match run_row(threads, alloc, script, row) {
+        Some(Run::Ended(ended)) => ended_line(alloc, row, &ended),
+        Some(Run::Refused(status)) => refused_line(alloc, row, status),
+        None => None,
+    }
+}
+
+/// Runs each row of that file over the script of the other one, and writes a line of it.
+pub fn run_rows<R: Threads + Wait + Copy + Send + Sync + Drop>(
+    rt: &HostRuntime,
+    threads: &R,
+    script: &str,
+    rows: &str,
+) -> io::Result<()> {
+    let script = read_cases(rt, script)?;
+    let rows = read_cases(rt, rows)?;
+    for row in rows.lines() {
+        if is_row(row) {
+            match line_of(threads, rt.alloc(), script.as_str(), row) {
+                Some(line) => println!(rt; "{line}")?,
+                None => println!(rt; "{row}: no run")?,
+            }
+        }
+    }
+    Ok(())
+}
