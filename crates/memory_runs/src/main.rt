@@ -14,8 +14,13 @@ use explained::explains;
 use served::serves;
 use std::io;
 use std::process::ExitCode;
+use std::sync::Wait;
+use std::thread::Threads;
 
-fn told(rt: &HostRuntime) -> io::Result<(bool, bool)> {
+fn told<R: Threads + Wait + Copy + Send + Sync + Drop>(
+    rt: &HostRuntime,
+    threads: &R,
+) -> io::Result<(bool, bool)> {
     let alloc = rt.alloc();
     let script = read_cases(rt, "script.txt")?;
     let log = read_cases(rt, "log.txt")?;
@@ -23,7 +28,7 @@ fn told(rt: &HostRuntime) -> io::Result<(bool, bool)> {
     let lines = read_cases(rt, "lines.txt")?;
     Ok((
         explains(alloc, requests.as_str(), lines.as_str()),
-        serves(rt, alloc, script.as_str(), log.as_str()),
+        serves(threads, alloc, script.as_str(), log.as_str()),
     ))
 }
 
@@ -36,7 +41,7 @@ fn word(kept: bool) -> &'static str {
 }
 
 fn main(rt: HostRuntime) -> ExitCode {
-    let (explain, serve) = match told(&rt) {
+    let (explain, serve) = match told(&rt, &rt) {
         Ok(told) => told,
         Err(_) => (true, true),
     };
