@@ -1,9 +1,8 @@
 -- A run of the command `check`.
-use Rattle.std.specs.Prelude.{◌≡◌, ◌≢◌, ℕ, ◌⊎◌, List, Option, Some, None}
+use Rattle.std.specs.Prelude.{◌≡◌, ℕ, ◌⊎◌, List, Option, Some, None}
 use Rattle.std.specs.Io.KnownBytes.{Appends}
 use Rattle.check_command.specs.Answer.{answer_text}
 use Rattle.check_command.specs.Config.{Configures, IsRefused}
-use Rattle.front_ports.specs.Cause.{Rose}
 use Rattle.front_ports.specs.Written.{AppendsFront}
 use Rattle.log_check.specs.Checks.{Checks}
 use Rattle.log_check.specs.declared.check.CheckEnd.{CheckEnd}
