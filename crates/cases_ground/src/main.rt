@@ -117,7 +117,11 @@ fn print_file(rt: &HostRuntime, file: &str) -> Option<()> {
 
 // Prints what four bays and two drainers have done, each in a thread of its own.
 fn print_roles<R: Threads + Wait + Sync>(rt: &HostRuntime, threads: &R) -> Option<()> {
-    print!(rt; "== roles\n4 bays, 2 drainers => {:?}\n", run_all(threads, rt.alloc())).ok()
+    print!(rt;
+        "== roles\n4 bays, 2 drainers => {:?}\n",
+        run_all(threads, rt.alloc())
+    )
+    .ok()
 }
 
 fn main(rt: HostRuntime) -> ExitCode {

@@ -191,11 +191,7 @@ fn show_clock(out: &mut String, row: &str) -> Result<(), NoMemory> {
     let (start, step) = fields(row);
     let start = Moment::new(number_of(start.as_bytes()).unwrap_or(0)).unwrap_or(Moment::epoch());
     let step = number_of(step.as_bytes()).unwrap_or(0);
-    Ok(write!(
-        out,
-        "{:?}",
-        four_moments(&mut MemClock::new(start, step))
-    )?)
+    Ok(write!(out, "{:?}", four_moments(&mut MemClock::new(start, step)))?)
 }
 
 /// What ports answer, for a file whose name begins with `port_`.

@@ -74,7 +74,10 @@ fn done_by(bays: &[Worker]) -> u64 {
 }
 
 /// How much four bays have done that had 1 to 4 to do, and how many bays each of two drainers has seen end.
-pub fn run_all<R: Threads + Wait + Sync>(threads: &R, alloc: Global) -> Option<(u64, usize, usize)> {
+pub fn run_all<R: Threads + Wait + Sync>(
+    threads: &R,
+    alloc: Global,
+) -> Option<(u64, usize, usize)> {
     match run_roles(threads, alloc, roles(alloc)) {
         Ok(ran) => Some((
             done_by(ran.bays.as_slice()),
