@@ -1,9 +1,8 @@
 // What the tests of several kinds call.
 use front_base::Address;
-use front_ports::{Door, PortFault, Source};
+use front_ports::{PortFault, Source};
 use std::io;
 use std::net::{IpAddr, Ipv4Addr, Net, SocketAddr, TcpListener, TcpStream};
-use std::test::Fail;
 use std::time::{Clock, Instant};
 use tcp_ports::{DEFAULT_LIMITS, SharedListener, TcpLimits};
 
@@ -53,14 +52,6 @@ pub(crate) fn listen<R: Net<Listener = TcpListener, Stream = TcpStream>>(
 
 pub(crate) fn connect<R: Net<Stream = TcpStream>>(rt: &R, to: Address) -> io::Result<TcpStream> {
     TcpStream::connect(rt, socket_addr_of(to))
-}
-
-// The next connection of a door.
-pub(crate) fn next_of<D: Door>(door: &mut D) -> Result<D::C, Fail> {
-    match door.next()? {
-        Some(conn) => Ok(conn),
-        None => Err(Fail::from("no connection")),
-    }
 }
 
 pub(crate) fn millis_since<R: Clock>(rt: &R, start: &Instant) -> io::Result<u64> {

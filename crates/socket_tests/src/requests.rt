@@ -3,6 +3,7 @@
 use crate::common::{connect, listen, read_out};
 use front_base::Address;
 use front_ports::{Conn, Door, PortFault, Source, write_all};
+use std::alloc::Global;
 use std::io::{Read, Write};
 use std::net::{Shutdown, TcpStream};
 use std::test::Fail;
@@ -32,17 +33,19 @@ fn byte_of(letter: u8) -> u8 {
     }
 }
 
-// Sends a row, without bars.
-fn send(client: &mut TcpStream, row: &str) -> io::Result<()> {
-    let mut bytes = [0u8; 512];
-    let mut len = 0usize;
+// The bytes of a row, without bars. One that memory refuses is left out.
+fn bytes_of(alloc: Global, row: &str) -> Vec<u8> {
+    let mut bytes = Vec::new(alloc);
     for letter in row.as_bytes() {
-        if *letter != b'|' && len < bytes.len() {
-            bytes[len] = byte_of(*letter);
-            len += 1;
+        if *letter != b'|' {
+            let _pushed = bytes.push(byte_of(*letter));
         }
     }
-    client.write_all(bytes.get(..len).unwrap_or_default())
+    bytes
+}
+
+fn send(rt: &HostRuntime, client: &mut TcpStream, row: &str) -> io::Result<()> {
+    client.write_all(bytes_of(rt.alloc(), row).as_slice())
 }
 
 // Reads until the time of the connection has passed. Its client ends after that, and waits for no linger.
@@ -71,7 +74,7 @@ fn gets(
     want: &str,
 ) -> io::Result<bool> {
     let mut client = connect(rt, at)?;
-    send(&mut client, row)?;
+    send(rt, &mut client, row)?;
     let waited = wait_for(rt, door, &client);
     Ok(waited && io::read_to_string(rt.alloc(), client)?.as_str() == want)
 }
@@ -84,6 +87,23 @@ PUT / HTTP/1.1>Expect:100-continue>Content-Length:9<>>|>>
 ><>PUT / HTTP/1.1>Expect:100-continue>Content-Length:9><>|GET
 <<PUT / HTTP/1.1<>Expect:100-continue<>Content-Length:9><>|";
 
+// Whether the head of a row ends at its bar, and no byte before it.
+fn ends_at_bar(
+    rt: &HostRuntime,
+    door: &mut TcpDoor<'_, HostRuntime>,
+    at: Address,
+    row: &str,
+) -> io::Result<bool> {
+    let (head, rest) = row.split_once('|').unwrap_or(("", row));
+    let before = head.strip_suffix('>').unwrap_or(head);
+    let all = if rest.is_empty() { CONTINUE } else { "" };
+    Ok(
+        gets(rt, door, at, before, "")?
+            && gets(rt, door, at, head, CONTINUE)?
+            && gets(rt, door, at, row, all)?,
+    )
+}
+
 // The first row whose head doesn't end at its bar.
 fn wrong_head(
     rt: &HostRuntime,
@@ -91,14 +111,7 @@ fn wrong_head(
     at: Address,
 ) -> io::Result<&'static str> {
     for row in HEADS.lines() {
-        let head_len = row.find('|').unwrap_or(0);
-        let before = row.get(..head_len.saturating_sub(1)).unwrap_or("");
-        let head = row.get(..head_len).unwrap_or("");
-        let all = if row.ends_with('|') { CONTINUE } else { "" };
-        if !gets(rt, door, at, before, "")?
-            || !gets(rt, door, at, head, CONTINUE)?
-            || !gets(rt, door, at, row, all)?
-        {
+        if !ends_at_bar(rt, door, at, row)? {
             return Ok(row);
         }
     }
@@ -158,7 +171,7 @@ const PUT: &str = "PUT / HTTP/1.1<>Expect: 100-continue<>Content-Length: 4<><>";
 
 // Sends a body in two pieces once the interim reply has come.
 fn send_pieces(rt: &HostRuntime, client: &mut TcpStream) -> io::Result<()> {
-    send(client, PUT)?;
+    send(rt, client, PUT)?;
     client.read_exact(&mut [0u8; 25])?;
     client.write_all(b"ab")?;
     thread::sleep(rt, Duration::from_millis(20));
@@ -243,7 +256,7 @@ fn end_after(
     row: &str,
 ) -> Option<(bool, u64)> {
     let mut client = connect(rt, at).ok()?;
-    send(&mut client, row).ok()?;
+    send(rt, &mut client, row).ok()?;
     serve_after(rt, door, at, client)
 }
 
@@ -261,19 +274,35 @@ GET / HTTP/1.1<><>||PUT / HTTP/1.1<>Content-Length: 3<><>
 GET / HTTP/1.1<><>||PUT / HTTP/1.1<>Content-Length: 3<><>ab
 PUT / HTTP/1.1<>Content-Length: 3<><>abc||PUT / HTTP/1.1<>Transfer-Encoding: chunked<><>3<>abc<>0<>";
 
+// How a row's connection ends: whether that is a fault, and after how many milliseconds at least.
+fn end_of(row: &str) -> (bool, u64) {
+    if row.contains("||") {
+        (true, HASTY.stall_timeout)
+    } else if row.contains('|') {
+        (true, HASTY.read_header_timeout)
+    } else {
+        (false, 0)
+    }
+}
+
+fn ends_right(
+    rt: &HostRuntime,
+    door: &mut TcpDoor<'_, HostRuntime>,
+    at: Address,
+    row: &str,
+) -> bool {
+    let (fails, least) = end_of(row);
+    match end_after(rt, door, at, row) {
+        Some((failed, spent)) => failed == fails && spent >= least,
+        None => false,
+    }
+}
+
 // The first row whose connection doesn't end as it should.
 fn wrong_end(rt: &HostRuntime, door: &mut TcpDoor<'_, HostRuntime>, at: Address) -> &'static str {
     for row in ANSWERED.lines() {
-        let (fails, least) = if row.contains("||") {
-            (true, HASTY.stall_timeout)
-        } else if row.contains('|') {
-            (true, HASTY.read_header_timeout)
-        } else {
-            (false, 0)
-        };
-        match end_after(rt, door, at, row) {
-            Some((failed, spent)) if failed == fails && spent >= least => {}
-            _ => return row,
+        if !ends_right(rt, door, at, row) {
+            return row;
         }
     }
     "none"
