@@ -1,33 +1,13 @@
-use crate::parts::parts_of;
-use apiservice_table::TableRoutes;
 use case_rows::{read_cases, spelled};
-use front_base::Address;
-use front_plants::MemPlant;
-use front_ports::{MemBytes, MemDial};
-use log_sink::LogSink;
-use proxy_runs::{can_run, run_configured, settings_of};
-use proxy_server::SystemFiles;
-use serve_config::{ServeConfig, configure_serve};
-use serve_runs::Ended;
 use std::alloc::{AllocError, Global};
 use std::sync::Wait;
 use std::thread::Threads;
-use truncate_backend::MemNotes;
-use webhook_sink::WebhookSink;
+use whole_runs::{WorldEnd, WorldHook, WorldLog, run_world};
+use world_parts::World;
 
-type Log = LogSink<MemBytes, MemNotes>;
-
-type Hook = WebhookSink<MemDial, MemNotes>;
-
-// What is run, over files of this folder's `data`.
-const WORDS: &str =
-    "serve --bays=1 --token-auth-file=tokens.csv --audit-policy-file=policy.json --apiservices=services.json \
---endpoints=endpoints.csv --audit-log-path=log --audit-webhook-url=http://127.0.0.1:9400/ --batch-max-size=2";
-
-const LISTEN: Address = Address {
-    ip: [127, 0, 0, 1],
-    port: 8001,
-};
+// Both sinks of each run: the log is written to at once, and the webhook in batches.
+const SINKS: &str =
+    "--audit-log-path=log --audit-webhook-url=http://127.0.0.1:9400/ --batch-max-size=2";
 
 /// What the sinks of a run were sent: the log its lines, the webhook its posts, a line each, as `case_rows` spells bytes.
 #[derive(Drop)]
@@ -36,15 +16,7 @@ pub struct Sent {
     pub posts: String,
 }
 
-fn words_of(alloc: Global) -> Result<Vec<String>, AllocError> {
-    let mut words = Vec::new(alloc);
-    for word in WORDS.split(' ') {
-        words.push(String::from_str(alloc, word)?)?;
-    }
-    Ok(words)
-}
-
-fn log_text(alloc: Global, logs: &[Log]) -> Result<String, AllocError> {
+fn log_text(alloc: Global, logs: &[WorldLog]) -> Result<String, AllocError> {
     let mut text = String::new(alloc);
     for log in logs {
         text.push_str(str::from_utf8(log.out().bytes()).unwrap_or("not UTF-8\n"))?;
@@ -52,7 +24,7 @@ fn log_text(alloc: Global, logs: &[Log]) -> Result<String, AllocError> {
     Ok(text)
 }
 
-fn posts_text(alloc: Global, hook: &Hook) -> Result<String, AllocError> {
+fn posts_text(alloc: Global, hook: &WorldHook) -> Result<String, AllocError> {
     let mut text = String::new(alloc);
     for call in hook.dial().calls().unwrap_or(&[]) {
         text.push_str(spelled(alloc, call.sent.as_slice()).as_str())?;
@@ -61,42 +33,38 @@ fn posts_text(alloc: Global, hook: &Hook) -> Result<String, AllocError> {
     Ok(text)
 }
 
-fn sent_of<R: Drop, L: Drop, K: Drop, Y: Drop, D: Drop>(
-    alloc: Global,
-    ended: Ended<R, L, Log, Hook, K, Y, D>,
-) -> Option<Sent> {
-    let drain = ended.hook.drain.as_ref()?;
-    Some(Sent {
-        log: log_text(alloc, ended.log.own.as_slice()).ok()?,
-        posts: posts_text(alloc, &drain.sink).ok()?,
-    })
+fn texts_of(alloc: Global, logs: &[WorldLog], hook: &WorldHook) -> Option<Sent> {
+    let log = log_text(alloc, logs).ok()?;
+    let posts = posts_text(alloc, hook).ok()?;
+    Some(Sent { log, posts })
 }
 
-fn configured(rt: &HostRuntime) -> Option<ServeConfig> {
-    let words = words_of(rt.alloc()).ok()?;
-    configure_serve(rt.alloc(), &words, &mut SystemFiles::new(rt)).ok()
+fn sent_of(alloc: Global, ended: &WorldEnd) -> Option<Sent> {
+    match &ended.hook.drain {
+        Some(drain) => texts_of(alloc, ended.log.own.as_slice(), &drain.sink),
+        None => None,
+    }
 }
 
-fn plant_of<R>(threads: &R, alloc: Global, world: &str) -> Option<MemPlant<R>> {
-    let parts = parts_of(alloc, world).ok()?;
-    MemPlant::new(threads, alloc, parts).ok()
-}
-
-/// Runs `serve` over the world of that file. None where memory or a file is wanting.
-pub fn run_world<R: Threads + Wait + Copy + Send + Sync + Drop>(
+/// Runs `serve` by the policy of one file with the requests of another one. None where memory or a file is wanting.
+pub fn run_file<R: Threads + Wait + Copy + Send + Sync + Drop>(
     rt: &HostRuntime,
     threads: &R,
     name: &str,
+    policy: &str,
 ) -> Option<Sent> {
     let alloc = rt.alloc();
-    let world = read_cases(rt, name).ok()?;
-    let mut plant = plant_of(threads, alloc, world.as_str())?;
-    let ServeConfig { words, loaded } = configured(rt)?;
-    if words.bays != 1 || !can_run(&words) {
-        return None;
-    }
-    let (settings, table) = settings_of(&words, loaded);
-    let routes = vec![in alloc; TableRoutes::new(alloc, table).ok()?].ok()?;
-    let ended = run_configured(threads, alloc, &words, settings, LISTEN, routes, &mut plant);
-    sent_of(alloc, ended)
+    let requests = read_cases(rt, name).ok()?;
+    let options = format!(in alloc; "{SINKS} --audit-policy-file={policy}").ok()?;
+    let world = World {
+        options: options.as_str(),
+        requests: requests.as_str(),
+        allotment: 1_000,
+        log_fails: "",
+        posts: "200 200 200 200 200 200 200 200",
+    };
+    let ended = run_world(rt, threads, &world)?;
+    let sent = sent_of(alloc, &ended);
+    drop(ended);
+    sent
 }
