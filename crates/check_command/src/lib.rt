@@ -1,7 +1,8 @@
 //! The command `check`: whether a log of audit events conforms to the policy of a file.
 //!
-//! The main contract is that of `run_check`. Its answer is 0 exactly where the whole input is lines that conform, and 10 exactly where one
-//! doesn't, with the number and the reason of the first such line; it says what was written with each status.
+//! The main contract is that of `run_check`. Its answer is 0 only where the whole input is lines that conform, and 10 only where one
+//! doesn't, with the number and the reason of the first such line. Else a call failed, memory ran out, or 2^48 lines conform and more
+//! follow. It says what was written with each status.
 //!
 //! Nothing is promised of which word is told of words that are no command line, nor of what a real file or standard input holds.
 #![tactic(auto)]

@@ -87,11 +87,11 @@ lines, which are folded here:
 const CHECK_HELP: &str = r#"Usage: apiaggd check [OPTION].. < LOG
 
 Says whether a log of audit events conforms to an audit policy: whether each
-line is one that a server with that policy writes of some request, after the
-lines before it. Lines that were taken out are not found, nor is a line that
-was made another one that conforms. Reads the lines from standard input, as
-'serve' and 'explain' write them. Of a log that was rotated all files are read
-in their order, as by cat.
+line is spelled as a server writes it, agrees with its request and with the
+policy, and comes after earlier stages of that request. Lines that were taken
+out are not found, nor is a line that was made up and conforms. Reads the
+lines from standard input, as 'serve' and 'explain' write them. Of a log that
+was rotated all files are read in their order, as by cat.
 
 Where all lines conform it prints 'events N'. Else it prints 'line N REASON'
 for the first one that doesn't, and ends with status 10. The REASON is
