@@ -6,3 +6,4 @@ pub mod LogLemmas
 pub mod OwnLemmas
 pub mod PlaceLemmas
 pub mod SeenLemmas
+pub mod VerdictLemmas

@@ -69,6 +69,15 @@ Judges policy before text (Err (fault.Level decision)) = IsUndecided policy text
 Judges policy before text (Err (fault.Stage last)) = IsLate policy before text last
 Judges policy before text (Err fault.NoMemory) = Unit {0}
 
+-- memory didn't run out
+abbrev pub IsKnown : Result (Unit {0}) LineFault → Type 0
+IsKnown (Ok done) = Unit {0}
+IsKnown (Err fault.Form) = Unit {0}
+IsKnown (Err fault.Place) = Unit {0}
+IsKnown (Err (fault.Level decision)) = Unit {0}
+IsKnown (Err (fault.Stage last)) = Unit {0}
+IsKnown (Err fault.NoMemory) = ⊥
+
 -- the checker has accepted these lines, and no others
 pub record HasAccepted (policy : Policy) (before : List (List ℕ)) (checked : Checked) : Type 0 where
   pub same : checked.policy ≡ policy

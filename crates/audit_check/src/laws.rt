@@ -1,4 +1,4 @@
-ghost use Rattle.std.specs.Prelude.{ℕ, List, []};
+ghost use Rattle.std.specs.Prelude.{◌≡◌, ℕ, List, [], Result};
 ghost use Rattle.std.specs.List.{AllByRecursion};
 ghost use Rattle.audit_core.specs.Exchange.{IsAnswered};
 ghost use Rattle.audit_core.specs.Owed.{owed, fitted_lines};
@@ -9,7 +9,8 @@ ghost use Rattle.audit_core.specs.declared.settings.Settings.{Settings};
 ghost use Rattle.audit_core.specs.declared.stamp.Stamp.{Stamp};
 ghost use Rattle.policy_rules.specs.declared.policy.Policy.{Policy};
 ghost use Rattle.http_edge.specs.declared.request.Request.{Request};
-ghost use Rattle.audit_check.specs.Conforms.{AllConform};
+ghost use Rattle.audit_check.specs.Conforms.{AllConform, IsKnown, Judges};
+ghost use Rattle.audit_check.specs.declared.fault.LineFault.{LineFault};
 ghost use Rattle.audit_check.specs.Logs.{MayStand, StagesRise};
 ghost use Rattle.audit_check.specs.OwnLines.{AreInRange, AreOfOthers};
 
@@ -24,6 +25,14 @@ pub fn whole_logs_conform()
     ensures order { (policy : Policy) (lines : List (List ℕ)) → AllConform policy [] lines → StagesRise lines }
     ensures enough { (policy : Policy) (lines : List (List ℕ)) → AllByRecursion (MayStand policy) lines → StagesRise lines
         → AllConform policy [] lines }
+{
+    reads_back();
+}
+
+/// No line is judged in two ways: which answer is due is one thing, unless memory runs out.
+pub fn one_judgement()
+    ensures { (policy : Policy) (before : List (List ℕ)) (text : List ℕ) (a b : Result (Unit {0}) LineFault)
+        → IsKnown a → IsKnown b → Judges policy before text a → Judges policy before text b → a ≡ b }
 {
     reads_back();
 }

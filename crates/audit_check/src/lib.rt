@@ -19,4 +19,4 @@ mod seen;
 
 pub use checker::Checker;
 pub use fault::LineFault;
-pub use laws::{own_lines, whole_logs_conform};
+pub use laws::{one_judgement, own_lines, whole_logs_conform};
