@@ -9,6 +9,7 @@ use crate::place::{info_of, is_in_place};
 use crate::seen::Seen;
 use audit_reader::{read_event, reads_back};
 use front_base::{AuditId, Info, Stage};
+use log_summary::Watch;
 use policy_rules::{Policy, decide};
 use stage_event::Event;
 use std::alloc::Global;
@@ -80,8 +81,21 @@ fn judge(alloc: Global, policy: &Policy, seen: &Seen, event: &Event) -> Result<(
     judged
 }
 
-// The mark of a line that conforms.
-fn mark_of(alloc: Global, policy: &Policy, seen: &Seen, text: &[u8]) -> Result<Mark, LineFault>
+// Shows an event that passes, if it is looked at.
+fn show<W: Watch>(passes: bool, seen: &Seen, event: &Event, watch: &mut W) {
+    if passes && watch.is_watching() {
+        watch.accepted(event, seen.last(event.id).is_none());
+    }
+}
+
+// The mark of a line that conforms, which is shown.
+fn mark_of<W: Watch>(
+    alloc: Global,
+    policy: &Policy,
+    seen: &Seen,
+    text: &[u8],
+    watch: &mut W,
+) -> Result<Mark, LineFault>
     ensures { spec.Marks policy.now seen.now text.now result }
 {
     let event = read_event(alloc, text)?;
@@ -90,6 +104,7 @@ fn mark_of(alloc: Global, policy: &Policy, seen: &Seen, text: &[u8]) -> Result<M
         stage: event.stage,
     };
     let judged = judge(alloc, policy, seen, &event);
+    show(judged.is_ok(), seen, &event, watch);
     drop(event);
     match judged {
         Ok(()) => Ok(mark),
@@ -109,8 +124,14 @@ impl Checker {
     }
 
     /// Whether the line, without its line feed, conforms to the policy after those that were accepted. It is then
-    /// accepted too. A line that is refused, also for want of memory, leaves the checker as it was.
-    pub fn line(&mut self, alloc: Global, text: &[u8]) -> Result<(), LineFault>
+    /// accepted too. A line that is refused, also for want of memory, leaves the checker as it was. `watch` is shown the event of a
+    /// line that conforms, also where memory runs out as it is accepted; no clause says what it is shown.
+    pub fn line<W: Watch>(
+        &mut self,
+        alloc: Global,
+        text: &[u8],
+        watch: &mut W,
+    ) -> Result<(), LineFault>
         ensures judged { (policy : Policy) (before : List (List ℕ)) → spec.HasAccepted policy before self.old
             → spec.Judges policy before text.now result }
         ensures accepted { OnOk result ((policy : Policy) (before : List (List ℕ)) → spec.HasAccepted policy before self.old
@@ -118,7 +139,7 @@ impl Checker {
         ensures refused { OnErr result (self.new ≡ self.old) }
     {
         reads_back();
-        let mark = mark_of(alloc, &self.policy, &self.seen, text)?;
+        let mark = mark_of(alloc, &self.policy, &self.seen, text, watch)?;
         self.seen.note(mark.id, mark.stage)?;
         Ok(())
     }

@@ -10,6 +10,7 @@
 use audit_check::Checker;
 use case_rows::{bytes_of, fields, is_row, read_cases};
 use front_base::MOST_FILE_BYTES;
+use log_summary::NoWatch;
 use policy_json::read_policy;
 use policy_rules::Policy;
 use std::alloc::Global;
@@ -76,7 +77,7 @@ fn line_of(alloc: Global, lines: &str, row: &str) -> Option<String> {
 
 fn show_answer(rt: &HostRuntime, checker: &mut Checker, line: &str) -> io::Result<()> {
     let alloc = rt.alloc();
-    match checker.line(alloc, bytes_of(alloc, line).as_slice()) {
+    match checker.line(alloc, bytes_of(alloc, line).as_slice(), &mut NoWatch) {
         Ok(()) => println!(rt; "  conforms"),
         Err(fault) => println!(rt; "  {fault:?}"),
     }

@@ -1,1 +1,2 @@
 mod ConfigLemmas
+mod FlagLemmas

@@ -1,7 +1,10 @@
 -- The command lines of `check`.
-use Rattle.std.specs.Prelude.{ℕ, if◌then◌else◌, List, [], ◌∷◌, Result, Ok, Err, codes}
+use Rattle.std.specs.Prelude.{ℕ, if◌then◌else◌, Bool, List, [], ◌∷◌, Result, Ok, Err, codes}
+use Rattle.std.specs.List.{list_any}
 use Rattle.std.specs.Str.{bytes_eq}
-use Rattle.command_options.specs.Options.{file_names, given_of}
+use Rattle.json_value.specs.Results.{◌>>=◌}
+use Rattle.command_options.specs.Flag.{is_flag}
+use Rattle.command_options.specs.Options.{file_names, given_of, with_flag}
 use Rattle.command_options.specs.Spelling.{Named}
 use Rattle.command_options.specs.declared.fault.WordsFault.{WordsFault}
 use Rattle.command_options.specs.declared.fault.WordsFault.TheVariants.{Usage}
@@ -11,11 +14,19 @@ abbrev pub named : Result (List Named) WordsFault → Result FileNames WordsFaul
 named (Ok given) = Ok (file_names given)
 named (Err fault) = Err fault
 
+-- the files that its options name, where the flag is an option in one word
+unfoldable pub names_given : List (List ℕ) → Result FileNames WordsFault
+names_given words = named (given_of (codes "audit-policy-file" ∷ codes "summary" ∷ []) words)
+
 -- the files that its options name
 unfoldable pub names_of : List (List ℕ) → Result FileNames WordsFault
-names_of words = named (given_of (codes "audit-policy-file" ∷ []) words)
+names_of words = with_flag (codes "summary") words >>= names_given
 
 -- the word of the command, and its options
 unfoldable pub check_command : List (List ℕ) → Result FileNames WordsFault
 check_command [] = Err Usage
 check_command (word ∷ words) = if bytes_eq word (codes "check") then names_of words else Err Usage
+
+-- some word is the flag that asks for a summary
+abbrev pub asks_summary : List (List ℕ) → Bool
+asks_summary words = list_any (is_flag (codes "summary")) words

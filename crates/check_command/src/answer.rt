@@ -41,8 +41,8 @@ pub fn answer_text(alloc: Global, checked: Checked) -> Result<String, AllocError
     }
 }
 
-/// Why the line after those that conform doesn't, in words.
-pub fn reason_of(end: CheckEnd) -> Option<&'static str> {
+// Why the line after those that conform doesn't, in words.
+fn reason_of(end: CheckEnd) -> Option<&'static str> {
     match end {
         CheckEnd::Refused(LineFault::Form) => Some("not an event as this server writes it"),
         CheckEnd::Refused(LineFault::Place) => {
@@ -57,4 +57,25 @@ pub fn reason_of(end: CheckEnd) -> Option<&'static str> {
         CheckEnd::Cut => Some("cut: the log ends within it"),
         _ => None,
     }
+}
+
+// What is told of the lines before one that was cut.
+fn before_cut(alloc: Global, checked: Checked) -> Result<String, AllocError> {
+    let lines = checked.lines;
+    match checked.end {
+        CheckEnd::Cut if lines == 0 => String::from_str(alloc, "; no line stands before it"),
+        CheckEnd::Cut => format!(in alloc; "; the last good line is {lines}"),
+        _ => Ok(String::new(alloc)),
+    }
+}
+
+/// What a person is told of the first line that doesn't conform, with a line feed: its number, why, and of a line that was cut the number of
+/// the last good one. Nothing where there is no such line.
+pub fn reason_text(alloc: Global, checked: Checked) -> Result<String, AllocError> {
+    let Some(why) = reason_of(checked.end) else {
+        return Ok(String::new(alloc));
+    };
+    let line = checked.lines.saturating_add(1);
+    let before = before_cut(alloc, checked)?;
+    format!(in alloc; "apiaggd: line {line}: {why}{before}\n")
 }

@@ -8,6 +8,7 @@ use crate::answer::answer_text;
 use crate::config::configure_check;
 use front_ports::{ByteSink, Files, Source, write_all};
 use log_check::{CheckEnd, Checked, check_log};
+use log_summary::Watch;
 use policy_rules::Policy;
 use proxy_server::{Outcome, Status};
 use refusal_text::Refusal;
@@ -36,7 +37,7 @@ fn status_of(end: CheckEnd) -> Status
     }
 }
 
-fn why_of(status: Status) -> Option<Refusal>
+pub(crate) fn why_of(status: Status) -> Option<Refusal>
     ensures { result ≡ spec.why_of status }
 {
     match status {
@@ -73,11 +74,12 @@ fn tell<O: ByteSink>(alloc: Global, checked: Checked, out: &mut O) -> Status
     }
 }
 
-fn run_policy<S: Source, O: ByteSink>(
+fn run_policy<S: Source, O: ByteSink, W: Watch>(
     alloc: Global,
     policy: Policy,
     input: &mut S,
     out: &mut O,
+    watch: &mut W,
 ) -> CheckEnded
     ensures run { spec.ChecksLog policy
         (port (S.left input.old) (S.read_faults input.old) (S.left input.new) (S.read_faults input.new))
@@ -86,7 +88,7 @@ fn run_policy<S: Source, O: ByteSink>(
     ensures read_later { S.read_faults input.old ≤ S.read_faults input.new }
     ensures write_later { O.write_faults out.old ≤ O.write_faults out.new }
 {
-    let checked = check_log(alloc, policy, input);
+    let checked = check_log(alloc, policy, input, watch);
     let status = tell(alloc, checked, out);
     CheckEnded {
         status,
@@ -101,13 +103,14 @@ fn run_policy<S: Source, O: ByteSink>(
 /// The status is `Done` where the whole input is lines that conform, `Log` where one of the first 2^48 lines doesn't, `NumbersSpent` where
 /// so many conform and more follows; `Usage`, `Configuration`, `ReadFault`, `WriteFault` and `NoMemory` are those of `explain`. With `Done` it wrote how many
 /// lines there are, with `Log` the number and the reason of the first that doesn't conform, with `WriteFault` a prefix of one of these, and else
-/// nothing. Memory is that of one line and of the requests' last stages.
-pub fn run_check<F: Files, S: Source, O: ByteSink>(
+/// nothing. Memory is that of one line and of the requests' last stages. `watch` is shown the events of lines that conform.
+pub fn run_check<F: Files, S: Source, O: ByteSink, W: Watch>(
     alloc: Global,
     words: &Vec<String>,
     files: &mut F,
     input: &mut S,
     out: &mut O,
+    watch: &mut W,
 ) -> CheckEnded
     ensures run { spec.Run (map string_bytes words.now.items)
         (files_port (F.files files.old) (F.failed files.old) (F.faults files.old)
@@ -123,7 +126,7 @@ pub fn run_check<F: Files, S: Source, O: ByteSink>(
     ensures write_later { O.write_faults out.old ≤ O.write_faults out.new }
 {
     match configure_check(alloc, words, files) {
-        Ok(policy) => run_policy(alloc, policy, input, out),
+        Ok(policy) => run_policy(alloc, policy, input, out, watch),
         Err(outcome) => {
             let Outcome { status, why } = outcome;
             CheckEnded {

@@ -3,16 +3,25 @@ ghost use Rattle.std.specs.Prelude.{map, string_bytes};
 ghost use Rattle.check_command.specs.Words as spec;
 ghost use Rattle.command_options.specs.Options.{Gives};
 
-use command_options::names::POLICY;
-use command_options::{FileNames, WordsFault, file_names, given_of};
+use command_options::names::{POLICY, SUMMARY};
+use command_options::{FileNames, WordsFault, file_names, given_of, with_flag};
 use std::alloc::Global;
 
-#[tactic(auto, unfolding(crate::specs::Words::names_of))]
+#[tactic(auto, unfolding(crate::specs::Words::names_given))]
+fn names_given(alloc: Global, words: &[String]) -> Result<FileNames, WordsFault>
+    ensures { Gives (λ v. v) result (spec.names_given (map string_bytes words.now)) }
+{
+    match given_of(alloc, &[POLICY, SUMMARY], words) {
+        Ok(options) => Ok(file_names(alloc, &options)?),
+        Err(fault) => Err(fault),
+    }
+}
+
 fn names_of(alloc: Global, words: &[String]) -> Result<FileNames, WordsFault>
     ensures { Gives (λ v. v) result (spec.names_of (map string_bytes words.now)) }
 {
-    match given_of(alloc, &[POLICY], words) {
-        Ok(options) => Ok(file_names(alloc, &options)?),
+    match with_flag(alloc, SUMMARY, words) {
+        Ok(words) => names_given(alloc, words.as_slice()),
         Err(fault) => Err(fault),
     }
 }

@@ -1,11 +1,12 @@
 //! Runs of `apiaggd check` over the files of this folder's `data`: what each ends with, what it writes, and what standard error says of it,
-//! on standard output, where it is compared byte by byte. `data/runs.txt` has a command line and the file of its log a row.
+//! on standard output, where it is compared byte by byte. `data/runs.txt` has a command line and the file of its log a row, and after `>`
+//! how many bytes the output takes, if there is such a limit.
 //!
 //! What is wanted was worked out by hand from the definition of a log that conforms, from Kubernetes' page on auditing.
 #![tactic(auto)]
 
 use case_rows::{is_row, read_cases};
-use check_command::{reason_of, run_check};
+use check_command::{reason_text, run_summed};
 use front_base::Bytes;
 use front_ports::{Files, MemBytes};
 use log_check::Checked;
@@ -13,8 +14,8 @@ use proxy_server::{Ended, ReaderSource, SystemFiles};
 use std::alloc::{AllocError, Global};
 use std::process::ExitCode;
 
-/// More than any answer has.
-const MOST_WRITTEN: u64 = 100;
+/// More than any answer has, and any summary.
+const MOST_WRITTEN: u64 = 4096;
 
 fn words_of(alloc: Global, line: &str) -> Result<Vec<String>, AllocError> {
     let mut words = Vec::new(alloc);
@@ -35,27 +36,26 @@ fn log_of(rt: &HostRuntime, name: &str) -> Bytes {
 
 // What is said of the first line that doesn't conform.
 fn line_text(alloc: Global, checked: Option<Checked>) -> Result<String, AllocError> {
-    let Some(checked) = checked else {
-        return Ok(String::new(alloc));
-    };
-    match reason_of(checked.end) {
-        Some(why) => {
-            let line = checked.lines.saturating_add(1);
-            format!(in alloc; "apiaggd: line {line}: {why}\n")
-        }
+    match checked {
+        Some(checked) => reason_text(alloc, checked),
         None => Ok(String::new(alloc)),
     }
 }
 
-// One run over a log: its status, what it wrote, and what is told.
-fn told(rt: &HostRuntime, words: &Vec<String>, log: &[u8]) -> Result<String, AllocError> {
+// One run over a log, whose output takes so many bytes: its status, what it wrote, and what is told.
+fn told(
+    rt: &HostRuntime,
+    words: &Vec<String>,
+    log: &[u8],
+    most: u64,
+) -> Result<String, AllocError> {
     let alloc = rt.alloc();
     let mut files = SystemFiles::new(rt);
     let mut source = ReaderSource::new(log);
-    let Ok(mut out) = MemBytes::new(alloc, MOST_WRITTEN, Vec::new(alloc)) else {
+    let Ok(mut out) = MemBytes::new(alloc, most, Vec::new(alloc)) else {
         return Ok(String::new(alloc));
     };
-    let done = run_check(alloc, words, &mut files, &mut source, &mut out);
+    let done = run_summed(alloc, words, &mut files, &mut source, &mut out);
     let checked = done.checked;
     let ended = Ended::of(done.status, done.why);
     let reason = ended.reason(files.reason(), source.reason(), None);
@@ -65,16 +65,30 @@ fn told(rt: &HostRuntime, words: &Vec<String>, log: &[u8]) -> Result<String, All
     format!(in alloc; "{}\n{written}{text}{line}", ended.status.code())
 }
 
-fn show(rt: &HostRuntime, row: &str) -> bool {
-    let (line, name) = match row.split_once(" < ") {
+// The parts of a row before and after some text, where it has it.
+fn parts_at<'r>(row: &'r str, text: &str) -> (&'r str, &'r str) {
+    match row.split_once(text) {
         Some(parts) => parts,
         None => (row, ""),
-    };
+    }
+}
+
+// How many bytes the output of a run takes.
+fn most_of(text: &str) -> u64 {
+    match text.parse::<u64>() {
+        Ok(most) if most < MOST_WRITTEN => most,
+        _ => MOST_WRITTEN,
+    }
+}
+
+fn show(rt: &HostRuntime, row: &str) -> bool {
+    let (line, ports) = parts_at(row, " < ");
+    let (name, most) = parts_at(ports, " > ");
     let Ok(words) = words_of(rt.alloc(), line) else {
         return false;
     };
     let log = log_of(rt, name);
-    match told(rt, &words, log.as_slice()) {
+    match told(rt, &words, log.as_slice(), most_of(most)) {
         Ok(text) => print!(rt; "apiaggd {row}\n{text}").is_ok(),
         Err(_) => false,
     }

@@ -52,6 +52,18 @@ fn as_option(alloc: Global, flag: &str, word: &str) -> Result<String, AllocError
     }
 }
 
+/// Whether some word is the flag of this name.
+pub fn has_flag(flag: &str, words: &[String]) -> bool
+    ensures { result ≡ list_any (spec.is_flag flag.now) (map string_bytes words.now) }
+{
+    for word in words {
+        if is_flag(flag, word.as_str()) {
+            return true;
+        }
+    }
+    false
+}
+
 // The words, where the flag is an option in one word.
 fn as_options(alloc: Global, flag: &str, words: &[String]) -> Result<Vec<String>, NoMemory>
     ensures { IfOk result (λ own. map string_bytes own.items ≡ map (spec.as_option flag.now) (map string_bytes words.now)) }

@@ -25,7 +25,7 @@ pub use asked::{Asked, Topic};
 pub use diagnosis::{BadWord, WordFault, bad_word};
 pub use fault::WordsFault;
 pub use files::{FileNames, file_names};
-pub use flag::with_flag;
+pub use flag::{has_flag, with_flag};
 pub use given::{Options, given_of, is_given, text_of, value_of};
 pub use laws::{both_spellings, clap_agrees, the_flag_is_one_word};
 pub use ranged::{Ranged, have_numbers, in_range, number_given};

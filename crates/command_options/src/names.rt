@@ -16,6 +16,9 @@ pub const MOMENT: &str = "moment";
 /// Of `explain`, a flag: where each request goes is written in the place of its events.
 pub const ROUTES: &str = "routes";
 
+/// Of `check`, a flag: a summary of a log that conforms is written too.
+pub const SUMMARY: &str = "summary";
+
 /// Of `serve`: the address at which it listens.
 pub const LISTEN: &str = "listen";
 

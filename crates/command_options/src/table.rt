@@ -3,7 +3,7 @@ use crate::names::{
     BATCH_BUFFER, BATCH_MAX_SIZE, BATCH_MAX_WAIT, BAYS, CONNECTIONS, DIAL_TIMEOUT, ENDPOINTS,
     EXIT_ON_STDIN_EOF, IDLE_TIMEOUT, LISTEN, LOG_MODE, LOG_PATH, MAX_BATCH_SIZE, MAX_EVENT_SIZE,
     MIN_RATE, MOMENT, POLICY, READ_HEADER_TIMEOUT, RESPONSE_HEADER_TIMEOUT, ROUTES, SERVICES,
-    SHUTDOWN_TIMEOUT, STALL_TIMEOUT, TOKENS, WEBHOOK_MODE, WEBHOOK_URL,
+    SHUTDOWN_TIMEOUT, STALL_TIMEOUT, SUMMARY, TOKENS, WEBHOOK_MODE, WEBHOOK_URL,
 };
 use crate::ranged::Ranged;
 
@@ -17,7 +17,7 @@ const EXPLAIN: [&str; 7] = [
     ROUTES,
 ];
 
-const CHECK: [&str; 1] = [POLICY];
+const CHECK: [&str; 2] = [POLICY, SUMMARY];
 
 const SERVE: [&str; 24] = [
     TOKENS,
@@ -56,9 +56,9 @@ pub fn options_for(command: &str) -> &'static [&'static str] {
     }
 }
 
-/// The command that has an option of that name, `explain` where both do.
+/// The first command that has an option of that name, in the order `explain`, `check` and `serve`.
 pub fn command_with(name: &str) -> Option<&'static str> {
-    for command in ["explain", "serve"] {
+    for command in ["explain", "check", "serve"] {
         if options_for(command).iter().any(|own| *own == name) {
             return Some(command);
         }
@@ -80,7 +80,7 @@ pub enum ValueKind {
 /// What the value of the option of that name is.
 pub fn kind_of(name: &str) -> ValueKind {
     match name {
-        ROUTES | EXIT_ON_STDIN_EOF => ValueKind::Flag,
+        ROUTES | SUMMARY | EXIT_ON_STDIN_EOF => ValueKind::Flag,
         LOG_MODE | WEBHOOK_MODE => ValueKind::Mode,
         TOKENS | POLICY | SERVICES | ENDPOINTS => ValueKind::Text,
         LISTEN | LOG_PATH | WEBHOOK_URL => ValueKind::Text,

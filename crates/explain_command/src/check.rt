@@ -1,6 +1,6 @@
 // The command `check`, over this process's files, input and output.
 use crate::ending::finish_told;
-use check_command::{CheckEnded, reason_of, run_check};
+use check_command::{CheckEnded, reason_text, run_summed};
 use log_check::Checked;
 use proxy_server::{Ended, ReaderSource, SystemFiles, WriterSink};
 use std::process::ExitCode;
@@ -8,13 +8,12 @@ use warned_files::WarnedFiles;
 
 // Says why the first line that doesn't conform doesn't.
 fn say_line(host: &HostRuntime, checked: Checked) {
-    if let Some(why) = reason_of(checked.end) {
-        let line = checked.lines.saturating_add(1);
-        let _ = eprintln!(host; "apiaggd: line {line}: {why}");
+    if let Ok(text) = reason_text(host.alloc(), checked) {
+        let _ = eprint!(host; "{text}");
     }
 }
 
-/// Checks a log on standard input, says whether it conforms, and gives the status of the program.
+/// Checks a log on standard input, says whether it conforms, sums it up where that is asked for, and gives the status of the program.
 pub fn checked(host: &HostRuntime, words: &Vec<String>) -> ExitCode {
     let mut files = WarnedFiles::new(host, words.as_slice(), SystemFiles::new(host));
     let mut input = ReaderSource::new(host.stdin());
@@ -23,7 +22,7 @@ pub fn checked(host: &HostRuntime, words: &Vec<String>) -> ExitCode {
         status,
         why,
         checked,
-    } = run_check(host.alloc(), words, &mut files, &mut input, &mut out);
+    } = run_summed(host.alloc(), words, &mut files, &mut input, &mut out);
     let ended = Ended::of(status, why);
     let reason = ended.reason(files.files().reason(), input.reason(), out.reason());
     let code = finish_told(host, words.as_slice(), &ended, reason);

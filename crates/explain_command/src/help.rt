@@ -91,7 +91,9 @@ line is spelled as a server writes it, agrees with its request and with the
 policy, and comes after earlier stages of that request. Lines that were taken
 out are not found, nor is a line that was made up and conforms. Reads the
 lines from standard input, as 'serve' and 'explain' write them. Of a log that
-was rotated all files are read in their order, as by cat.
+was rotated all files are read in their order, as by cat. Of a log that still
+grows, or that was cut within a line, all whole lines are read: the rest is
+told as cut, with the number of the last good line.
 
 Where all lines conform it prints 'events N'. Else it prints 'line N REASON'
 for the first one that doesn't, and ends with status 10. The REASON is
@@ -105,12 +107,17 @@ Options are written --NAME=VALUE or --NAME VALUE.
 
   --audit-policy-file=FILE   audit policy, as JSON, of at most 16777216 bytes
                              (default: every request at level Metadata)
+  --summary                  below 'events N', a table for people: how many
+                             lines and requests, and the requests by level,
+                             verb, status, user and resource, at most ten rows
+                             each. It is no part of what is proved of check
 
   -h, --help                 prints this help
 
-Example:
+Examples:
   apiaggd explain < examples/list-pods.http | apiaggd check
     events 2
+  cat audit.log.1 audit.log | apiaggd check --summary
 "#;
 
 pub const VERSION: &str = "apiaggd 0.1.0\n";

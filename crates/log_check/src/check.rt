@@ -9,6 +9,7 @@ use audit_check::{Checker, LineFault};
 use front_base::MOST_REQUESTS;
 use front_ports::Source;
 use log_lines::{LineBuffer, LineStop, ReadStop, next_line};
+use log_summary::Watch;
 use policy_rules::Policy;
 use std::alloc::Global;
 
@@ -62,12 +63,13 @@ fn end_of(stop: LineStop, spent: bool, more: bool) -> CheckEnd
 }
 
 // Reads one more line and judges it. Nothing is answered where it is accepted. `spent` says that no more may be.
-fn check_next<S: Source>(
+fn check_next<S: Source, W: Watch>(
     alloc: Global,
     input: &mut S,
     buffer: &mut LineBuffer,
     checker: &mut Checker,
     spent: bool,
+    watch: &mut W,
 ) -> Option<CheckEnd>
     ensures checks { (policy : Policy) (before : List (List ℕ)) → HasAccepted policy before checker.old
         → spec.ChecksNext policy before (S.left input.old) (S.left input.new) buffer.old buffer.new spent
@@ -83,7 +85,7 @@ fn check_next<S: Source>(
     if spent {
         return Some(CheckEnd::NumbersSpent);
     }
-    match checker.line(alloc, &buffer.as_slice()[..length]) {
+    match checker.line(alloc, &buffer.as_slice()[..length], watch) {
         Ok(()) => {
             buffer.skip(length + 1);
             None
@@ -93,8 +95,14 @@ fn check_next<S: Source>(
 }
 
 /// Checks the lines of a log, each ended by a line feed, against a policy: up to the first one that doesn't conform, or to the end of the
-/// input. Of an input that tells nothing the contract says that some bytes were read of which this holds.
-pub fn check_log<S: Source>(alloc: Global, policy: Policy, input: &mut S) -> Checked
+/// input. Of an input that tells nothing the contract says that some bytes were read of which this holds. `watch` is shown each event that is
+/// accepted, and one more where memory runs out as it is accepted.
+pub fn check_log<S: Source, W: Watch>(
+    alloc: Global,
+    policy: Policy,
+    input: &mut S,
+    watch: &mut W,
+) -> Checked
     ensures checks { spec.Checks policy (S.left input.old) (S.left input.new)
         (Rose (S.read_faults input.old) (S.read_faults input.new)) result.lines result.end }
     ensures later { S.read_faults input.old ≤ S.read_faults input.new }
@@ -111,7 +119,7 @@ pub fn check_log<S: Source>(alloc: Global, policy: Policy, input: &mut S) -> Che
     let mut lines = 0;
     'checking: loop {
         let spent = lines == MOST_REQUESTS;
-        match check_next(alloc, input, &mut buffer, &mut checker, spent) {
+        match check_next(alloc, input, &mut buffer, &mut checker, spent, watch) {
             None => lines += 1,
             Some(end) => {
                 drop(checker);
