@@ -1,12 +1,26 @@
-//! Runs of `serve` over ports in memory, in each of which two calls of the outside fail: each pair of them, over a shorter script
-//! than that of `fault_runs`. `fault_rows` says what is run and written.
+//! Runs of `serve` over ports in memory, in each of which two calls of the outside fail: each pair of the calls that a short script
+//! reaches. `fault_rows` says what is run and written.
+//!
+//! In the runs of `table-faults.txt` and `bays-faults.txt` the clients of one bay, and of two, change the table of APIServices.
 #![tactic(auto)]
 
 use fault_rows::run_rows;
+use std::io;
 use std::process::ExitCode;
+use std::sync::Wait;
+use std::thread::Threads;
+
+fn run_all<R: Threads + Wait + Copy + Send + Sync + Drop>(
+    rt: &HostRuntime,
+    threads: &R,
+) -> io::Result<()> {
+    run_rows(rt, threads, "script.txt", "faults.txt")?;
+    run_rows(rt, threads, "table-script.txt", "table-faults.txt")?;
+    run_rows(rt, threads, "bays-script.txt", "bays-faults.txt")
+}
 
 fn main(rt: HostRuntime) -> ExitCode {
-    match run_rows(&rt, &rt, "script.txt", "faults.txt") {
+    match run_all(&rt, &rt) {
         Ok(()) => ExitCode::from(0),
         Err(_) => ExitCode::from(1),
     }

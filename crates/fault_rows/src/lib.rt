@@ -19,5 +19,5 @@ mod setting;
 pub use client::push_replies;
 pub use lines::Ended;
 pub use rows::run_rows;
-pub use runs::{Run, run_row};
+pub use runs::{Ready, Run, ready_row, run_ready};
 pub use setting::files_of;

@@ -8,8 +8,10 @@
 // - of the dial for each call the bytes that were sent;
 // - of the log and of the webhook their tries: lines, bytes sent and the answer; and all of their bytes;
 // - of the webhook's queue the lines that were written, lost, and not taken.
+//
+// A run of two bays has the parts of each, and the log of each. In which order their lines come to the webhook depends on the turns of threads, and so of it only
+// the counts are written.
 use crate::client::{push_bytes, push_replies};
-use apiservice_table::TableRoutes;
 use audit_core::{LinkNote, Outcome, Sink};
 use bay_runs::EndCounts;
 use front_base::Stage;
@@ -17,6 +19,7 @@ use front_ports::{MemBytes, MemClock, MemDial, MemDoor};
 use log_sink::LogSink;
 use proxy_server::Status;
 use queue_drain::DrainEnd;
+use route_history::SeenHistory;
 use serve_roles::BayEnd;
 use session_core::{Exchange, MemDiary};
 use std::alloc::{AllocError, Global};
@@ -28,9 +31,9 @@ type Log = LogSink<MemBytes, MemNotes>;
 type Hook = WebhookSink<MemDial, MemNotes>;
 
 /// What is left of a run over a plant in memory.
-pub type Ended = serve_runs::Ended<TableRoutes, MemDial, Log, Hook, MemClock, MemDiary, MemDoor>;
+pub type Ended = serve_runs::Ended<SeenHistory, MemDial, Log, Hook, MemClock, MemDiary, MemDoor>;
 
-type OwnBay = BayEnd<TableRoutes, MemDial, MemClock, MemDiary, MemDoor>;
+type OwnBay = BayEnd<SeenHistory, MemDial, MemClock, MemDiary, MemDoor>;
 
 fn push_end(line: &mut String, count: u64, name: &str) -> Result<(), AllocError> {
     if count == 0 {
@@ -166,11 +169,14 @@ fn push_log(alloc: Global, line: &mut String, log: &Log) -> Result<(), AllocErro
 fn push_hook(
     alloc: Global,
     line: &mut String,
+    bays: usize,
     drain: &DrainEnd<Hook, MemClock>,
 ) -> Result<(), AllocError> {
     line.push_str("; webhook")?;
-    push_tries(alloc, line, drain.sink.notes().notes())?;
-    push_calls(alloc, line, "", drain.sink.dial())?;
+    if bays == 1 {
+        push_tries(alloc, line, drain.sink.notes().notes())?;
+        push_calls(alloc, line, "", drain.sink.dial())?;
+    }
     let counts = format!(in alloc;
         "; {} written, {} lost, {} not taken",
         drain.written, drain.lost, drain.fulls
@@ -179,14 +185,17 @@ fn push_hook(
 }
 
 fn push_run(alloc: Global, line: &mut String, ended: &Ended) -> Result<(), AllocError> {
-    for bay in ended.bays.as_slice() {
+    for (at, bay) in ended.bays.as_slice().iter().enumerate() {
+        if at > 0 {
+            line.push_str("; other bay")?;
+        }
         push_bay(alloc, line, bay)?;
     }
     for log in ended.log.own.as_slice() {
         push_log(alloc, line, log)?;
     }
     if let Some(drain) = &ended.hook.drain {
-        push_hook(alloc, line, drain)?;
+        push_hook(alloc, line, ended.bays.len(), drain)?;
     }
     Ok(())
 }

@@ -4,7 +4,9 @@ ghost use Rattle.std.specs.List.{All};
 ghost use Rattle.front_plants.specs.Unused.{IsUnusedDial, IsUnusedDoor, IsUnusedSink};
 ghost use Rattle.front_ports.specs.Memory.{IsUnused};
 
-use crate::script::{client_bytes, client_most, fails, link_fails, port_fails, sizes_of, told_by};
+use crate::script::{
+    allotment_of, client_bytes, client_most, fails, link_fails, port_fails, sizes_of, told_by,
+};
 use case_rows::bytes_of;
 use front_base::{Bytes, Moment, NoMemory};
 use front_plants::{MemParts, NotesRoom};
@@ -82,37 +84,87 @@ fn push_client(
     Ok(conns.push(conn)?)
 }
 
-// A door that gives one client, and then a second one where the script has one.
-fn door_of(alloc: Global, script: &str, row: &str) -> Result<MemDoor, NoMemory>
+// A door that gives these clients, as far as the script has them, and whose calls of these numbers fail.
+fn door_of(
+    alloc: Global,
+    script: &str,
+    row: &str,
+    clients: &[&str],
+    fails: Vec<u64>,
+) -> Result<MemDoor, NoMemory>
     ensures { IfOk result IsUnusedDoor }
 {
     let mut conns = Vec::new(alloc);
-    push_client(alloc, &mut conns, script, row, "client")?;
-    push_client(alloc, &mut conns, script, row, "second")?;
-    MemDoor::new(alloc, conns, fails(alloc, row, "door"))
+    for client in clients {
+        push_client(alloc, &mut conns, script, row, client)?;
+    }
+    MemDoor::new(alloc, conns, fails)
 }
 
-fn log_of(alloc: Global, row: &str) -> Result<MemBytes, NoMemory>
+fn log_of(alloc: Global, fails: Vec<u64>) -> Result<MemBytes, NoMemory>
     ensures { IfOk result IsUnusedSink }
 {
-    MemBytes::new(alloc, ROOM, fails(alloc, row, "log-write"))
+    MemBytes::new(alloc, ROOM, fails)
 }
 
-/// The parts of a plant with one bay, whose queue has room for 7 lines of it.
+// The doors of two bays. No other bay asks for the second one.
+fn doors_of(alloc: Global, script: &str, row: &str) -> Result<Vec<MemDoor>, NoMemory>
+    ensures { IfOk result (λ doors. All IsUnusedDoor doors.items) }
+{
+    let door = door_of(
+        alloc,
+        script,
+        row,
+        &["client", "second"],
+        fails(alloc, row, "door"),
+    )?;
+    let other = door_of(
+        alloc,
+        script,
+        row,
+        &["other"],
+        fails(alloc, row, "other-door"),
+    )?;
+    Ok(vec![in alloc; door, other]?)
+}
+
+fn dials_of(alloc: Global, script: &str, row: &str) -> Result<Vec<MemDial>, NoMemory>
+    ensures { IfOk result (λ dials. All IsUnusedDial dials.items) }
+{
+    let dial = dial_of(alloc, script, row, "link", fails(alloc, row, "dial"))?;
+    let other = dial_of(
+        alloc,
+        script,
+        row,
+        "other-link",
+        fails(alloc, row, "other-dial"),
+    )?;
+    Ok(vec![in alloc; dial, other]?)
+}
+
+fn logs_of(alloc: Global, row: &str) -> Result<Vec<MemBytes>, NoMemory>
+    ensures { IfOk result (λ logs. All IsUnusedSink logs.items) }
+{
+    let log = log_of(alloc, fails(alloc, row, "log-write"))?;
+    let other = log_of(alloc, fails(alloc, row, "other-log-write"))?;
+    Ok(vec![in alloc; log, other]?)
+}
+
+/// The parts of a plant with one bay or two, whose queue has room for as many lines of each as the script says, 7 where it doesn't.
 pub fn parts_of(alloc: Global, script: &str, row: &str) -> Result<MemParts, NoMemory>
     ensures doors { IfOk result (λ parts. All IsUnusedDoor parts.doors.items) }
     ensures dials { IfOk result (λ parts. All IsUnusedDial parts.dials.items) }
     ensures logs { IfOk result (λ parts. All IsUnusedSink parts.logs.items) }
     ensures hooks { IfOk result (λ parts. All IsUnusedDial parts.hooks.items) }
 {
-    let dial = dial_of(alloc, script, row, "link", fails(alloc, row, "dial"))?;
+    let room = allotment_of(script);
     let hook = dial_of(alloc, script, row, "hook", fails(alloc, row, "hook-dial"))?;
     Ok(MemParts {
         boot: 1,
-        allots: vec![in alloc; 7]?,
-        doors: vec![in alloc; door_of(alloc, script, row)?]?,
-        dials: vec![in alloc; dial]?,
-        logs: vec![in alloc; log_of(alloc, row)?]?,
+        allots: vec![in alloc; room, room]?,
+        doors: doors_of(alloc, script, row)?,
+        dials: dials_of(alloc, script, row)?,
+        logs: logs_of(alloc, row)?,
         hooks: vec![in alloc; hook]?,
         start: Moment::new(START).unwrap_or(Moment::epoch()),
         step: 0,

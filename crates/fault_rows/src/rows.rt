@@ -1,5 +1,5 @@
 use crate::lines::{ended_line, refused_line};
-use crate::runs::{Run, run_row};
+use crate::runs::{Run, ready_row, run_ready};
 use case_rows::{is_row, read_cases};
 use std::alloc::Global;
 use std::io;
@@ -13,10 +13,12 @@ fn line_of<R: Threads + Wait + Copy + Send + Sync + Drop>(
     script: &str,
     row: &str,
 ) -> Option<String> {
-    match run_row(threads, alloc, script, row) {
-        Some(Run::Ended(ended)) => ended_line(alloc, row, &ended),
-        Some(Run::Refused(status)) => refused_line(alloc, row, status),
-        None => None,
+    let Some(ready) = ready_row(threads, alloc, script, row) else {
+        return None;
+    };
+    match run_ready(threads, alloc, ready) {
+        Run::Ended(ended) => ended_line(alloc, row, &ended),
+        Run::Refused(status) => refused_line(alloc, row, status),
     }
 }
 

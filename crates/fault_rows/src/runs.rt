@@ -1,16 +1,27 @@
 // One run.
-ghost use Rattle.std.specs.Prelude.{◌≡◌, IfSome, length};
+ghost use Rattle.std.specs.Prelude.{◌≡◌, ◌≤◌, true};
+ghost use Rattle.front_base.specs.declared.address.Address.{Address};
+ghost use Rattle.front_base.specs.declared.line.TheConstants.{MOST_LINE_BYTES};
+ghost use Rattle.plant_lanes.specs.Options.{AreFit};
+ghost use Rattle.proxy_runs.specs.Setup.{options_of};
 
 use crate::lines::Ended;
 use crate::ports::parts_of;
-use crate::setting::config_of;
-use apiservice_table::{RouteTable, TableRoutes};
-use front_base::Address;
+use crate::script::bays_of;
+use crate::setting::{files_of, words_of};
+use apiservice_table::RouteTable;
+use audit_core::Settings;
+use front_base::{Address, MOST_LINE_BYTES};
 use front_plants::MemPlant;
-use proxy_runs::{can_run, run_configured, settings_of};
+use front_ports::MemFiles;
+use proxy_runs::{can_run, settings_of};
 use proxy_server::Status;
-use serve_config::ServeConfig;
+use route_history::NewRoutes;
+use serve_config::{ServeConfig, configure_serve};
+use serve_words::ServeWords;
+use shared_runs::run_shared;
 use std::alloc::Global;
+use std::marker::Brand;
 use std::sync::Wait;
 use std::thread::Threads;
 
@@ -24,29 +35,58 @@ fn plant_of<R>(threads: &R, alloc: Global, script: &str, row: &str) -> Option<Me
     MemPlant::new(threads, alloc, parts).ok()
 }
 
-fn routes_of(alloc: Global, table: RouteTable) -> Option<Vec<TableRoutes>>
-    ensures { IfSome result (λ routes. length routes.items ≡ 1) }
+// Whether a run may have these numbers.
+fn can_serve(words: &ServeWords, settings: &Settings) -> bool
+    ensures options { (listen : Address) → result ≡ true → AreFit (options_of words.now listen) }
+    ensures max { result ≡ true → settings.now.max_event ≤ MOST_LINE_BYTES }
 {
-    let routes = TableRoutes::new(alloc, table).ok()?;
-    vec![in alloc; routes].ok()
+    if !can_run(words) {
+        return false;
+    }
+    settings.max_event <= MOST_LINE_BYTES
 }
 
-// What is left of a run that begins so.
+// A run over the table that its bays share: the call that `serve` makes.
 fn ran<R: Threads + Wait + Copy + Send + Sync + Drop>(
+    threads: &R,
+    alloc: Global,
+    words: &ServeWords,
+    settings: Settings,
+    routes: NewRoutes,
+    plant: &mut MemPlant<R>,
+) -> Run {
+    if !can_serve(words, &settings) {
+        drop(settings);
+        drop(routes);
+        return Run::Refused(Status::Configuration);
+    }
+    Run::Ended(run_shared::<Brand, MemPlant<R>>(
+        threads, alloc, words, settings, LISTEN, routes, plant,
+    ))
+}
+
+// What is left of a configuration, in parts that go different ways.
+fn parts_in(config: ServeConfig) -> (ServeWords, Settings, RouteTable) {
+    let ServeConfig { words, loaded } = config;
+    let (settings, table) = settings_of(&words, loaded);
+    (words, settings, table)
+}
+
+// A run that is configured so.
+fn begun<R: Threads + Wait + Copy + Send + Sync + Drop>(
     threads: &R,
     alloc: Global,
     config: ServeConfig,
     plant: &mut MemPlant<R>,
-) -> Option<Ended> {
-    let ServeConfig { words, loaded } = config;
-    if words.bays != 1 || !can_run(&words) {
-        return None;
+) -> Run {
+    let (words, settings, table) = parts_in(config);
+    match NewRoutes::new(alloc, table) {
+        Ok(routes) => ran(threads, alloc, &words, settings, routes, plant),
+        Err(_) => {
+            drop(settings);
+            Run::Refused(Status::NoMemory)
+        }
     }
-    let (settings, table) = settings_of(&words, loaded);
-    let Some(routes) = routes_of(alloc, table) else {
-        return None;
-    };
-    Some(run_configured(threads, alloc, &words, settings, LISTEN, routes, plant))
 }
 
 /// What a row's run came to.
@@ -54,25 +94,45 @@ fn ran<R: Threads + Wait + Copy + Send + Sync + Drop>(
 pub enum Run {
     /// What is left of it.
     Ended(Ended),
-    /// It didn't begin, since its words or files were refused, and this is its status.
+    /// It didn't begin, since its words or files were refused or memory ran out, and this is its status.
     Refused(Status),
 }
 
-/// Runs a row. None where memory ran out before the run.
-pub fn run_row<R: Threads + Wait + Copy + Send + Sync + Drop>(
+/// What the run of a row is made of, before it begins.
+#[derive(Drop)]
+pub struct Ready<R> {
+    plant: MemPlant<R>,
+    words: Vec<String>,
+    files: MemFiles,
+}
+
+/// What the run of a row is made of. None where memory ran out.
+pub fn ready_row<R>(threads: &R, alloc: Global, script: &str, row: &str) -> Option<Ready<R>> {
+    let words = words_of(alloc, bays_of(script)).ok()?;
+    let files = files_of(alloc, row).ok()?;
+    match plant_of(threads, alloc, script, row) {
+        Some(plant) => Some(Ready {
+            plant,
+            words,
+            files,
+        }),
+        None => None,
+    }
+}
+
+/// Runs `serve`, from its words and files on.
+pub fn run_ready<R: Threads + Wait + Copy + Send + Sync + Drop>(
     threads: &R,
     alloc: Global,
-    script: &str,
-    row: &str,
-) -> Option<Run> {
-    let Some(mut plant) = plant_of(threads, alloc, script, row) else {
-        return None;
-    };
-    match config_of(alloc, row) {
-        Ok(config) => match ran(threads, alloc, config, &mut plant) {
-            Some(ended) => Some(Run::Ended(ended)),
-            None => None,
-        },
-        Err(status) => Some(Run::Refused(status)),
+    ready: Ready<R>,
+) -> Run {
+    let Ready {
+        mut plant,
+        words,
+        mut files,
+    } = ready;
+    match configure_serve(alloc, &words, &mut files) {
+        Ok(config) => begun(threads, alloc, config, &mut plant),
+        Err(outcome) => Run::Refused(outcome.status),
     }
 }

@@ -104,6 +104,22 @@ pub fn client_bytes(alloc: Global, script: &str, row: &str, client: &str) -> Vec
     bytes
 }
 
+/// For how many lines of a bay the queue has room over the whole run: the number of the script's line `room`, 7 without one.
+pub fn allotment_of(script: &str) -> u64 {
+    match client_most(script, "room") {
+        Some(lines) => number_of(lines.as_bytes()).unwrap_or(7),
+        None => 7,
+    }
+}
+
+/// The option that says how many bays the run of a script has: two where a client comes to the other bay.
+pub fn bays_of(script: &str) -> &'static str {
+    match client_most(script, "other") {
+        Some(_) => "--bays=2",
+        None => "--bays=1",
+    }
+}
+
 /// The most bytes of a read of a client, none where the script has no such client.
 pub fn client_most<'s>(script: &'s str, client: &str) -> Option<&'s str> {
     for line in script.lines() {

@@ -2,15 +2,14 @@
 use crate::script::fails;
 use front_base::{Bytes, NoMemory, Text};
 use front_ports::MemFiles;
-use proxy_server::Status;
-use serve_config::{ServeConfig, configure_serve};
 use std::alloc::{AllocError, Global};
 
+// What comes after `serve` and the number of bays.
 const WORDS: &str =
-    "serve --bays=1 --token-auth-file=t --audit-policy-file=p --apiservices=s --endpoints=e --audit-log-path=log \
+    "--token-auth-file=t --audit-policy-file=p --apiservices=s --endpoints=e --audit-log-path=log \
 --audit-log-mode=blocking-strict --audit-webhook-url=http://127.0.0.1:9400/ --batch-buffer=100 --batch-max-size=2";
 
-const TOKENS: &str = "t1,ann,7,dev\n";
+const TOKENS: &str = "t1,ann,7,dev\nt2,root,1,\"system:masters\"\n";
 
 const POLICY: &str =
     r#"{"kind":"Policy","apiVersion":"audit.k8s.io/v1","rules":[{"level":"Request"}]}"#;
@@ -19,21 +18,17 @@ const SERVICES: &str =
     r#"{"kind":"APIService","apiVersion":"apiregistration.k8s.io/v1","metadata":{"name":"v1."},
 "spec":{"version":"v1","groupPriorityMinimum":18000,"versionPriority":1}}"#;
 
-const ENDPOINTS: &str = "local,127.0.0.1:9001\n";
+const ENDPOINTS: &str = "local,127.0.0.1:9001\ns/x:443,127.0.0.1:9002\n";
 
-fn split_words(alloc: Global) -> Result<Vec<String>, AllocError> {
+/// The words of a run with that option of bays.
+pub fn words_of(alloc: Global, bays: &str) -> Result<Vec<String>, AllocError> {
     let mut words = Vec::new(alloc);
+    words.push(String::from_str(alloc, "serve")?)?;
+    words.push(String::from_str(alloc, bays)?)?;
     for word in WORDS.split(' ') {
         words.push(String::from_str(alloc, word)?)?;
     }
     Ok(words)
-}
-
-fn words_of(alloc: Global) -> Vec<String> {
-    match split_words(alloc) {
-        Ok(words) => words,
-        Err(_) => Vec::new(alloc),
-    }
 }
 
 fn bytes_of(alloc: Global, text: &str) -> Result<Bytes, AllocError> {
@@ -50,16 +45,4 @@ pub fn files_of(alloc: Global, row: &str) -> Result<MemFiles, NoMemory> {
         vec![in alloc; tokens, policy, services, endpoints]?,
         fails(alloc, row, "file"),
     ))
-}
-
-/// What the run of a row begins with, or the status of one that doesn't begin.
-pub fn config_of(alloc: Global, row: &str) -> Result<ServeConfig, Status> {
-    let words = words_of(alloc);
-    let Ok(mut files) = files_of(alloc, row) else {
-        return Err(Status::NoMemory);
-    };
-    match configure_serve(alloc, &words, &mut files) {
-        Ok(config) => Ok(config),
-        Err(outcome) => Err(outcome.status),
-    }
 }

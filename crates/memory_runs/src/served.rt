@@ -1,5 +1,8 @@
 // A run of `serve`, with two connections.
-use fault_rows::{Ended, Run, push_replies, run_row};
+use crate::due::{Due, Seen};
+use crate::order::Order;
+use crate::told::Told;
+use fault_rows::{Ended, Run, ready_row, run_ready};
 use proxy_server::Status;
 use serve_runs::RunStatus;
 use std::alloc::Global;
@@ -7,7 +10,7 @@ use std::sync::Wait;
 use std::thread::Threads;
 
 // What the second connection asks for, and the first one doesn't.
-const SECOND: &str = "/livez";
+const SECOND: &str = "\"requestURI\":\"/livez\"";
 
 fn is_out_of_memory(status: Status) -> bool {
     match status {
@@ -16,69 +19,51 @@ fn is_out_of_memory(status: Status) -> bool {
     }
 }
 
-// The lines of the first connection are the first ones that it is due.
-fn begins(log: &str, due: &str) -> bool {
-    for (line, its) in log.lines().zip(due.lines()) {
+// The lines of the log before the first one of the second connection, and the rest.
+fn split_log(log: &str) -> (&str, &str) {
+    let mut at = 0usize;
+    for line in log.split_inclusive('\n') {
         if line.contains(SECOND) {
-            return true;
+            break;
         }
-        if line != its {
-            return false;
-        }
+        at = at.saturating_add(line.len());
     }
-    true
-}
-
-// What a client got of each visit, none where memory was refused for the text of it.
-fn replies(alloc: Global, ended: &Ended) -> Option<Vec<String>> {
-    let mut told = Vec::new(alloc);
-    for bay in ended.bays.as_slice() {
-        for visit in bay.door.given() {
-            let mut text = String::new(alloc);
-            push_replies(&mut text, visit.output.as_slice()).ok()?;
-            told.push(text).ok()?;
-        }
-    }
-    Some(told)
-}
-
-// The first client got all of its replies, or some of them where it is the one that memory stopped, and the second one likewise.
-fn are_served(told: &[String], stopped: u64) -> bool {
-    match told {
-        [first, second] => {
-            let is_first = first.as_str() == " 200 201 200";
-            let is_second = second.as_str() == " 200";
-            if stopped == 0 {
-                is_first && is_second
-            } else {
-                is_first || is_second
-            }
-        }
-        _ => false,
-    }
-}
-
-// The counts of one bay that had two connections.
-fn are_counted(ended: &Ended) -> bool {
-    match ended.bays.as_slice() {
-        [bay] => {
-            bay.counts.no_memory <= 1 && bay.counts.no_memory.saturating_add(bay.counts.ended) == 2
-        }
-        _ => false,
-    }
-}
-
-fn stopped_by_memory(ended: &Ended) -> u64 {
-    match ended.bays.as_slice() {
-        [bay] => bay.counts.no_memory,
-        _ => 0,
-    }
+    (log.get(..at).unwrap_or(""), log.get(at..).unwrap_or(""))
 }
 
 fn log_of(ended: &Ended) -> &str {
     match ended.log.own.as_slice() {
         [log] => str::from_utf8(log.out().bytes()).unwrap_or("no text"),
         _ => "no log",
+    }
+}
+
+// What the two clients got.
+fn clients(ended: &Ended) -> Option<(&str, &str)> {
+    match ended.bays.as_slice() {
+        [bay] => match bay.door.given() {
+            [first, second] => Some((
+                str::from_utf8(first.output.as_slice()).unwrap_or("no text"),
+                str::from_utf8(second.output.as_slice()).unwrap_or("no text"),
+            )),
+            _ => None,
+        },
+        _ => None,
+    }
+}
+
+// How many connections memory stopped, where one bay had two and the others ended.
+fn stopped(ended: &Ended) -> Option<u64> {
+    match ended.bays.as_slice() {
+        [bay] => {
+            let stopped = bay.counts.no_memory;
+            if stopped.saturating_add(bay.counts.ended) == 2 {
+                Some(stopped)
+            } else {
+                None
+            }
+        }
+        _ => None,
     }
 }
 
@@ -90,31 +75,74 @@ fn are_posted(ended: &Ended, lines: usize) -> bool {
     }
 }
 
-fn is_done(alloc: Global, ended: &Ended, due: &str) -> bool {
+fn is_done(ended: &Ended, due: &Due) -> bool {
     let log = log_of(ended);
-    if !are_counted(ended) || !begins(log, due) || !are_posted(ended, log.lines().count()) {
+    let (log, second_log) = split_log(log);
+    let (Some((client, second_client)), Some(stopped)) = (clients(ended), stopped(ended)) else {
         return false;
-    }
-    match replies(alloc, ended) {
-        Some(told) => are_served(told.as_slice(), stopped_by_memory(ended)),
-        None => true,
+    };
+    let first = Seen { log, client };
+    let second = Seen {
+        log: second_log,
+        client: second_client,
+    };
+    stopped <= 1
+        && due.is_served(&first, &second, stopped == 1)
+        && are_posted(
+            ended,
+            log.lines()
+                .count()
+                .saturating_add(second_log.lines().count()),
+        )
+}
+
+fn is_kept(ended: &Ended, due: &Due) -> bool {
+    match ended.status {
+        RunStatus::Done => is_done(ended, due),
+        RunStatus::NoMemory => ended.bays.is_empty(),
+        _ => false,
     }
 }
 
-/// Whether `serve` over that script ends as it may. Where memory is refused before it runs, nothing is told.
+fn word(ended: &Ended) -> &'static str {
+    match (ended.status, stopped(ended)) {
+        (RunStatus::Done, Some(0)) => "status 0",
+        (RunStatus::Done, Some(1)) => "status 0, a connection stopped",
+        (RunStatus::NoMemory, _) => "status 6",
+        _ => "another end",
+    }
+}
+
+fn told(run: Run, refused: bool, due: &Due) -> Told {
+    match run {
+        Run::Ended(ended) => Told {
+            kept: is_kept(&ended, due),
+            how: word(&ended),
+            refused,
+        },
+        Run::Refused(status) => Told {
+            kept: is_out_of_memory(status),
+            how: "status 6",
+            refused,
+        },
+    }
+}
+
+/// What is told of `serve` over that script.
 pub fn serves<R: Threads + Wait + Copy + Send + Sync + Drop>(
     threads: &R,
     alloc: Global,
-    script: &str,
-    due: &str,
-) -> bool {
-    match run_row(threads, alloc, script, "none") {
-        Some(Run::Ended(ended)) => match ended.status {
-            RunStatus::Done => is_done(alloc, &ended, due),
-            RunStatus::NoMemory => ended.bays.is_empty(),
-            _ => false,
-        },
-        Some(Run::Refused(status)) => is_out_of_memory(status),
-        None => true,
+    due: &Due,
+    order: &Order,
+) -> Told {
+    let Some(ready) = ready_row(threads, alloc, due.script.as_str(), "none") else {
+        return Told::before();
+    };
+    if order.begin(alloc) {
+        drop(ready);
+        return Told::before();
     }
+    let run = run_ready(threads, alloc, ready);
+    let refused = order.end(alloc);
+    told(run, refused, due)
 }
