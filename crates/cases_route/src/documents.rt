@@ -20,29 +20,42 @@ fn show_group(rt: &HostRuntime, group: &Group) {
     let _shown = println!(rt; "");
 }
 
+fn show_groups(rt: &HostRuntime, groups: &[Group]) {
+    for group in groups {
+        show_group(rt, group);
+    }
+}
+
+// Shows how many rows there are, and the groups of these in order.
+fn show_sorted(rt: &HostRuntime, rows: &[Row]) {
+    let _shown = println!(rt; "{} rows", rows.len());
+    if let Ok(groups) = sorted_groups(rt.alloc(), rows) {
+        show_groups(rt, groups.as_slice());
+        drop(groups);
+    }
+}
+
+fn show_list(rt: &HostRuntime, rows: &[Row]) {
+    if let Ok(document) = group_list(rt.alloc(), rows) {
+        show_text(rt, &document);
+    }
+}
+
+fn show_one(rt: &HostRuntime, rows: &[Row], name: &str) {
+    match group(rt.alloc(), rows, name) {
+        Ok(document) => show_text(rt, &document),
+        Err(fault) => {
+            let _shown = println!(rt; "{fault:?}");
+        }
+    }
+}
+
 // Shows the groups in order, the document of all of them, or that of one.
 fn show_of(rt: &HostRuntime, rows: &[Row], call: &str, name: &str) {
-    let alloc = rt.alloc();
     match call {
-        "groups" => {
-            let _shown = println!(rt; "{} rows", rows.len());
-            if let Ok(groups) = sorted_groups(alloc, rows) {
-                for group in groups.as_slice() {
-                    show_group(rt, group);
-                }
-            }
-        }
-        "list" => {
-            if let Ok(document) = group_list(alloc, rows) {
-                show_text(rt, &document);
-            }
-        }
-        _ => match group(alloc, rows, name) {
-            Ok(document) => show_text(rt, &document),
-            Err(fault) => {
-                let _shown = println!(rt; "{fault:?}");
-            }
-        },
+        "groups" => show_sorted(rt, rows),
+        "list" => show_list(rt, rows),
+        _ => show_one(rt, rows, name),
     }
 }
 
@@ -52,7 +65,10 @@ pub fn show_document(rt: &HostRuntime, row: &str) {
     let (call, name) = fields(rest);
     if let Ok(text) = read_cases(rt, file) {
         match read_rows(rt.alloc(), text.as_bytes()) {
-            Ok(rows) => show_of(rt, rows.as_slice(), call, name),
+            Ok(rows) => {
+                show_of(rt, rows.as_slice(), call, name);
+                drop(rows);
+            }
             Err(fault) => {
                 let _shown = println!(rt; "{fault:?}");
             }

@@ -55,25 +55,44 @@ fn show(rt: &HostRuntime, paths: &LocalPaths, routes: &mut TableRoutes, file: &s
     }
 }
 
+fn show_rows(
+    rt: &HostRuntime,
+    paths: &LocalPaths,
+    routes: &mut TableRoutes,
+    file: &str,
+    text: &str,
+) {
+    for row in text.lines() {
+        if is_row(row) {
+            let _shown = print!(rt; "{row} => ");
+            show(rt, paths, routes, file, row);
+        }
+    }
+}
+
 // Shows the cases of a file, or nothing where it can't be read or memory refuses its table.
 fn show_file(rt: &HostRuntime, paths: &LocalPaths, file: &str) {
     let _shown = println!(rt; "== {file}");
-    if let (Ok(text), Some(mut routes)) = (read_cases(rt, file), table_for(rt.alloc(), file)) {
-        for row in text.lines() {
-            if is_row(row) {
-                let _shown = print!(rt; "{row} => ");
-                show(rt, paths, &mut routes, file, row);
-            }
-        }
+    let Ok(text) = read_cases(rt, file) else {
+        return;
+    };
+    if let Some(mut routes) = table_for(rt.alloc(), file) {
+        show_rows(rt, paths, &mut routes, file, text.as_str());
+        drop(routes);
+    }
+}
+
+fn show_files(rt: &HostRuntime, paths: &LocalPaths) {
+    for file in FILES.lines() {
+        show_file(rt, paths, file);
     }
 }
 
 fn main(rt: HostRuntime) -> ExitCode {
     match LocalPaths::new(rt.alloc()) {
         Ok(paths) => {
-            for file in FILES.lines() {
-                show_file(&rt, &paths, file);
-            }
+            show_files(&rt, &paths);
+            drop(paths);
             ExitCode::from(0)
         }
         Err(_) => ExitCode::from(1),

@@ -30,18 +30,32 @@ pub fn show_row(rt: &HostRuntime, row: &Row) {
     show_text(rt, row.object.as_slice());
 }
 
+fn show_copy(rt: &HostRuntime, row: &Row) {
+    if let Ok(copy) = row.copy(rt.alloc()) {
+        show_row(rt, &copy);
+        drop(copy);
+    }
+}
+
 /// Shows the row of an object, from a copy of it, or the object's first fault.
 pub fn show_object(rt: &HostRuntime, text: &str) {
     let alloc = rt.alloc();
     match read_row(alloc, &bytes_of(alloc, text)) {
         Ok(row) => {
-            if let Ok(copy) = row.copy(alloc) {
-                show_row(rt, &copy);
-            }
+            show_copy(rt, &row);
+            drop(row);
         }
         Err(fault) => {
             let _shown = println!(rt; "{fault:?}");
         }
+    }
+}
+
+fn show_rows(rt: &HostRuntime, rows: &[Row]) {
+    let _shown = println!(rt; "{}", rows.len());
+    for row in rows {
+        let _shown = print!(rt; "  ");
+        show_row(rt, row);
     }
 }
 
@@ -50,11 +64,8 @@ pub fn show_list(rt: &HostRuntime, text: &str) {
     let alloc = rt.alloc();
     match read_rows(alloc, &bytes_of(alloc, text)) {
         Ok(rows) => {
-            let _shown = println!(rt; "{}", rows.as_slice().len());
-            for row in rows.as_slice() {
-                let _shown = print!(rt; "  ");
-                show_row(rt, row);
-            }
+            show_rows(rt, rows.as_slice());
+            drop(rows);
         }
         Err(fault) => {
             let _shown = println!(rt; "{fault:?}");
@@ -70,7 +81,11 @@ pub fn show_long_list(rt: &HostRuntime, row: &str) {
     let (end, last) = fields(rest);
     let text = list(alloc, count.parse().unwrap_or(0), end, last);
     let _shown = match read_rows(alloc, text.as_bytes()) {
-        Ok(rows) => println!(rt; "{}", rows.as_slice().len()),
+        Ok(rows) => {
+            let count = rows.as_slice().len();
+            drop(rows);
+            println!(rt; "{count}")
+        }
         Err(fault) => println!(rt; "{fault:?}"),
     };
 }

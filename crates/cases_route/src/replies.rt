@@ -10,6 +10,7 @@ use std::alloc::Global;
 pub fn show_path(rt: &HostRuntime, paths: &LocalPaths, row: &str) {
     let local = paths.local(rt.alloc(), row.trim_matches('"'));
     let _shown = println!(rt; "{local:?}");
+    drop(local);
 }
 
 // Shows the status, the media type and the body of a reply.
@@ -19,8 +20,9 @@ fn show_reply(rt: &HostRuntime, reply: &LocalReply) {
 }
 
 fn show_answer(rt: &HostRuntime, answer: Result<LocalReply, NoMemory>) {
-    if let Ok(reply) = &answer {
-        show_reply(rt, reply);
+    if let Ok(reply) = answer {
+        show_reply(rt, &reply);
+        drop(reply);
     }
 }
 
@@ -95,17 +97,13 @@ fn show_served(rt: &HostRuntime, routes: &mut TableRoutes, local: &Local, user: 
     let (method, group) = fields(rest);
     let info = asked(alloc, verb);
     let body = object(alloc, "v1", group);
-    if let Ok((reply, change)) = serve_local(
-        alloc,
-        local,
-        &info,
-        method,
-        body.as_bytes(),
-        user,
-        routes,
-    ) {
+    let served = serve_local(alloc, local, &info, method, body.as_bytes(), user, routes);
+    drop(info);
+    if let Ok((reply, change)) = served {
         show_reply(rt, &reply);
         show_made(rt, &change);
+        drop(reply);
+        drop(change);
     }
 }
 
@@ -116,7 +114,12 @@ pub fn show_request(rt: &HostRuntime, paths: &LocalPaths, routes: &mut TableRout
     let (path, rest) = fields(row);
     let (group, asks) = fields(rest);
     match paths.local(alloc, path) {
-        Ok(Some(local)) => show_served(rt, routes, &local, &of_group(alloc, group), asks),
+        Ok(Some(local)) => {
+            let user = of_group(alloc, group);
+            show_served(rt, routes, &local, &user, asks);
+            drop(user);
+            drop(local);
+        }
         _ => {
             let _shown = println!(rt; "not local");
         }

@@ -21,8 +21,8 @@ fn row_of(alloc: Global, version: &str, group: &str) -> Option<Row> {
 // The change that a call asks for, where it asks for one.
 fn change_of(alloc: Global, call: &str, version: &str, group: &str) -> Option<Change> {
     match call {
-        "create" => row_of(alloc, version, group).map(Change::Create),
-        "replace" => row_of(alloc, version, group).map(Change::Replace),
+        "create" => Some(Change::Create(row_of(alloc, version, group)?)),
+        "replace" => Some(Change::Replace(row_of(alloc, version, group)?)),
         "delete" => Some(Change::Delete(name_of(alloc, version, group))),
         _ => None,
     }
@@ -41,27 +41,38 @@ fn show_change(rt: &HostRuntime, routes: &mut TableRoutes, change: Option<Change
 }
 
 fn show_found(rt: &HostRuntime, found: Result<Option<Row>, NoMemory>) {
-    match &found {
-        Ok(Some(row)) => show_row(rt, row),
+    match found {
+        Ok(Some(row)) => {
+            show_row(rt, &row);
+            drop(row);
+        }
         Ok(None) => show_text(rt, b"none"),
         Err(_) => show_text(rt, b"no memory"),
     }
 }
 
 fn show_bytes(rt: &HostRuntime, found: Result<Option<Bytes>, NoMemory>) {
-    match &found {
-        Ok(Some(bytes)) => show_text(rt, bytes.as_slice()),
+    match found {
+        Ok(Some(bytes)) => {
+            show_text(rt, bytes.as_slice());
+            drop(bytes);
+        }
         Ok(None) => show_text(rt, b"none"),
         Err(_) => show_text(rt, b"no memory"),
     }
 }
 
+fn show_names_of(rt: &HostRuntime, rows: &[Row]) {
+    let _shown = println!(rt; "{} rows", rows.len());
+    for row in rows {
+        let _shown = println!(rt; "    {}", row.name.as_str());
+    }
+}
+
 fn show_names(rt: &HostRuntime, routes: &mut TableRoutes) {
     if let Ok(rows) = routes.list(rt.alloc()) {
-        let _shown = println!(rt; "{} rows", rows.as_slice().len());
-        for row in rows.as_slice() {
-            let _shown = println!(rt; "    {}", row.name.as_str());
-        }
+        show_names_of(rt, rows.as_slice());
+        drop(rows);
     }
 }
 
