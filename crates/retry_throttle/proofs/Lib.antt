@@ -1,0 +1,4 @@
+mod TokenLemmas
+mod WaitLemmas
+mod PostLemmas
+mod GiveLemmas

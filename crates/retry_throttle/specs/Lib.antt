@@ -1,0 +1,5 @@
+pub mod Buckets
+pub mod Tokens
+pub mod Senders
+pub mod Sendings
+pub mod Shippings
