@@ -1,0 +1,51 @@
+// The next line of an input.
+ghost use Rattle.std.specs.Prelude.{◌≡◌, ◌≤◌, IfOk, IfErr, OnOk};
+ghost use Rattle.front_ports.specs.Cause.{Rose};
+ghost use Rattle.log_ship.specs.Shipped as spec;
+
+use crate::end::ShipEnd;
+use front_ports::Source;
+use json_span::check;
+use log_lines::{LineBuffer, LineStop, ReadStop, next_line};
+
+// Why no line comes. `more` says whether bytes are held that are no line.
+fn end_of(stop: LineStop, spent: bool, more: bool) -> ShipEnd
+    ensures { result ≡ spec.end_of stop spent more }
+{
+    match stop {
+        LineStop::TooLong if spent => ShipEnd::NumbersSpent,
+        LineStop::TooLong => ShipEnd::TooLong,
+        LineStop::Input(ReadStop::AtEnd) if !more => ShipEnd::Done,
+        LineStop::Input(ReadStop::AtEnd) if spent => ShipEnd::NumbersSpent,
+        LineStop::Input(ReadStop::AtEnd) => ShipEnd::Cut,
+        LineStop::Input(ReadStop::ReadFault) => ShipEnd::ReadFault,
+        LineStop::Input(ReadStop::NoMemory) => ShipEnd::NoMemory,
+    }
+}
+
+/// Reads until a whole line is held that is a JSON text, and answers its length without its line feed. It stays held. `spent` says that no
+/// more may be read.
+pub fn next_text<S: Source>(
+    input: &mut S,
+    buffer: &mut LineBuffer,
+    spent: bool,
+) -> Result<usize, ShipEnd>
+    ensures ok { IfOk result (λ size. spec.HoldsText (S.left input.old) (S.left input.new) buffer.old buffer.new spent size) }
+    ensures err { IfErr result (λ end. spec.EndsNext (S.left input.old) (S.left input.new) buffer.old buffer.new spent
+        (Rose (S.read_faults input.old) (S.read_faults input.new)) end) }
+    ensures later { S.read_faults input.old ≤ S.read_faults input.new }
+    ensures calm { OnOk result (S.read_faults input.new ≡ S.read_faults input.old) }
+    ensures told { IfErr result (spec.KeepsCount (S.read_faults input.old) (S.read_faults input.new)) }
+{
+    let length = match next_line(input, buffer) {
+        Ok(length) => length,
+        Err(stop) => return Err(end_of(stop, spent, !buffer.as_slice().is_empty())),
+    };
+    if spent {
+        return Err(ShipEnd::NumbersSpent);
+    }
+    match check(&buffer.as_slice()[..length]) {
+        Ok(()) => Ok(length),
+        Err(_) => Err(ShipEnd::NotJson),
+    }
+}
