@@ -1,5 +1,6 @@
 -- The lines of an exchange conform.
-use Rattle.std.proofs.Common.{◌≡◌, ℕ, suc, ◌<◌, ◌≤◌, ◌+◌, Bool, true, false, List, [], ◌∷◌, ◌++◌, length, Some, None, map, refl, sym, ap, ◌∙◌, arith, ◌⊎◌, ⊎_elim, subst, lit<}
+use Rattle.std.proofs.Common.{◌≡◌, ℕ, suc, ◌<◌, ◌≤◌, ◌+◌, Bool, true, false, List, [], ◌∷◌, ◌++◌, length, Some, None, map, refl, sym, ap, ◌∙◌, arith, ◌⊎◌, inl, inr, ⊎_elim, subst, lit<}
+use Rattle.std.specs.List.{AllByRecursion}
 use Rattle.std.specs.Prelude.{codes, IfSome, not, ◌&&◌, ◌||◌, filter, nat_le, is_some, is_none, if◌then◌else◌}
 use Rattle.front_base.specs.AuditId.{AuditId}
 use Rattle.front_base.specs.Info.{is_long_running}
@@ -38,7 +39,7 @@ use Rattle.audit_reader.specs.Plain.{Fits, IsPlain, IsBody, IsCompact, named_or_
 use Rattle.audit_check.specs.Agreement.{info_of, IsInPlace, IsDecided, decision_on, is_answered, is_complete}
 use Rattle.audit_check.specs.Conforms.{AllConform}
 use Rattle.audit_check.specs.Lines.{IsLine, HasStage, rank}
-use Rattle.audit_check.specs.OwnLines.{AreInRange, AreOfOthers}
+use Rattle.audit_check.specs.OwnLines.{AreInRange, AreOfOthers, IsKeptOfAny, IsLineOf}
 use Rattle.audit_check.proofs.LineLemmas.{OneEvent, IsNew, more_cases}
 
 -- ---- what an event of the exchange is
@@ -102,6 +103,11 @@ pub shown : KeepsJson → (show : Show) (body : List ℕ) (k : Kept) → IsKeptA
 shown law show.Nothing body k h = subst IsShown (sym h) tt
 shown law show.Whole body k h = kept_shown law false body k h
 shown law show.Pruned body k h = kept_shown law true body k h
+
+-- what is kept of some body is, and what shows nothing
+pub shown_of_any : KeepsJson → (show : Show) (k : Kept) → IsKeptOfAny show k → IsShown k
+shown_of_any law show k (inl h) = shown law show h.0 k h.1
+shown_of_any law show k (inr h) = subst IsBody (sym h) tt
 
 -- ---- objects
 
@@ -343,6 +349,21 @@ lines_conform law policy max id (e ∷ es) low before h below =
     fit_conforms law policy before (fitted_lines max es) e (fitted e max) id low (fitted_as policy e max) h.0 h.1 h.2 below
     (λ after later. lines_conform law policy max id es (suc (rank e.stage)) after h.3 later)
 
+-- ---- and are lines of its request
+
+line_of : (policy : Policy) (e : Event) (id : AuditId) → Agrees policy e → e.id ≡ id → IsLineOf id (line_text e)
+line_of policy e id h own = record { event = e; line = record { fits = h.fits; plain = h.plain; spells = refl }; id_is = own }
+
+fit_is_of : (policy : Policy) (e : Event) (f : Fit) (id : AuditId) (rest : List (List ℕ)) → FitsAs policy e f → Agrees policy e → e.id ≡ id → AllByRecursion (IsLineOf id) rest → AllByRecursion (IsLineOf id) (lines_in f ++ rest)
+fit_is_of policy e (fit.Whole line) id rest is h own others = (subst (IsLineOf id) (sym is) (line_of policy e id h own), others)
+fit_is_of policy e (fit.Stripped line) id rest is h own others = (subst (IsLineOf id) (sym is) (line_of policy (stripped e) id (stripped_agrees policy e h) own), others)
+fit_is_of policy e (fit.TooLarge size) id rest is h own others = others
+
+lines_are_of : (policy : Policy) (max : ℕ) (id : AuditId) (events : List Event) (low : ℕ) → Rises policy id low events → AllByRecursion (IsLineOf id) (fitted_lines max events)
+lines_are_of policy max id [] low h = tt
+lines_are_of policy max id (e ∷ es) low h =
+    fit_is_of policy e (fitted e max) id (fitted_lines max es) (fitted_as policy e max) h.0 h.1 (lines_are_of policy max id es (suc (rank e.stage)) h.3)
+
 -- ---- the events that are due
 
 -- stages that rise from a rank on
@@ -404,3 +425,19 @@ own_conform law verb policy method level.Request d facts max before e h others =
     subst (λ (l : Level). AllConform policy before (fitted_lines max (events_at l d.omit facts))) (sym e) (due_conform law verb policy method d facts max before h (ap is_level (sym e)) others)
 own_conform law verb policy method level.RequestResponse d facts max before e h others =
     subst (λ (l : Level). AllConform policy before (fitted_lines max (events_at l d.omit facts))) (sym e) (due_conform law verb policy method d facts max before h (ap is_level (sym e)) others)
+
+due_are_of : VerbAlone → (policy : Policy) (method : List ℕ) (d : Decision) (facts : Facts) (max : ℕ) → Recorded policy method d facts → is_level d.level ≡ true →
+    AllByRecursion (IsLineOf facts.id) (fitted_lines max (events_at d.level d.omit facts))
+due_are_of verb policy method d facts max h l =
+    lines_are_of policy max facts.id (events_at d.level d.omit facts) 0
+    (events_rise verb policy method d facts h l (due.stages facts.info) 0 (stages_rise (is_long_running facts.info)))
+
+pub own_are_of : VerbAlone → (policy : Policy) (method : List ℕ) (own : Level) (d : Decision) (facts : Facts) (max : ℕ) → own ≡ d.level → Recorded policy method d facts →
+    AllByRecursion (IsLineOf facts.id) (fitted_lines max (owed_at own d.omit facts))
+own_are_of verb policy method level.None d facts max e h = tt
+own_are_of verb policy method level.Metadata d facts max e h =
+    subst (λ (l : Level). AllByRecursion (IsLineOf facts.id) (fitted_lines max (events_at l d.omit facts))) (sym e) (due_are_of verb policy method d facts max h (ap is_level (sym e)))
+own_are_of verb policy method level.Request d facts max e h =
+    subst (λ (l : Level). AllByRecursion (IsLineOf facts.id) (fitted_lines max (events_at l d.omit facts))) (sym e) (due_are_of verb policy method d facts max h (ap is_level (sym e)))
+own_are_of verb policy method level.RequestResponse d facts max e h =
+    subst (λ (l : Level). AllByRecursion (IsLineOf facts.id) (fitted_lines max (events_at l d.omit facts))) (sym e) (due_are_of verb policy method d facts max h (ap is_level (sym e)))

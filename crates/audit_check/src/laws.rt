@@ -7,12 +7,14 @@ ghost use Rattle.audit_core.specs.declared.link_note.LinkNote.{LinkNote};
 ghost use Rattle.audit_core.specs.declared.routed.Handling.{Handling};
 ghost use Rattle.audit_core.specs.declared.settings.Settings.{Settings};
 ghost use Rattle.audit_core.specs.declared.stamp.Stamp.{Stamp};
+ghost use Rattle.policy_rules.specs.declared.decision.Decision.{Decision};
 ghost use Rattle.policy_rules.specs.declared.policy.Policy.{Policy};
 ghost use Rattle.http_edge.specs.declared.request.Request.{Request};
+ghost use Rattle.stage_event.specs.declared.facts.Facts.{Facts};
 ghost use Rattle.audit_check.specs.Conforms.{AllConform, IsKnown, Judges};
 ghost use Rattle.audit_check.specs.declared.fault.LineFault.{LineFault};
 ghost use Rattle.audit_check.specs.Logs.{MayStand, StagesRise};
-ghost use Rattle.audit_check.specs.OwnLines.{AreInRange, AreOfOthers};
+ghost use Rattle.audit_check.specs.OwnLines.{AreInRange, AreOfOthers, IsLineOf, IsRecorded};
 
 use audit_reader::reads_back;
 use json_prune::kept_is_json;
@@ -37,6 +39,21 @@ pub fn one_judgement()
     reads_back();
 }
 
+/// The lines of each request that is recorded, fitted to any length, conform to the policy that it was recorded by, after any lines of
+/// other requests. It holds whatever came of the request, and each of them is a line of this request.
+pub fn recorded_lines()
+    ensures conform { (set : Settings) (stamp : Stamp) (r : Request) (d : Decision) (facts : Facts) (max : ℕ)
+        (before : List (List ℕ)) → IsRecorded set stamp r d facts → AreInRange facts
+        → AreOfOthers before facts.id → AllConform set.policy before (fitted_lines max (owed d facts)) }
+    ensures own { (set : Settings) (stamp : Stamp) (r : Request) (d : Decision) (facts : Facts) (max : ℕ)
+        → IsRecorded set stamp r d facts → AreInRange facts
+        → AllByRecursion (IsLineOf facts.id) (fitted_lines max (owed d facts)) }
+{
+    kept_is_json();
+    the_method_gives_the_verb_alone();
+    reads_back();
+}
+
 /// The lines of each exchange, fitted to any length, conform to the policy that it was recorded by, after any lines of
 /// other requests.
 pub fn own_lines()
@@ -44,7 +61,5 @@ pub fn own_lines()
         (x : Answered) (max : ℕ) (before : List (List ℕ)) → IsAnswered set stamp r handling note body x → AreInRange x.facts
         → AreOfOthers before x.facts.id → AllConform set.policy before (fitted_lines max (owed x.decision x.facts)) }
 {
-    kept_is_json();
-    the_method_gives_the_verb_alone();
-    reads_back();
+    recorded_lines();
 }

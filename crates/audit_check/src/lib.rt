@@ -4,7 +4,7 @@
 //! The main contract is that of `Checker::line`: unless memory runs out, its answer is Ok exactly where the definition
 //! `Conforms` holds of the line after those that were accepted, and otherwise the first of the reasons why not, in the order
 //! of `LineFault`. The law `whole_logs_conform` says what that comes to for a whole log, and `own_lines` that the lines of
-//! a request conform as this server answers it.
+//! a request conform as this server answers it; `recorded_lines` says it also of one whose reply was cut or never came.
 //!
 //! Nothing is promised of what a log leaves out: a request without any line, or without its last one, is no fault.
 #![tactic(auto)]
@@ -19,4 +19,4 @@ mod seen;
 
 pub use checker::Checker;
 pub use fault::LineFault;
-pub use laws::{one_judgement, own_lines, whole_logs_conform};
+pub use laws::{one_judgement, own_lines, recorded_lines, whole_logs_conform};

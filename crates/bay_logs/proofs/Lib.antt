@@ -1,0 +1,5 @@
+mod KeptLemmas
+mod NotedLemmas
+mod OwedLemmas
+mod PartLemmas
+mod WeaveLemmas

@@ -1,0 +1,24 @@
+-- What is known of a bay's exchanges, whatever came of them: each is recorded as a request of its own (Kubernetes, "Auditing").
+use Rattle.std.specs.Prelude.{◌≡◌, ℕ, ◌+◌, List, [], ◌∷◌}
+use Rattle.std.specs.List.{AllByRecursion}
+use Rattle.audit_check.specs.OwnLines.{AreInRange, IsRecorded}
+use Rattle.audit_core.specs.declared.settings.Settings.{Settings}
+use Rattle.audit_core.specs.declared.stamp.Stamp.{Stamp}
+use Rattle.http_edge.specs.declared.request.Request.{Request}
+use Rattle.session_core.specs.declared.exchange.Exchange.{Exchange}
+
+-- it is of some request, which was recorded under the audit ID of that word, bay and number
+pub record IsNoted (set : Settings) (boot bay number : ℕ) (x : Exchange) : Type 0 where
+  pub request : Request
+  pub stamp : Stamp
+  pub id_is : stamp.id ≡ record { boot = boot; bay = bay; number = number }
+  pub recorded : IsRecorded set stamp request x.decision x.facts
+
+-- and so is each of these, with numbers that go up by one from this one
+abbrev pub AreNoted : Settings → ℕ → ℕ → ℕ → List Exchange → Type 0
+AreNoted set boot bay number [] = Unit {0}
+AreNoted set boot bay number (x ∷ xs) = IsNoted set boot bay number x × AreNoted set boot bay (number + 1) xs
+
+-- their facts are in the range of their types
+abbrev pub AllInRange : List Exchange → Type 0
+AllInRange xs = AllByRecursion (λ (x : Exchange). AreInRange x.facts) xs
