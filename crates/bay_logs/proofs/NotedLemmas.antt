@@ -1,5 +1,5 @@
 -- Each exchange of a bay is recorded as a request of its own.
-use Rattle.std.proofs.Common.{◌≡◌, ℕ, ◌+◌, List, [], ◌∷◌, ◌++◌, length, length-append, Option, None, ◌⊎◌, inl, inr, refl, sym, ap, ◌∙◌, arith, subst}
+use Rattle.std.proofs.Common.{◌≡◌, ℕ, ◌+◌, List, [], ◌∷◌, ◌++◌, length, length-append, Option, None, ◌⊎◌, inl, inr, sym, ap, ◌∙◌, arith, subst}
 use Rattle.audit_check.specs.OwnLines.{IsKeptOfAny, IsRecorded}
 use Rattle.audit_core.specs.Answer.{body_of, status_of}
 use Rattle.audit_core.specs.Errand.{attributes_in, info_in}
@@ -142,9 +142,11 @@ record Goes (set : Settings) (m : BayState) (xs : List Exchange) (n : BayState) 
 noted_append : (set : Settings) (boot bay number : ℕ) (xs ys : List Exchange) → AreNoted set boot bay number xs → AreNoted set boot bay (number + length xs) ys
     → AreNoted set boot bay number (xs ++ ys)
 noted_append set boot bay number [] ys h k = subst (λ (n : ℕ). AreNoted set boot bay n ys) (let e : number + 0 ≡ number = omega arith in e) k
-noted_append set boot bay number (x ∷ xs) ys h k =
-    (h.0, noted_append set boot bay (number + 1) xs ys h.1
-    (subst (λ (n : ℕ). AreNoted set boot bay n ys) (let e : number + length (x ∷ xs) ≡ number + 1 + length xs = omega arith in e) k))
+noted_append set boot bay number (x ∷ xs) ys h k = (
+  h.0,
+  noted_append set boot bay (number + 1) xs ys h.1
+      (subst (λ (n : ℕ). AreNoted set boot bay n ys) (let e : number + length (x ∷ xs) ≡ number + 1 + length xs = omega arith in e) k),
+)
 
 goes_none : (set : Settings) (m n : BayState) → n.boot ≡ m.boot → n.lanes.bay ≡ m.lanes.bay → n.number ≡ m.number → Goes set m [] n
 goes_none set m n b l k = record { noted = tt; boot = b; bay = l; number = omega (arith, k) }

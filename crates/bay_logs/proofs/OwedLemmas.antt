@@ -1,5 +1,5 @@
 -- All lines that a bay's exchanges owe conform, and so do those of many bays.
-use Rattle.std.proofs.Common.{◌≡◌, ℕ, ◌+◌, ◌<◌, Bool, List, [], ◌∷◌, ◌++◌, refl, sym, ap, ◌∙◌, arith, subst}
+use Rattle.std.proofs.Common.{◌≡◌, ℕ, ◌+◌, ◌<◌, Bool, List, [], ◌∷◌, ◌++◌, sym, ap, ◌∙◌, arith, subst}
 use Rattle.std.specs.List.{AllByRecursion, Contains}
 use Rattle.audit_check.specs.Conforms.{AllConform}
 use Rattle.audit_check.specs.Lines.{HasStage}
@@ -22,7 +22,6 @@ use Rattle.front_base.specs.declared.stage.Stage.{Stage}
 use Rattle.http_edge.specs.declared.request.Request.{Request}
 use Rattle.policy_rules.specs.declared.decision.Decision.{Decision}
 use Rattle.session_core.specs.declared.exchange.Exchange.{Exchange}
-use Rattle.shared_queue.specs.Bays.{of_bay}
 use Rattle.stage_event.specs.declared.event.Event.{Event}
 use Rattle.stage_event.specs.declared.facts.Facts.{Facts}
 

@@ -1,8 +1,8 @@
 -- A part of a log, and logs one after another.
-use Rattle.std.proofs.Common.{◌≡◌, ℕ, zero, ◌<◌, List, [], ◌∷◌, ◌++◌, length, get_or, inl, inr, ⊎_elim, refl, sym, ap, ◌∙◌, arith, subst, append_assoc, append-nil}
+use Rattle.std.proofs.Common.{◌≡◌, ℕ, ◌<◌, List, [], ◌∷◌, ◌++◌, length, get_or, inl, inr, ⊎_elim, refl, sym, ap, ◌∙◌, arith, subst, append_assoc, append-nil}
 use Rattle.std.specs.List.{AllByRecursion, Contains}
 use Rattle.std.proofs.lemmas.List.Elements.{Contains-append_cases, Contains-append_left, Contains-append_right}
-use Rattle.audit_check.specs.Conforms.{Conforms, AllConform}
+use Rattle.audit_check.specs.Conforms.{AllConform}
 use Rattle.audit_check.specs.Lines.{IsLine, HasStage}
 use Rattle.bay_logs.specs.Woven.{IsPart}
 use Rattle.front_base.specs.AuditId.{AuditId}

@@ -1,5 +1,5 @@
 -- The lines of a run, by those of its bays.
-use Rattle.std.proofs.Common.{◌≡◌, ◌≤◌, ◌⊎◌, ℕ, zero, suc, Bool, List, [], ◌∷◌, length, slice_get, Option, Some, None, IfSome, inl, inr, refl, sym, ap, ◌∙◌, arith, subst}
+use Rattle.std.proofs.Common.{◌≡◌, ◌≤◌, ◌⊎◌, ℕ, zero, suc, List, [], ◌∷◌, length, slice_get, Option, Some, None, IfSome, inl, inr, refl, sym, ap, ◌∙◌, arith, subst}
 use Rattle.std.proofs.lemmas.Option.{slice_get_past}
 use Rattle.any_lane.specs.declared.lane.AnyLane.{AnyLane}
 use Rattle.audit_core.specs.declared.settings.Settings.{Settings}
@@ -24,7 +24,7 @@ use Rattle.session_core.specs.Bays.{BayState}
 use Rattle.session_core.specs.declared.exchange.Exchange.{Exchange}
 use Rattle.shared_queue.specs.Bays.{of_bay}
 use Rattle.sink_lanes.specs.declared.ending.SinkEnd.{SinkEnd}
-use Rattle.truncate_backend.specs.Tries.{Try, lines_of}
+use Rattle.truncate_backend.specs.Tries.{lines_of}
 use Rattle.truncate_backend.specs.declared.sink.BatchSink as sinks
 
 -- the law that is called

@@ -4,7 +4,6 @@ use Rattle.audit_core.specs.Exchange.{decision_in}
 use Rattle.audit_core.specs.declared.settings.Settings.{Settings}
 use Rattle.audit_core.specs.declared.stamp.Stamp.{Stamp}
 use Rattle.http_edge.specs.declared.request.Request.{Request}
-use Rattle.json_prune.specs.Kept.{kept as value_kept}
 use Rattle.policy_rules.specs.Policy.{first}
 use Rattle.policy_rules.specs.declared.decision.Decision.{Decision}
 use Rattle.request_info.specs.Request.{audit_info}
