@@ -8,7 +8,7 @@ use Rattle.front_plants.specs.declared.call.PlantCall.TheVariants.{Boot, Log, Ho
 use Rattle.plant_lanes.specs.Calls.{CallsPart, CalledFor, CalledInPart, sink_calls}
 use Rattle.plant_lanes.specs.declared.options.RunOptions.{RunOptions}
 use Rattle.serve_bays.specs.Calls.{bays_calls}
-use Rattle.serve_runs.specs.Made.{RunCalls, RunCallsPart}
+use Rattle.serve_runs.specs.Made.{RunCallsPart}
 use Rattle.truncate_backend.specs.Told.{Joined}
 
 -- as the law of `plant_lanes` states it
@@ -71,9 +71,6 @@ module _ (law : PartLaws) (set : Settings) (options : RunOptions) where
       (law.more a b e (Boot boot ∷ []) (log_calls logs ++ (hook_calls hooks ++ last_calls)) p
       (law.more b c e (log_calls logs) (hook_calls hooks ++ last_calls) q.made
       (law.more c d e (hook_calls hooks) last_calls r.made s)))
-
-  pub all_calls : (boot : ℕ) (logs hooks : List ℕ) (a b : Option (List PlantCall)) → RunCalls set options boot logs hooks a b → RunCallsPart set options a b
-  all_calls boot logs hooks a b c = part_by boot logs hooks a b c.allotted.0 c.allotted.1 (law.whole a b _ c.made)
 
 pub on_err : {A E : Type 0} (r : Result A E) (P : Type 0) → P → OnErr r P
 on_err (Ok x) P p = tt

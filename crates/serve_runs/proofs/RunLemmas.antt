@@ -19,10 +19,8 @@ use Rattle.plant_lanes.specs.Lanes.{LanesFor}
 use Rattle.plant_lanes.specs.Served.{SinkServed}
 use Rattle.plant_lanes.specs.declared.options.RunOptions.{RunOptions}
 use Rattle.front_ports.specs.declared.clock.Clock as clocks
-use Rattle.queue_drain.specs.Drains.{RanDrain}
 use Rattle.queue_drain.specs.declared.drain.QueueDrain.{QueueDrain}
 use Rattle.role_threads.specs.Lists.{AllPairs}
-use Rattle.role_threads.specs.Ran.{RanAll}
 use Rattle.role_threads.specs.declared.role.Roles.{Roles}
 use Rattle.serve_roles.specs.Doors.{BayHandles, RanDoor, state_of}
 use Rattle.serve_roles.specs.Ends.{bay_end, log_lane, hook_lane}
@@ -164,7 +162,7 @@ pairs_image P Q f step [] (y ∷ ys) p = absurd p
 pairs_image P Q f step (x ∷ xs) [] p = absurd p
 pairs_image P Q f step (x ∷ xs) (y ∷ ys) p = (step x y p.0, pairs_image P Q f step xs ys p.1)
 
-pairs_count : {A B : Type 0} (T : A → B → Type 0) (xs : List A) (ys : List B) → AllPairs T xs ys → length ys ≡ length xs
+pub pairs_count : {A B : Type 0} (T : A → B → Type 0) (xs : List A) (ys : List B) → AllPairs T xs ys → length ys ≡ length xs
 pairs_count T [] [] p = refl
 pairs_count T [] (y ∷ ys) p = absurd p
 pairs_count T (x ∷ xs) [] p = absurd p
@@ -227,10 +225,10 @@ all_four (Some x) P Q V W Z f p q v w = f x p q v w
 
 module _ {R L N W H T K Y D C : Type 0} (h : BayHandles R L N W H K Y D C) where
   pub ran_count : (set : Settings) (options : RunOptions) (opens : Openings) (before after : PlantTells C) (tables : List R)
-      (m n : Roles (BayRole R L W H T K Y D) (QueueDrain W T K) (QueueDrain H T K))
-      → AreMade h set options opens before after tables m → RanAll (RanBay h) (RanDrain h.log h.clock) (RanDrain h.hook h.clock) m n
-      → length n.bays.items ≡ options.bays
-  ran_count set options opens before after tables m n made ran = pairs_count (RanBay h) m.bays.items n.bays.items ran.bays ∙ made.count
+      (m : Roles (BayRole R L W H T K Y D) (QueueDrain W T K) (QueueDrain H T K)) (xs : List (BayRole R L W H T K Y D))
+      → AreMade h set options opens before after tables m → AllPairs (RanBay h) m.bays.items xs
+      → length xs ≡ options.bays
+  ran_count set options opens before after tables m xs made ran = pairs_count (RanBay h) m.bays.items xs ran ∙ made.count
 
   same_log : (a b : BayRole R L W H T K Y D) → RanBay h a b → SameAny (log_lane a) (log_lane b)
   same_log a b r = let s = r.ran.told.lanes.log in record { bay = s.bay; home = s.home; queued = s.queued }
@@ -308,17 +306,17 @@ module _ {R L N W H T K Y D C : Type 0} (h : BayHandles R L N W H K Y D C) where
       }
 
   pub run_served : (set : Settings) (options : RunOptions) (opens : Openings) (before after : PlantTells C) (tables : List R)
-      (m n : Roles (BayRole R L W H T K Y D) (QueueDrain W T K) (QueueDrain H T K)) (ended : Ended R L W H K Y D)
+      (m : Roles (BayRole R L W H T K Y D) (QueueDrain W T K) (QueueDrain H T K)) (xs : List (BayRole R L W H T K Y D)) (ended : Ended R L W H K Y D)
       → (made : AreMade h set options opens before after tables m) → after.faults ≡ before.faults
-      → RanAll (RanBay h) (RanDrain h.log h.clock) (RanDrain h.hook h.clock) m n
-      → ended.bays.items ≡ map bay_end n.bays.items
-      → SinkServed h.log h.clock (log_opens opens) set.log options.bays options.buffer made.log_allots options.limits (map log_lane n.bays.items) ended.log
-      → SinkServed h.hook h.clock (hook_opens opens options.hook_url) set.hook options.bays options.buffer made.hook_allots options.limits (map hook_lane n.bays.items) ended.hook
+      → AllPairs (RanBay h) m.bays.items xs
+      → ended.bays.items ≡ map bay_end xs
+      → SinkServed h.log h.clock (log_opens opens) set.log options.bays options.buffer made.log_allots options.limits (map log_lane xs) ended.log
+      → SinkServed h.hook h.clock (hook_opens opens options.hook_url) set.hook options.bays options.buffer made.hook_allots options.limits (map hook_lane xs) ended.hook
       → ended.status ≡ status_of (stops_of ended.bays.items)
       → RunServed h T set options opens before after tables ended
-  run_served set options opens before after tables m n ended made faults ran e log hook status =
-      let logs = map log_lane n.bays.items in
-      let hooks = map hook_lane n.bays.items in
+  run_served set options opens before after tables m xs ended made faults ran e log hook status =
+      let logs = map log_lane xs in
+      let hooks = map hook_lane xs in
       record {
         boot = made.boot;
         log_allots = made.log_allots;
@@ -327,14 +325,14 @@ module _ {R L N W H T K Y D C : Type 0} (h : BayHandles R L N W H K Y D C) where
         faults = faults;
         logs = logs;
         hooks = hooks;
-        count = ap length e ∙ (image_count bay_end n.bays.items ∙ ran_count set options opens before after tables m n made ran);
+        count = ap length e ∙ (image_count bay_end xs ∙ ran_count set options opens before after tables m xs made ran);
         each = λ k.
             subst (λ l. IfSome (slice_get l k) (BayServed h set (log_opens opens) (hook_opens opens options.hook_url) made.boot before.due tables logs hooks k)) (sym e)
             (pairs_all (RanBay h) (NewAt set (log_opens opens) (hook_opens opens options.hook_url) made.boot before.due tables) bay_end log_lane hook_lane
             (λ i x. BayServed h set (log_opens opens) (hook_opens opens options.hook_url) made.boot before.due tables logs hooks i x)
             logs hooks
             (λ i a b new r p q. bay_served set (log_opens opens) (hook_opens opens options.hook_url) made.boot before.due tables logs hooks i a b new r p q)
-            m.bays.items n.bays.items ran.bays refl refl
+            m.bays.items xs ran refl refl
             (new_at set options opens before after tables m made) k);
         log = log;
         hook = hook;

@@ -1,4 +1,5 @@
 pub mod Causes
 pub mod Made
+pub mod Ran
 pub mod Served
 pub mod Status

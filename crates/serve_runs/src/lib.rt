@@ -9,6 +9,7 @@
 #![tactic(auto)]
 
 mod ended;
+mod ending;
 mod laws;
 mod roles;
 mod run;

@@ -8,6 +8,7 @@ ghost use Rattle.serve_runs.specs.Made.{RunCallsPart};
 ghost use Rattle.serve_runs.specs.Served.{RunServed};
 
 use crate::ended::{Ended, RunStatus};
+use crate::ending::LogEnded;
 use crate::roles::make_roles;
 use crate::running::run_all;
 use crate::status::status_of;
@@ -17,8 +18,7 @@ use front_plants::{Plant, PlantFail};
 use front_ports::{Dial, Door};
 use local_replies::LocalPaths;
 use plant_lanes::{RunOptions, calls_in_part, lanes_are_served};
-use role_threads::Roles;
-use serve_roles::{EndRoom, EndedBays, end_bays};
+use serve_roles::EndRoom;
 use sink_lanes::{SinkEnd, SinkRoom, end_lanes};
 use std::alloc::Global;
 
@@ -69,14 +69,12 @@ where
     let log_room = SinkRoom::new(alloc, count)?;
     let hook_room = SinkRoom::new(alloc, count)?;
     let roles = make_roles(rt, alloc, plant, settings, paths, options, routes)?;
-    let ran = run_all(rt, alloc, roles)?;
-    let Roles { bays, log, hook } = ran;
-    let EndedBays { ends, logs, hooks } = end_bays(room, bays);
-    let log = end_lanes(log_room, logs, log);
+    let (left, hook) = run_all(rt, roles, room, log_room);
+    let LogEnded { bays, log, hooks } = left;
     let hook = end_lanes(hook_room, hooks, hook);
     Ok(Ended {
-        status: status_of(ends.as_slice()),
-        bays: ends,
+        status: status_of(bays.as_slice()),
+        bays,
         log,
         hook,
     })

@@ -6,57 +6,37 @@ use Rattle.role_threads.specs.Lists.{AllPairs}
 use Rattle.serve_roles.specs.Doors.{bay_handles}
 use Rattle.serve_roles.specs.Ends.{log_lane, hook_lane}
 use Rattle.serve_runs.specs.Status.{status_of, stops_of}
-use Rattle.serve_runs.proofs.CallLemmas.{PartLaws, on_err, no_calls, all_calls}
+use Rattle.serve_runs.proofs.CallLemmas.{PartLaws, on_err, no_calls}
 use Rattle.serve_runs.proofs.RunLemmas.{image_count, ran_count, same_logs, same_hooks, run_served}
 use Rattle.serve_runs.proofs.run.serve.Goals as goal
 use Rattle.sink_lanes.specs.Together.{SameAny}
 
-pub end_bays-ends-requires : goal.end_bays-ends-requires
-end_bays-ends-requires g c =
-    let o = c.args.options.now in
-    let h = bay_handles g.R.Routes g.P.L.Dial g.P.W.BatchSink g.P.H.BatchSink g.P.K.Clock g.P.Y.Diary g.P.D.Door
-    g.P.D.C.Source g.P.D.C.ByteSink g.P.D.C.Conn in
-    let n = ran_count h c.args.settings o g.P.Plant.opens (g.P.Plant.tells c.args.plant.now) (g.P.Plant.tells c.make_roles.new.plant) c.args.routes.items c.in_ok-roles.roles c.in_ok-ran.ran
-    c.in_ok-roles.ensures.made c.in_ok-ran.ensures in
-    omega (arith, n, c.in_ok-room.ensures, c.from-count.ensures)
+pub run_all-left-requires-clause-room : goal.run_all-left-requires-clause-room
+run_all-left-requires-clause-room g c = omega (arith, c.in_ok-roles.ensures.made.count, c.in_ok-room.ensures, c.from-count.ensures)
 
-pub end_lanes-log-requires-clause-room : goal.end_lanes-log-requires-clause-room
-end_lanes-log-requires-clause-room g c =
+pub run_all-left-requires-clause-log_room : goal.run_all-left-requires-clause-log_room
+run_all-left-requires-clause-log_room g c = omega (arith, c.in_ok-roles.ensures.made.count, c.in_ok-log_room.ensures, c.from-count.ensures)
+
+pub run_all-left-requires-clause-log : goal.run_all-left-requires-clause-log
+run_all-left-requires-clause-log g c = λ κs within xs d bays log.
     let o = c.args.options.now in
     let h = bay_handles g.R.Routes g.P.L.Dial g.P.W.BatchSink g.P.H.BatchSink g.P.K.Clock g.P.Y.Diary g.P.D.Door
     g.P.D.C.Source g.P.D.C.ByteSink g.P.D.C.Conn in
-    let bays = c.in_ok-ran.ran.bays.items in
-    let n = ran_count h c.args.settings o g.P.Plant.opens (g.P.Plant.tells c.args.plant.now) (g.P.Plant.tells c.make_roles.new.plant) c.args.routes.items
-    c.in_ok-roles.roles c.in_ok-ran.ran c.in_ok-roles.ensures.made c.in_ok-ran.ensures in
-    let m = ap length c.end_bays-ends.ensures.logs in
-    let k = image_count log_lane bays in
-    omega (arith, n, m, k, c.in_ok-log_room.ensures, c.from-count.ensures)
+    let m = c.in_ok-roles.roles in
+    let made = c.in_ok-roles.ensures.made in
+    c.lanes_are_served.ensures.can_end (log_opens g.P.Plant.opens) c.args.settings.log o.bays o.buffer made.log_allots o.limits (map log_lane m.bays.items) (map log_lane xs) m.log d made.log (same_logs h m.bays.items xs bays) log
 
 pub end_lanes-hook-requires-clause-room : goal.end_lanes-hook-requires-clause-room
 end_lanes-hook-requires-clause-room g c =
     let o = c.args.options.now in
     let h = bay_handles g.R.Routes g.P.L.Dial g.P.W.BatchSink g.P.H.BatchSink g.P.K.Clock g.P.Y.Diary g.P.D.Door
     g.P.D.C.Source g.P.D.C.ByteSink g.P.D.C.Conn in
-    let bays = c.in_ok-ran.ran.bays.items in
+    let ran = c.run_all-left.ensures in
     let n = ran_count h c.args.settings o g.P.Plant.opens (g.P.Plant.tells c.args.plant.now) (g.P.Plant.tells c.make_roles.new.plant) c.args.routes.items
-    c.in_ok-roles.roles c.in_ok-ran.ran c.in_ok-roles.ensures.made c.in_ok-ran.ensures in
-    let m = ap length c.end_bays-ends.ensures.hooks in
-    let k = image_count hook_lane bays in
+    c.in_ok-roles.roles ran.bays c.in_ok-roles.ensures.made ran.bays_ran in
+    let m = ap length ran.hooks_are in
+    let k = image_count hook_lane ran.bays in
     omega (arith, n, m, k, c.in_ok-hook_room.ensures, c.from-count.ensures)
-
-pub end_lanes-log-requires-clause-queue : goal.end_lanes-log-requires-clause-queue
-end_lanes-log-requires-clause-queue g c =
-    let o = c.args.options.now in
-    let h = bay_handles g.R.Routes g.P.L.Dial g.P.W.BatchSink g.P.H.BatchSink g.P.K.Clock g.P.Y.Diary g.P.D.Door
-    g.P.D.C.Source g.P.D.C.ByteSink g.P.D.C.Conn in
-    let m = c.in_ok-roles.roles in
-    let n = c.in_ok-ran.ran in
-    let made = c.in_ok-roles.ensures.made in
-    let ran = c.in_ok-ran.ensures in
-    let logs = c.end_bays-ends.result.logs.items in
-    let pairs = subst (λ (z : List (AnyLane _ _)). AllPairs SameAny (map log_lane m.bays.items) z) (sym c.end_bays-ends.ensures.logs)
-    (same_logs h m.bays.items n.bays.items ran.bays) in
-    c.lanes_are_served.ensures.can_end (log_opens g.P.Plant.opens) c.args.settings.log o.bays o.buffer made.log_allots o.limits (map log_lane m.bays.items) logs m.log n.log made.log pairs ran.log
 
 pub end_lanes-hook-requires-clause-queue : goal.end_lanes-hook-requires-clause-queue
 end_lanes-hook-requires-clause-queue g c =
@@ -64,13 +44,12 @@ end_lanes-hook-requires-clause-queue g c =
     let h = bay_handles g.R.Routes g.P.L.Dial g.P.W.BatchSink g.P.H.BatchSink g.P.K.Clock g.P.Y.Diary g.P.D.Door
     g.P.D.C.Source g.P.D.C.ByteSink g.P.D.C.Conn in
     let m = c.in_ok-roles.roles in
-    let n = c.in_ok-ran.ran in
     let made = c.in_ok-roles.ensures.made in
-    let ran = c.in_ok-ran.ensures in
-    let hooks = c.end_bays-ends.result.hooks.items in
-    let pairs = subst (λ (z : List (AnyLane _ _)). AllPairs SameAny (map hook_lane m.bays.items) z) (sym c.end_bays-ends.ensures.hooks)
-    (same_hooks h m.bays.items n.bays.items ran.bays) in
-    c.lanes_are_served-2.ensures.can_end (hook_opens g.P.Plant.opens o.hook_url) c.args.settings.hook o.bays o.buffer made.hook_allots o.limits (map hook_lane m.bays.items) hooks m.hook n.hook made.hook pairs ran.hook
+    let ran = c.run_all-left.ensures in
+    let hooks = c.run_all-left.result.0.hooks.items in
+    let pairs = subst (λ (z : List (AnyLane _ _)). AllPairs SameAny (map hook_lane m.bays.items) z) (sym ran.hooks_are)
+    (same_hooks h m.bays.items ran.bays ran.bays_ran) in
+    c.lanes_are_served-2.ensures.can_end (hook_opens g.P.Plant.opens o.hook_url) c.args.settings.hook o.bays o.buffer made.hook_allots o.limits (map hook_lane m.bays.items) hooks m.hook c.run_all-left.result.1 made.hook pairs ran.hook_ran
 
 pub returns-clause-served : goal.returns-clause-served
 returns-clause-served g c =
@@ -79,23 +58,19 @@ returns-clause-served g c =
     let h = bay_handles g.R.Routes g.P.L.Dial g.P.W.BatchSink g.P.H.BatchSink g.P.K.Clock g.P.Y.Diary g.P.D.Door
     g.P.D.C.Source g.P.D.C.ByteSink g.P.D.C.Conn in
     let m = c.in_ok-roles.roles in
-    let n = c.in_ok-ran.ran in
     let made = c.in_ok-roles.ensures.made in
-    let ran = c.in_ok-ran.ensures in
-    let parts = c.end_bays-ends.ensures in
-    let logs = c.end_bays-ends.result.logs.items in
-    let hooks = c.end_bays-ends.result.hooks.items in
-    let log_pairs = subst (λ (z : List (AnyLane _ _)). AllPairs SameAny (map log_lane m.bays.items) z) (sym parts.logs)
-    (same_logs h m.bays.items n.bays.items ran.bays) in
-    let hook_pairs = subst (λ (z : List (AnyLane _ _)). AllPairs SameAny (map hook_lane m.bays.items) z) (sym parts.hooks)
-    (same_hooks h m.bays.items n.bays.items ran.bays) in
-    let log = c.lanes_are_served.ensures.served (log_opens g.P.Plant.opens) set.log o.bays o.buffer made.log_allots o.limits (map log_lane m.bays.items) logs m.log n.log c.end_lanes-log.result
-    made.log log_pairs ran.log c.end_lanes-log.ensures.own c.end_lanes-log.ensures.queue in
-    let hook = c.lanes_are_served-2.ensures.served (hook_opens g.P.Plant.opens o.hook_url) set.hook o.bays o.buffer made.hook_allots o.limits (map hook_lane m.bays.items) hooks m.hook n.hook c.end_lanes-hook.result
-    made.hook hook_pairs ran.hook c.end_lanes-hook.ensures.own c.end_lanes-hook.ensures.queue in
-    run_served h set o g.P.Plant.opens (g.P.Plant.tells c.args.plant.now) (g.P.Plant.tells c.make_roles.new.plant) c.args.routes.items m n _ made c.in_ok-roles.ensures.cause ran parts.ends
-    (subst (λ z. SinkServed g.P.W.BatchSink g.P.K.Clock (log_opens g.P.Plant.opens) set.log o.bays o.buffer made.log_allots o.limits z c.end_lanes-log.result) parts.logs log)
-    (subst (λ z. SinkServed g.P.H.BatchSink g.P.K.Clock (hook_opens g.P.Plant.opens o.hook_url) set.hook o.bays o.buffer made.hook_allots o.limits z c.end_lanes-hook.result) parts.hooks hook)
+    let ran = c.run_all-left.ensures in
+    let left = c.run_all-left.result.0 in
+    let hooks = left.hooks.items in
+    let hook_pairs = subst (λ (z : List (AnyLane _ _)). AllPairs SameAny (map hook_lane m.bays.items) z) (sym ran.hooks_are)
+    (same_hooks h m.bays.items ran.bays ran.bays_ran) in
+    let log = c.lanes_are_served.ensures.served (log_opens g.P.Plant.opens) set.log o.bays o.buffer made.log_allots o.limits (map log_lane m.bays.items) (map log_lane ran.bays) m.log ran.drain left.log
+    made.log (same_logs h m.bays.items ran.bays ran.bays_ran) ran.log_ran ran.own_is ran.queue_is in
+    let hook = c.lanes_are_served-2.ensures.served (hook_opens g.P.Plant.opens o.hook_url) set.hook o.bays o.buffer made.hook_allots o.limits (map hook_lane m.bays.items) hooks m.hook c.run_all-left.result.1 c.end_lanes-hook.result
+    made.hook hook_pairs ran.hook_ran c.end_lanes-hook.ensures.own c.end_lanes-hook.ensures.queue in
+    run_served h set o g.P.Plant.opens (g.P.Plant.tells c.args.plant.now) (g.P.Plant.tells c.make_roles.new.plant) c.args.routes.items m ran.bays _ made c.in_ok-roles.ensures.cause ran.bays_ran ran.ends_are
+    log
+    (subst (λ z. SinkServed g.P.H.BatchSink g.P.K.Clock (hook_opens g.P.Plant.opens o.hook_url) set.hook o.bays o.buffer made.hook_allots o.limits z c.end_lanes-hook.result) ran.hooks_are hook)
     (c.status_of.ensures ∙ ap (λ q. status_of (stops_of q)) c.as_slice.ensures.value)
 
 pub returns-in_err-room-clause-stopped : goal.returns-in_err-room-clause-stopped
@@ -115,10 +90,3 @@ returns-in_err-hook_room-clause-stopped g c =
     let says = c.calls_in_part.ensures in
     let law : PartLaws = record { none = says.none; whole = says.whole; less = says.less; more = says.more } in
     on_err _ _ (no_calls law c.args.settings c.args.options.now _)
-
-pub returns-in_err-ran-clause-stopped : goal.returns-in_err-ran-clause-stopped
-returns-in_err-ran-clause-stopped g c =
-    let says = c.calls_in_part.ensures in
-    let law : PartLaws = record { none = says.none; whole = says.whole; less = says.less; more = says.more } in
-    let made = c.in_ok-roles.ensures.made in
-    on_err _ _ (all_calls law c.args.settings c.args.options.now made.boot made.log_allots made.hook_allots _ _ made.called)
