@@ -1,5 +1,5 @@
 -- Some of the calls of a run.
-use Rattle.std.proofs.Common.{◌≡◌, ℕ, List, [], ◌∷◌, ◌++◌, length, Option, refl, sym, subst}
+use Rattle.std.proofs.Common.{◌≡◌, ℕ, List, [], ◌∷◌, ◌++◌, length, Option}
 use Rattle.std.specs.Prelude.{replicate, Result, Ok, Err, OnErr}
 use Rattle.std.proofs.lemmas.List.{length-replicate}
 use Rattle.audit_core.specs.declared.settings.Settings.{Settings}

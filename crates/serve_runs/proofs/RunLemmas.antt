@@ -1,7 +1,6 @@
 -- A run, from roles that were made to what they leave.
 use Rattle.std.proofs.Common.{◌≡◌, ℕ, zero, suc, List, [], ◌∷◌, length, map, slice_get, Option, Some, None, IfSome, All, refl, sym, ap, subst, ◌∙◌, ◌+◌, arith}
 use Rattle.std.proofs.lemmas.List.Elements.{All-head, All-tail}
-use Rattle.std.specs.Arc.{arc_value}
 use Rattle.std.specs.Prelude.{option_map}
 use Rattle.any_lane.specs.Lanes.{any_tells}
 use Rattle.any_lane.specs.declared.lane.AnyLane.{AnyLane}
@@ -29,10 +28,9 @@ use Rattle.serve_roles.specs.Roles.{RanBay}
 use Rattle.serve_roles.specs.declared.bay_role.BayRole.{BayRole}
 use Rattle.serve_bays.specs.Bays.{IsNewBay, routes_of}
 use Rattle.serve_runs.specs.Made.{AreMade}
-use Rattle.serve_runs.specs.Served.{BayServed, IsUnoffered, Opens, RunServed}
+use Rattle.serve_runs.specs.Served.{BayServed, IsUnoffered, RunServed}
 use Rattle.serve_runs.specs.Status.{status_of, stops_of}
 use Rattle.serve_runs.specs.declared.ended.Ended.{Ended}
-use Rattle.shared_queue.specs.Lanes.{lane_bay}
 use Rattle.shared_queue.specs.Queues.{IsNewLane}
 use Rattle.shared_queue.specs.declared.lane.QueueLane.{QueueLane}
 use Rattle.shared_queue.specs.declared.outlet.QueueOutlet.{QueueOutlet}

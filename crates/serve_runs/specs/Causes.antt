@@ -1,5 +1,5 @@
 -- Why nothing ran.
-use Rattle.std.specs.Prelude.{◌≡◌, ℕ, List, []}
+use Rattle.std.specs.Prelude.{◌≡◌, ℕ, []}
 use Rattle.audit_core.specs.declared.settings.Settings.{Settings}
 use Rattle.front_plants.specs.Plants.{PlantTells}
 use Rattle.plant_lanes.specs.declared.options.RunOptions.{RunOptions}

@@ -1,12 +1,11 @@
-use Rattle.std.proofs.Common.{rules, arith, ap, sym, subst, ◌∙◌, ◌≡◌, ◌≤◌, ℕ, List, length, map, slice_get, IfSome, Option}
-use Rattle.std.specs.Arc.{arc_value}
+use Rattle.std.proofs.Common.{arith, ap, sym, subst, ◌∙◌, ◌≤◌, length, slice_get, IfSome}
 use Rattle.audit_core.specs.declared.settings.Settings.{Settings}
 use Rattle.front_base.specs.declared.line.TheConstants.{MOST_LINE_BYTES}
 use Rattle.front_plants.specs.Fresh.{log_opens, hook_opens}
 use Rattle.plant_lanes.specs.Calls.{CallsPart}
 use Rattle.plant_lanes.specs.Lanes.{LanesFor}
 use Rattle.serve_roles.specs.Doors.{bay_handles}
-use Rattle.serve_roles.specs.Ends.{log_lane, hook_lane}
+use Rattle.serve_roles.specs.Ends.{log_lane}
 use Rattle.serve_roles.specs.Ready.{TakesLines}
 use Rattle.serve_bays.specs.Bays.{IsNewBay}
 use Rattle.serve_bays.specs.Calls.{bays_calls}

@@ -1,4 +1,4 @@
-use Rattle.std.proofs.Common.{rules, arith, ap, sym, subst, ◌∙◌, ◌≡◌, List, length, map}
+use Rattle.std.proofs.Common.{arith, ap, sym, subst, ◌∙◌, List, length, map}
 use Rattle.any_lane.specs.declared.lane.AnyLane.{AnyLane}
 use Rattle.front_plants.specs.Fresh.{log_opens, hook_opens}
 use Rattle.plant_lanes.specs.Served.{SinkServed}
