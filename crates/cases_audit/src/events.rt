@@ -141,61 +141,37 @@ fn show_text(rt: &HostRuntime, row: &str, event: &Event) -> io::Result<()> {
     show_fits(rt, event, field(row, 7))
 }
 
-fn show_events(rt: &HostRuntime, row: &str, events: &[Event]) -> io::Result<()> {
-    for event in events.iter() {
-        show_text(rt, row, event)?;
-    }
-    Ok(())
+fn show_own(rt: &HostRuntime, row: &str, event: Event) -> io::Result<()> {
+    let shown = show_text(rt, row, &event);
+    drop(event);
+    shown
 }
 
-fn push_copied(
-    alloc: Global,
-    events: &mut Vec<Event>,
+// The event that copies the facts.
+fn show_copied(
+    rt: &HostRuntime,
+    row: &str,
     stage: Stage,
     level: Level,
     facts: &Facts,
-) -> Result<(), NoMemory>
+) -> io::Result<()>
     requires { (level ≢ Level.None) × (stage ≢ Stage.Panic) }
 {
-    Ok(events.push(event_at(alloc, stage, level, facts)?)?)
-}
-
-fn push_moved(
-    events: &mut Vec<Event>,
-    stage: Stage,
-    level: Level,
-    facts: Facts,
-) -> Result<(), NoMemory>
-    requires { (level ≢ Level.None) × (stage ≢ Stage.Panic) }
-{
-    Ok(events.push(event_from(stage, level, facts))?)
+    match event_at(rt.alloc(), stage, level, facts) {
+        Ok(event) => show_own(rt, row, event),
+        Err(_) => println!(rt; "  out of memory"),
+    }
 }
 
 // The event that copies the facts, and then the one that they become.
-fn events_of(
-    alloc: Global,
-    stage: Stage,
-    level: Level,
-    facts: Facts,
-) -> Result<Vec<Event>, NoMemory>
-    requires { (level ≢ Level.None) × (stage ≢ Stage.Panic) }
-{
-    let mut events = Vec::new(alloc);
-    let copied = push_copied(alloc, &mut events, stage, level, &facts);
-    let moved = push_moved(&mut events, stage, level, facts);
-    copied.and(moved)?;
-    Ok(events)
-}
-
 fn show_recorded(rt: &HostRuntime, row: &str, stage: Stage, level: Level) -> io::Result<()>
     requires { (level ≢ Level.None) × (stage ≢ Stage.Panic) }
 {
     let facts = facts_of(rt.alloc(), row);
     let due = show_due(rt, level, &facts.info);
-    match events_of(rt.alloc(), stage, level, facts) {
-        Ok(events) => due.and(show_events(rt, row, events.as_slice())),
-        Err(_) => println!(rt; "  out of memory"),
-    }
+    let copied = show_copied(rt, row, stage, level, &facts);
+    let moved = show_own(rt, row, event_from(stage, level, facts));
+    due.and(copied).and(moved)
 }
 
 fn show_stage(rt: &HostRuntime, row: &str, stage: Stage, level: Level) -> io::Result<()> {

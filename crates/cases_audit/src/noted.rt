@@ -27,11 +27,13 @@ fn noted(notes: &mut MemNotes, line: &Line) -> bool {
 
 fn show_try(rt: &HostRuntime, notes: &mut MemNotes, text: &str) -> io::Result<()> {
     let line = line_of(rt.alloc(), word(text, 0));
-    if noted(notes, &line) {
-        println!(rt; "  {text}: noted")
+    let word = if noted(notes, &line) {
+        "noted"
     } else {
-        println!(rt; "  {text}: no room")
-    }
+        "no room"
+    };
+    drop(line);
+    println!(rt; "  {text}: {word}")
 }
 
 fn show_tries(rt: &HostRuntime, row: &str, notes: &mut MemNotes) -> io::Result<()> {
@@ -48,7 +50,11 @@ pub fn show_notes(rt: &HostRuntime, row: &str) -> io::Result<()> {
     let lines = word(room, 1).parse().unwrap_or(0);
     let bytes = word(room, 2).parse().unwrap_or(0);
     match MemNotes::new(rt.alloc(), tries, lines, bytes) {
-        Ok(mut notes) => show_tries(rt, row, &mut notes),
+        Ok(mut notes) => {
+            let shown = show_tries(rt, row, &mut notes);
+            drop(notes);
+            shown
+        }
         Err(_) => println!(rt; "  out of memory"),
     }
 }

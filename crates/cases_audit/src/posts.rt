@@ -61,8 +61,13 @@ fn dial_of(alloc: Global, size: u32, row: &str) -> Result<MemDial, NoMemory> {
 fn hook_of(alloc: Global, row: &str) -> Option<Hook> {
     let size = word(row, 0).parse().unwrap_or(0);
     let notes = MemNotes::new(alloc, 8, 1_000, 100_000).ok()?;
-    let dial = dial_of(alloc, size, row).ok()?;
-    WebhookSink::start(alloc, URL, dial, notes).ok()
+    match dial_of(alloc, size, row) {
+        Ok(dial) => WebhookSink::start(alloc, URL, dial, notes).ok(),
+        Err(_) => {
+            drop(notes);
+            None
+        }
+    }
 }
 
 // The rows of a file, each as a line.
@@ -87,7 +92,8 @@ fn show_tries(rt: &HostRuntime, hook: &mut Hook, lines: &[Line], tries: usize) -
     requires { (0 < length lines.now) × (length lines.now < 2 ^ 32) }
 {
     for _ in 0..tries {
-        println!(rt; "  {:?}", hook.put(lines))?;
+        let answer = hook.put(lines);
+        println!(rt; "  {answer:?}")?;
     }
     Ok(())
 }
@@ -122,20 +128,29 @@ fn show_posts(rt: &HostRuntime, row: &str, hook: &mut Hook, lines: &[Line]) -> i
 pub fn show_post(rt: &HostRuntime, row: &str) -> io::Result<()> {
     let lines = lines_of(rt, word(field(row, 0), 1));
     match hook_of(rt.alloc(), row) {
-        Some(mut hook) => show_posts(rt, row, &mut hook, lines.as_slice()),
+        Some(mut hook) => {
+            let shown = show_posts(rt, row, &mut hook, lines.as_slice());
+            drop(hook);
+            shown
+        }
         None => println!(rt; "  out of memory"),
     }
 }
 
 fn show_answer(rt: &HostRuntime, hook: &mut Hook) -> io::Result<()> {
     let line = line_of(rt.alloc(), "{}");
-    println!(rt; "  {:?}", hook.put(std::slice::from_ref(&line)))
+    let answer = hook.put(std::slice::from_ref(&line));
+    println!(rt; "  {answer:?}")
 }
 
 /// What the post of a line comes to. A row has the most bytes of a read, and the reply.
 pub fn show_reply(rt: &HostRuntime, row: &str) -> io::Result<()> {
     match hook_of(rt.alloc(), row) {
-        Some(mut hook) => show_answer(rt, &mut hook),
+        Some(mut hook) => {
+            let shown = show_answer(rt, &mut hook);
+            drop(hook);
+            shown
+        }
         None => println!(rt; "  out of memory"),
     }
 }

@@ -28,25 +28,24 @@ fn push_parts(out: &mut String, texts: Texts) {
 }
 
 fn show_texts(alloc: Global, out: &mut String, row: &str) -> Result<(), NoMemory> {
-    match texts_of(alloc, row).copy(alloc) {
-        Ok(copy) => {
-            let shown = push_slice(out, &copy);
-            push_parts(out, copy);
-            shown
-        }
-        Err(fault) => Err(fault),
-    }
+    let texts = texts_of(alloc, row);
+    let copied = texts.copy(alloc);
+    drop(texts);
+    let copy = copied?;
+    let shown = push_slice(out, &copy);
+    push_parts(out, copy);
+    shown
 }
 
 fn show_bytes(alloc: Global, out: &mut String, row: &str) -> Result<(), NoMemory> {
-    match Bytes::new(input_of(alloc, row)).copy(alloc) {
-        Ok(copy) => {
-            let text = spelled(alloc, copy.as_slice());
-            let _ = write!(out, "{copy:?}, {text}, ");
-            Ok(write!(out, "{:?}", copy.into_vec())?)
-        }
-        Err(fault) => Err(fault),
-    }
+    let bytes = Bytes::new(input_of(alloc, row));
+    let copied = bytes.copy(alloc);
+    drop(bytes);
+    let copy = copied?;
+    let text = spelled(alloc, copy.as_slice());
+    let _ = write!(out, "{copy:?}, {text}, ");
+    drop(text);
+    Ok(write!(out, "{:?}", copy.into_vec())?)
 }
 
 // A line of these bytes, or of none where they are too many.
@@ -66,10 +65,13 @@ fn line_of(alloc: Global, row: &str) -> Line {
 }
 
 fn show_line(alloc: Global, out: &mut String, row: &str) -> Result<(), NoMemory> {
-    match line_of(alloc, row).copy(alloc) {
-        Ok(copy) => Ok(write!(out, "{copy:?}")?),
-        Err(fault) => Err(fault),
-    }
+    let line = line_of(alloc, row);
+    let copied = line.copy(alloc);
+    drop(line);
+    let copy = copied?;
+    let shown = write!(out, "{copy:?}");
+    drop(copy);
+    Ok(shown?)
 }
 
 fn user_of(alloc: Global, row: &str) -> User {
@@ -83,10 +85,13 @@ fn user_of(alloc: Global, row: &str) -> User {
 }
 
 fn show_user(alloc: Global, out: &mut String, row: &str) -> Result<(), NoMemory> {
-    match user_of(alloc, row).copy(alloc) {
-        Ok(copy) => Ok(write!(out, "{copy:?}")?),
-        Err(fault) => Err(fault),
-    }
+    let user = user_of(alloc, row);
+    let copied = user.copy(alloc);
+    drop(user);
+    let copy = copied?;
+    let shown = write!(out, "{copy:?}");
+    drop(copy);
+    Ok(shown?)
 }
 
 /// A copy of texts, of bytes, of a user or of a line, and what the first two give back.

@@ -26,7 +26,11 @@ fn push_fault(out: &mut String, fault: ValueError) -> Result<(), NoMemory> {
 pub fn show_value(alloc: Global, out: &mut String, row: &str) -> Result<(), NoMemory> {
     let bytes = input_of(alloc, row);
     match read_value(alloc, bytes.as_slice()) {
-        Ok(value) => push_value(alloc, out, &value),
+        Ok(value) => {
+            let shown = push_value(alloc, out, &value);
+            drop(value);
+            shown
+        }
         Err(fault) => push_fault(out, fault),
     }
 }
@@ -50,7 +54,11 @@ fn nested(alloc: Global, depth: u64) -> Result<Vec<u8>, NoMemory> {
 pub fn show_nested(alloc: Global, out: &mut String, row: &str) -> Result<(), NoMemory> {
     let text = nested(alloc, number_of(row.as_bytes()).unwrap_or(0))?;
     match read_value(alloc, text.as_slice()) {
-        Ok(value) => push_value(alloc, out, &value),
+        Ok(value) => {
+            let shown = push_value(alloc, out, &value);
+            drop(value);
+            shown
+        }
         Err(fault) => push_fault(out, fault),
     }
 }
@@ -88,7 +96,11 @@ pub fn show_member(alloc: Global, out: &mut String, row: &str) -> Result<(), NoM
     let text = text_of(alloc, text);
     let object = input_of(alloc, object);
     match read_value(alloc, object.as_slice()) {
-        Ok(value) => push_member(alloc, out, member_of(&value, names), text.as_str()),
+        Ok(value) => {
+            let shown = push_member(alloc, out, member_of(&value, names), text.as_str());
+            drop(value);
+            shown
+        }
         Err(fault) => push_fault(out, fault),
     }
 }

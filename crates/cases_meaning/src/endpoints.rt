@@ -36,7 +36,12 @@ fn address_of(alloc: Global, endpoints: &Endpoints, named: &str) -> Option<Addre
     match named {
         "" => endpoints.of(None),
         "others" => endpoints.others(),
-        _ => endpoints.of(Some(&service_of(alloc, named))),
+        _ => {
+            let service = service_of(alloc, named);
+            let address = endpoints.of(Some(&service));
+            drop(service);
+            address
+        }
     }
 }
 
@@ -44,7 +49,11 @@ fn address_of(alloc: Global, endpoints: &Endpoints, named: &str) -> Option<Addre
 pub fn show_address(rt: &HostRuntime, row: &str) -> io::Result<()> {
     let (source, named) = fields(row);
     match endpoints_of(rt, source) {
-        Ok(endpoints) => println!(rt; "{row} => {:?}", address_of(rt.alloc(), &endpoints, named)),
+        Ok(endpoints) => {
+            let address = address_of(rt.alloc(), &endpoints, named);
+            drop(endpoints);
+            println!(rt; "{row} => {address:?}")
+        }
         Err(fault) => println!(rt; "{row} => {fault:?}"),
     }
 }

@@ -24,7 +24,10 @@ fn policy_of(rt: &HostRuntime, field: &str) -> Result<Policy, PolicyFault> {
 
 /// The policy of a text in JSON.
 pub fn show_policy(rt: &HostRuntime, row: &str) -> io::Result<()> {
-    println!(rt; "{row} => {:?}", policy_of(rt, row))
+    let policy = policy_of(rt, row);
+    let shown = println!(rt; "{row} => {policy:?}");
+    drop(policy);
+    shown
 }
 
 fn user_of(alloc: Global, name: &str, group: &str) -> User {
@@ -68,7 +71,11 @@ fn info_of(alloc: Global, asked: &str) -> Info {
 
 fn decision_of(alloc: Global, policy: &Policy, name: &str, group: &str, asked: &str) -> Decision {
     let user = user_of(alloc, word(name), word(group));
-    decide(policy, &user, &info_of(alloc, asked))
+    let info = info_of(alloc, asked);
+    let decision = decide(policy, &user, &info);
+    drop(info);
+    drop(user);
+    decision
 }
 
 /// How a policy records a request, by a row of the policy, a user, a group of theirs and what is asked.
@@ -78,10 +85,9 @@ pub fn show_decision(rt: &HostRuntime, row: &str) -> io::Result<()> {
     let (group, asked) = fields(rest);
     match policy_of(rt, source) {
         Ok(policy) => {
-            println!(rt;
-                "{row} => {:?}",
-                decision_of(rt.alloc(), &policy, name, group, asked)
-            )
+            let decision = decision_of(rt.alloc(), &policy, name, group, asked);
+            drop(policy);
+            println!(rt; "{row} => {decision:?}")
         }
         Err(fault) => println!(rt; "{row} => {fault:?}"),
     }

@@ -1,19 +1,33 @@
 use case_rows::fields;
+use front_base::Info;
 use request_info::{audit_info, info, long_running};
 use std::io;
 
 /// What a request asks for, by a row of its method and its target.
 pub fn show_asked(rt: &HostRuntime, row: &str) -> io::Result<()> {
     let (method, target) = fields(row);
-    println!(rt; "{row} => {:?}", info(rt.alloc(), method, target))
+    let asked = info(rt.alloc(), method, target);
+    let shown = println!(rt; "{row} => {asked:?}");
+    drop(asked);
+    shown
+}
+
+fn show_info(rt: &HostRuntime, row: &str, info: &Info) -> io::Result<()> {
+    if long_running(info) {
+        return println!(rt; "{row} => long {info:?}");
+    }
+    println!(rt; "{row} => short {info:?}")
 }
 
 /// What is recorded of a request, and whether it may run for long.
 pub fn show_recorded(rt: &HostRuntime, row: &str) -> io::Result<()> {
     let (method, target) = fields(row);
     match audit_info(rt.alloc(), method, target) {
-        Ok(info) if long_running(&info) => println!(rt; "{row} => long {info:?}"),
-        Ok(info) => println!(rt; "{row} => short {info:?}"),
+        Ok(info) => {
+            let shown = show_info(rt, row, &info);
+            drop(info);
+            shown
+        }
         Err(_) => println!(rt; "{row} => no memory"),
     }
 }

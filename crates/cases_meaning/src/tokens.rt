@@ -40,24 +40,29 @@ pub fn head_of(alloc: Global, lines: &str) -> Head {
     }
 }
 
-// The user of somebody who is moved, and of somebody who is lent.
+// The user of somebody who is moved.
 fn own_user(alloc: Global, tokens: &Tokens, head: &Head) -> Result<User, NoMemory> {
     who(alloc, tokens, head)?.into_user(alloc)
 }
 
-fn lent_user(alloc: Global, tokens: &Tokens, head: &Head) -> Result<User, NoMemory> {
+/// The user of somebody who is lent.
+pub fn lent_user(alloc: Global, tokens: &Tokens, head: &Head) -> Result<User, NoMemory> {
     let asker = who(alloc, tokens, head)?;
-    user_of(alloc, &asker)
+    let user = user_of(alloc, &asker);
+    drop(asker);
+    user
 }
 
 fn show_users(rt: &HostRuntime, row: &str, tokens: &Tokens, head: &Head) -> io::Result<()> {
     let alloc = rt.alloc();
-    println!(rt;
-        "{row} => {:?}\n  user_of {:?}\n  into_user {:?}",
-        who(alloc, tokens, head),
-        lent_user(alloc, tokens, head),
-        own_user(alloc, tokens, head)
-    )
+    let asker = who(alloc, tokens, head);
+    let lent = lent_user(alloc, tokens, head);
+    let own = own_user(alloc, tokens, head);
+    let shown = println!(rt; "{row} => {asker:?}\n  user_of {lent:?}\n  into_user {own:?}");
+    drop(asker);
+    drop(lent);
+    drop(own);
+    shown
 }
 
 /// Who asks, and the user that they count as, by a row of a token file and the header lines of a request.
@@ -66,7 +71,13 @@ pub fn show_asker(rt: &HostRuntime, row: &str) -> io::Result<()> {
     let (source, lines) = fields(row);
     let file = source_of(rt, source);
     match tokens_of(alloc, file.as_slice()) {
-        Ok(tokens) => show_users(rt, row, &tokens, &head_of(alloc, lines)),
+        Ok(tokens) => {
+            let head = head_of(alloc, lines);
+            let shown = show_users(rt, row, &tokens, &head);
+            drop(head);
+            drop(tokens);
+            shown
+        }
         Err(fault) => println!(rt; "{row} => {fault:?}"),
     }
 }

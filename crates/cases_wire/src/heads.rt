@@ -52,7 +52,11 @@ fn push_request(
 pub fn show_request(alloc: Global, out: &mut String, row: &str) -> Result<(), NoMemory> {
     let input = input_of(alloc, row);
     match read_request(alloc, input.as_slice()) {
-        Ok(answer) => Ok(push_request(alloc, out, &answer)?),
+        Ok(answer) => {
+            let shown = push_request(alloc, out, &answer);
+            drop(answer);
+            Ok(shown?)
+        }
         Err(fault) => Err(fault),
     }
 }
@@ -80,10 +84,12 @@ fn push_reply(
 // What the bytes say as the head of a reply. Nothing where memory ran out.
 fn reply_answer(alloc: Global, bytes: &[u8]) -> String {
     let mut text = String::new(alloc);
-    if let Ok(answer) = read_reply(alloc, bytes)
-        && push_reply(alloc, &mut text, &answer).is_err()
-    {
-        text.clear();
+    if let Ok(answer) = read_reply(alloc, bytes) {
+        let shown = push_reply(alloc, &mut text, &answer);
+        drop(answer);
+        if shown.is_err() {
+            text.clear();
+        }
     }
     text
 }
@@ -158,15 +164,21 @@ fn headers_of(alloc: Global, bytes: &[u8]) -> Result<Option<Headers>, NoMemory> 
     }
 }
 
+fn count_of(headers: Headers) -> usize {
+    headers.into_vec().len()
+}
+
 /// The first header of a name, of each header whether it has that name and whether its name begins so, and how many there are.
 pub fn show_named(alloc: Global, out: &mut String, row: &str) -> Result<(), NoMemory> {
     let (name, head) = fields(row);
     let input = input_of(alloc, head);
     match headers_of(alloc, input.as_slice()) {
-        Ok(Some(headers)) => match push_named(alloc, out, &headers, name) {
-            Ok(()) => Ok(write!(out, ", {} headers", headers.into_vec().len())?),
-            Err(_) => Err(NoMemory),
-        },
+        Ok(Some(headers)) => {
+            let shown = push_named(alloc, out, &headers, name);
+            let count = count_of(headers);
+            shown?;
+            Ok(write!(out, ", {count} headers")?)
+        }
         Ok(None) => Ok(out.push_str("no head")?),
         Err(fault) => Err(fault),
     }
@@ -174,16 +186,29 @@ pub fn show_named(alloc: Global, out: &mut String, row: &str) -> Result<(), NoMe
 
 fn written_request(alloc: Global, bytes: &[u8]) -> Result<Vec<u8>, NoMemory> {
     match read_request(alloc, bytes) {
-        Ok(HeadAnswer::Whole { head, .. }) => Ok(write_request(alloc, &head)?.into_vec()),
+        Ok(HeadAnswer::Whole { head, .. }) => {
+            let written = write_request(alloc, &head);
+            drop(head);
+            Ok(written?.into_vec())
+        }
         Ok(_) => Ok(Vec::new(alloc)),
         Err(fault) => Err(fault),
     }
 }
 
+fn reply_text(alloc: Global, head: &ReplyHead) -> Result<Vec<u8>, NoMemory> {
+    if 100 <= head.status && head.status < 1000 {
+        return Ok(write_reply(alloc, head)?.into_vec());
+    }
+    Ok(Vec::new(alloc))
+}
+
 fn written_reply(alloc: Global, bytes: &[u8]) -> Result<Vec<u8>, NoMemory> {
     match read_reply(alloc, bytes) {
-        Ok(HeadAnswer::Whole { head, .. }) if 100 <= head.status && head.status < 1000 => {
-            Ok(write_reply(alloc, &head)?.into_vec())
+        Ok(HeadAnswer::Whole { head, .. }) => {
+            let written = reply_text(alloc, &head);
+            drop(head);
+            written
         }
         Ok(_) => Ok(Vec::new(alloc)),
         Err(fault) => Err(fault),

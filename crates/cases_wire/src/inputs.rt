@@ -91,14 +91,18 @@ fn push_read(
     conn: &mut MemConn,
     reader: Reader,
 ) -> Result<(), NoMemory> {
-    let mut intake = match reader {
+    let cut = match reader {
         Reader::Requests => return requests_from(alloc, out, conn),
-        _ => Intake::new(alloc)?,
+        Reader::Blocks => None,
+        Reader::Body(frame) => Some(frame),
     };
-    match reader {
-        Reader::Body(frame) => push_body(alloc, out, conn, &mut intake, frame),
-        _ => push_blocks(alloc, out, conn, &mut intake),
-    }
+    let mut intake = Intake::new(alloc)?;
+    let shown = match cut {
+        Some(frame) => push_body(alloc, out, conn, &mut intake, frame),
+        None => push_blocks(alloc, out, conn, &mut intake),
+    };
+    drop(intake);
+    shown
 }
 
 // What comes of an input in pieces of that size. Nothing where memory ran out.
@@ -106,7 +110,11 @@ fn read_by(alloc: Global, input: &[u8], size: u32, reader: Reader) -> Result<Str
     let mut text = String::new(alloc);
     let input = input.to_vec(alloc)?;
     let read = match conn_of(alloc, input, size, Vec::new(alloc)) {
-        Ok(mut conn) => push_read(alloc, &mut text, &mut conn, reader),
+        Ok(mut conn) => {
+            let read = push_read(alloc, &mut text, &mut conn, reader);
+            drop(conn);
+            read
+        }
         Err(fault) => Err(fault),
     };
     match read {
@@ -157,7 +165,11 @@ pub fn show_fault(alloc: Global, out: &mut String, row: &str) -> Result<(), NoMe
     let (number, text) = fields(rest);
     let fails = vec![in alloc; u64::from(count_of(number)); 1]?;
     match conn_of(alloc, input_of(alloc, text), count_of(size), fails) {
-        Ok(mut conn) => requests_from(alloc, out, &mut conn),
+        Ok(mut conn) => {
+            let shown = requests_from(alloc, out, &mut conn);
+            drop(conn);
+            shown
+        }
         Err(fault) => Err(fault),
     }
 }

@@ -44,6 +44,7 @@ fn push_head(alloc: Global, out: &mut String, bytes: &[u8]) -> Result<(), NoMemo
     match read_request(alloc, bytes) {
         Ok(HeadAnswer::Whole { head, length }) => {
             let headers = head.headers.as_slice().len();
+            drop(head);
             Ok(write!(out, "Whole, {length} bytes, {headers} headers")?)
         }
         Ok(HeadAnswer::More) => Ok(out.push_str("More")?),
@@ -55,7 +56,11 @@ fn push_head(alloc: Global, out: &mut String, bytes: &[u8]) -> Result<(), NoMemo
 
 fn push_count(alloc: Global, out: &mut String, input: Vec<u8>) -> Result<(), NoMemory> {
     match conn_of(alloc, input, 5000, Vec::new(alloc)) {
-        Ok(mut conn) => count_from(alloc, out, &mut conn),
+        Ok(mut conn) => {
+            let shown = count_from(alloc, out, &mut conn);
+            drop(conn);
+            shown
+        }
         Err(fault) => Err(fault),
     }
 }

@@ -26,21 +26,33 @@ fn summary(alloc: Global, loaded: &Loaded) -> Result<String, AllocError> {
 fn load_row(alloc: Global, contents: &str, row: &str) -> Result<Loaded, LoadFault> {
     let given = given_of(row);
     let names = names_of(alloc, given);
-    load(alloc, &names, &mut Shelf::new(contents, given))
+    let loaded = load(alloc, &names, &mut Shelf::new(contents, given));
+    drop(names);
+    loaded
+}
+
+fn summary_of(alloc: Global, loaded: Loaded) -> Result<String, AllocError> {
+    let text = summary(alloc, &loaded);
+    drop(loaded);
+    text
 }
 
 /// What the files of a row give, or why they don't.
 pub fn loaded(alloc: Global, contents: &str, row: &str) -> Result<String, AllocError> {
     match load_row(alloc, contents, row) {
-        Ok(loaded) => summary(alloc, &loaded),
-        Err(fault) => format!(in alloc; "{fault:?}\n"),
+        Ok(loaded) => summary_of(alloc, loaded),
+        Err(fault) => {
+            let text = format!(in alloc; "{fault:?}\n");
+            drop(fault);
+            text
+        }
     }
 }
 
 /// How a run ends that is given the files of a row, and what is said of it.
 pub fn refused(alloc: Global, contents: &str, row: &str) -> Result<String, AllocError> {
     match load_row(alloc, contents, row) {
-        Ok(loaded) => summary(alloc, &loaded),
+        Ok(loaded) => summary_of(alloc, loaded),
         Err(fault) => {
             let names = names_of(alloc, given_of(row));
             let none: [String; 0] = [];

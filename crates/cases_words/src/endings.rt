@@ -31,8 +31,15 @@ pub fn said_of_ended(alloc: Global, words: &[String], ended: &Ended) -> Result<S
     }
 }
 
+/// The same of a run that is nobody else's.
+pub fn said_of_own(alloc: Global, words: &[String], ended: Ended) -> Result<String, AllocError> {
+    let said = said_of_ended(alloc, words, &ended);
+    drop(ended);
+    said
+}
+
 /// The same of a run that was refused before it began.
 pub fn said_of(alloc: Global, words: &[String], outcome: Outcome) -> Result<String, AllocError> {
-    let ended = Ended::of(outcome.status, outcome.why);
-    said_of_ended(alloc, words, &ended)
+    let Outcome { status, why } = outcome;
+    said_of_own(alloc, words, Ended::of(status, why))
 }

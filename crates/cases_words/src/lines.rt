@@ -29,14 +29,18 @@ pub fn words_of(alloc: Global, line: &str) -> Result<Vec<String>, AllocError> {
 pub fn explain(alloc: Global, line: &str) -> Result<String, AllocError> {
     let words = words_of(alloc, line)?;
     let asked = read_words(alloc, &words);
-    format!(in alloc; "{asked:?}\n")
+    let text = format!(in alloc; "{asked:?}\n");
+    drop(asked);
+    text
 }
 
 /// What `serve` is asked for.
 pub fn serve(alloc: Global, line: &str) -> Result<String, AllocError> {
     let words = words_of(alloc, line)?;
     let asked = read_serve(alloc, &words);
-    format!(in alloc; "{asked:?}\n")
+    let text = format!(in alloc; "{asked:?}\n");
+    drop(asked);
+    text
 }
 
 /// The first word that is wrong in a command line of a command: the fields are the command, and the line.
@@ -44,5 +48,7 @@ pub fn first_bad_word(alloc: Global, row: &str) -> Result<String, AllocError> {
     let (command, line) = fields(row);
     let words = words_of(alloc, line)?;
     let bad = bad_word(command, words.as_slice());
-    format!(in alloc; "{bad:?}\n")
+    let text = format!(in alloc; "{bad:?}\n");
+    drop(bad);
+    text
 }

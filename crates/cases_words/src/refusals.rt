@@ -1,5 +1,5 @@
 // Refusals that no command line and no file leads to.
-use crate::endings::{ended_with, said_of_ended};
+use crate::endings::{ended_with, said_of_own};
 use crate::shelf::{given_of, names_of};
 use case_rows::{bytes_of, fields};
 use front_config::LoadFault;
@@ -57,7 +57,7 @@ pub fn refused(alloc: Global, row: &str) -> Result<String, AllocError> {
         refusal_of(alloc, refusal),
     );
     let none: [String; 0] = [];
-    said_of_ended(alloc, none.as_slice(), &ended)
+    said_of_own(alloc, none.as_slice(), ended)
 }
 
 /// Where the byte after the bytes of the second field stands.

@@ -1,5 +1,5 @@
 // Runs that end before they serve a request.
-use crate::endings::{said_of, said_of_ended};
+use crate::endings::{said_of, said_of_own};
 use crate::lines::words_of;
 use case_rows::fields;
 use proxy_server::{ReaderSource, SystemFiles, WriterSink, run_desk};
@@ -20,8 +20,15 @@ fn begun(alloc: Global, config: &ServeConfig) -> Result<String, AllocError> {
 
 fn serve(rt: &HostRuntime, words: &Vec<String>) -> Result<String, AllocError> {
     let alloc = rt.alloc();
-    match configure_serve(alloc, words, &mut SystemFiles::new(rt)) {
-        Ok(config) => begun(alloc, &config),
+    let mut files = SystemFiles::new(rt);
+    let config = configure_serve(alloc, words, &mut files);
+    drop(files);
+    match config {
+        Ok(config) => {
+            let text = begun(alloc, &config);
+            drop(config);
+            text
+        }
         Err(outcome) => said_of(alloc, words.as_slice(), outcome),
     }
 }
@@ -29,16 +36,14 @@ fn serve(rt: &HostRuntime, words: &Vec<String>) -> Result<String, AllocError> {
 // Over an input of no bytes.
 fn explain(rt: &HostRuntime, words: &Vec<String>) -> Result<String, AllocError> {
     let alloc = rt.alloc();
+    let mut files = SystemFiles::new(rt);
     let mut source = ReaderSource::new(b"".as_slice());
     let mut out = WriterSink::new(io::sink());
-    let ended = run_desk(
-        alloc,
-        words,
-        &mut SystemFiles::new(rt),
-        &mut source,
-        &mut out,
-    );
-    said_of_ended(alloc, words.as_slice(), &ended)
+    let ended = run_desk(alloc, words, &mut files, &mut source, &mut out);
+    drop(files);
+    drop(source);
+    drop(out);
+    said_of_own(alloc, words.as_slice(), ended)
 }
 
 /// How a run of a command ends, and what is said of it: the fields are the command, and the command line.

@@ -27,8 +27,15 @@ fn settings(alloc: Global) -> Option<Settings>
     ensures { IfSome result (λ set. (set.max_event ≡ 102400) × (set.log ≡ Blocking) × (set.hook ≡ Off)) }
 {
     let tokens = read_tokens(alloc, b"".as_slice()).ok()?;
-    let policy = Policy::all_metadata(alloc).ok()?;
-    let endpoints = read_endpoints(alloc, b"local,127.0.0.1:9001\n".as_slice()).ok()?;
+    let Ok(policy) = Policy::all_metadata(alloc) else {
+        drop(tokens);
+        return None;
+    };
+    let Ok(endpoints) = read_endpoints(alloc, b"local,127.0.0.1:9001\n".as_slice()) else {
+        drop(tokens);
+        drop(policy);
+        return None;
+    };
     Some(Settings {
         tokens,
         policy,
@@ -49,27 +56,78 @@ fn routes_of(alloc: Global) -> Option<TableRoutes> {
     TableRoutes::new(alloc, table).ok()
 }
 
-/// Whether a connection that gives the text so often was served to its end. No request in it may be the last one of its
-/// connection.
-pub fn connection(alloc: Global, text: &[u8], times: u32) -> Option<bool> {
-    let settings = settings(alloc)?;
-    let paths = LocalPaths::new(alloc).ok()?;
-    let mut bay = Bay {
+type OwnBay = Bay<TableRoutes, LoopDial, OwnLog, OwnLog, MemClock, NoDiary>;
+
+fn bay_over(alloc: Global, routes: TableRoutes, log: OwnLog, hook: OwnLog) -> OwnBay
+    ensures { (result.number ≡ 0) × (result.lanes.log_lines ≡ 0) × (result.lanes.hook_lines ≡ 0) }
+{
+    Bay {
         boot: 0,
         number: 0,
-        routes: routes_of(alloc)?,
+        routes,
         dial: LoopDial::new(alloc),
         lanes: Lanes {
             bay: 0,
-            log: log_of(alloc)?,
-            hook: log_of(alloc)?,
+            log,
+            hook,
             log_lines: 0,
             hook_lines: 0,
         },
         clock: MemClock::new(Moment::epoch(), 1),
         diary: NoDiary,
+    }
+}
+
+fn bay_of(alloc: Global) -> Option<OwnBay>
+    ensures { IfSome result (λ bay. (bay.number ≡ 0) × (bay.lanes.log_lines ≡ 0) × (bay.lanes.hook_lines ≡ 0)) }
+{
+    let log = log_of(alloc)?;
+    let Some(hook) = log_of(alloc) else {
+        drop(log);
+        return None;
     };
-    let mut conn = RepeatConn::new(text, times);
-    let end = serve_connection(alloc, &settings, &paths, &mut bay, &mut conn);
-    Some(end == ConnEnd::Stopped(End::Ended))
+    let Some(routes) = routes_of(alloc) else {
+        drop(log);
+        drop(hook);
+        return None;
+    };
+    Some(bay_over(alloc, routes, log, hook))
+}
+
+// Whether a bay with these settings serves a connection to its end.
+fn is_served(
+    alloc: Global,
+    settings: &Settings,
+    paths: &LocalPaths,
+    bay: &mut OwnBay,
+    mut conn: RepeatConn<'_>,
+) -> bool
+    requires settings { (settings.now.max_event ≡ 102400) × (settings.now.log ≡ Blocking) × (settings.now.hook ≡ Off) }
+    requires bay { (bay.old.number ≡ 0) × (bay.old.lanes.log_lines ≡ 0) × (bay.old.lanes.hook_lines ≡ 0) }
+{
+    let end = serve_connection(alloc, settings, paths, bay, &mut conn);
+    matches!(end, ConnEnd::Stopped(End::Ended))
+}
+
+fn serve_once(alloc: Global, settings: &Settings, conn: RepeatConn<'_>) -> Option<bool>
+    requires { (settings.now.max_event ≡ 102400) × (settings.now.log ≡ Blocking) × (settings.now.hook ≡ Off) }
+{
+    let paths = LocalPaths::new(alloc).ok()?;
+    let Some(mut bay) = bay_of(alloc) else {
+        drop(paths);
+        return None;
+    };
+    let served = is_served(alloc, settings, &paths, &mut bay, conn);
+    drop(bay);
+    drop(paths);
+    Some(served)
+}
+
+/// Whether a connection that gives the text so often was served to its end. No request in it may be the last one of its
+/// connection.
+pub fn connection(alloc: Global, text: &[u8], times: u32) -> Option<bool> {
+    let settings = settings(alloc)?;
+    let served = serve_once(alloc, &settings, RepeatConn::new(text, times));
+    drop(settings);
+    served
 }

@@ -7,6 +7,7 @@ use apiservice_table::{Change, RouteTable, Routes, TableRoutes};
 use route_history::{NewRoutes, RouteName};
 use route_share::share_routes;
 use std::alloc::Global;
+use std::marker::Brand;
 use std::rt::Clock;
 use std::sync::Wait;
 use std::sync::atomic::{AtomicUsize, Ordering};
@@ -31,9 +32,11 @@ impl LookUps {
         threads: u16,
         writes: bool,
     ) -> Option<LookUps> {
-        let keys = keys_of(alloc, read_rows(alloc, text).ok()?.as_slice(), 32)?;
+        let rows = read_rows(alloc, text).ok()?;
+        let keys = keys_of(alloc, rows.as_slice(), 32);
+        drop(rows);
         Some(LookUps {
-            keys,
+            keys: keys?,
             times,
             threads: threads.min(64),
             writes,
@@ -63,7 +66,9 @@ impl<X: Routes> Task<X> {
                 let found = self
                     .routes
                     .find(self.alloc, group.as_str(), version.as_str());
-                self.good = self.good && matches!(found, Ok(Some(_)));
+                let is_found = matches!(found, Ok(Some(_)));
+                drop(found);
+                self.good = self.good && is_found;
             }
             turn = turn.saturating_add(1);
             if turn >= asked.keys.len() {
@@ -103,6 +108,28 @@ fn run_task<X: Routes, R: Clock>(
     }
 }
 
+// Adds a task over these routes.
+fn push_task<X: Drop>(alloc: Global, tasks: &mut Vec<Task<X>>, routes: X, row: &Row) -> Option<()> {
+    let row = row.copy(alloc).ok()?;
+    let task = Task {
+        alloc,
+        routes,
+        row,
+        good: true,
+    };
+    tasks.push(task).ok()
+}
+
+// A task over each of these.
+fn tasks_of<X: Drop>(alloc: Global, all: Vec<X>, row: &Row) -> Option<Vec<Task<X>>> {
+    let mut tasks = Vec::new(alloc);
+    let mut whole = true;
+    for routes in all {
+        whole = whole && push_task(alloc, &mut tasks, routes, row).is_some();
+    }
+    if whole { Some(tasks) } else { None }
+}
+
 // Whether all threads found what they looked up.
 fn run_all<X: Routes + Drop + Send, R: Threads + Sync + Clock>(
     rt: &R,
@@ -111,18 +138,7 @@ fn run_all<X: Routes + Drop + Send, R: Threads + Sync + Clock>(
     all: Vec<X>,
     row: &Row,
 ) -> Option<bool> {
-    let mut tasks = Vec::new(alloc);
-    for routes in all {
-        let row = row.copy(alloc).ok()?;
-        tasks
-            .push(Task {
-                alloc,
-                routes,
-                row,
-                good: true,
-            })
-            .ok()?;
-    }
+    let mut tasks = tasks_of(alloc, all, row)?;
     let done = AtomicUsize::new(0);
     let count = tasks.len();
     if count > 0 {
@@ -136,11 +152,33 @@ fn run_all<X: Routes + Drop + Send, R: Threads + Sync + Clock>(
     Some(tasks.as_slice().iter().all(|task| task.good))
 }
 
-/// The table of a list, and its first row.
-pub fn table_and_row(alloc: Global, text: &[u8]) -> Option<(RouteTable, Row)> {
+fn first_row(alloc: Global, table: &RouteTable) -> Option<Row> {
+    table.rows().first()?.copy(alloc).ok()
+}
+
+// The table of a list, and its first row.
+fn table_and_row(alloc: Global, text: &[u8]) -> Option<(RouteTable, Row)> {
     let table = table_of(alloc, text)?;
-    let row = table.rows().first()?.copy(alloc).ok()?;
+    let Some(row) = first_row(alloc, &table) else {
+        drop(table);
+        return None;
+    };
     Some((table, row))
+}
+
+fn push_routes(alloc: Global, all: &mut Vec<TableRoutes>, text: &[u8]) -> Option<()> {
+    let table = table_of(alloc, text)?;
+    let routes = TableRoutes::new(alloc, table).ok()?;
+    all.push(routes).ok()
+}
+
+// So many tables of a list.
+fn routes_of(alloc: Global, text: &[u8], count: u16) -> Option<Vec<TableRoutes>> {
+    let mut all = Vec::new(alloc);
+    for _ in 0..count {
+        push_routes(alloc, &mut all, text)?;
+    }
+    Some(all)
 }
 
 /// By threads that have a table each.
@@ -150,17 +188,18 @@ pub fn own<R: Threads + Sync + Clock>(
     asked: &LookUps,
     text: &[u8],
 ) -> Option<bool> {
-    let mut all = Vec::new(alloc);
-    for _ in 0..asked.count() {
-        let table = table_of(alloc, text)?;
-        all.push(TableRoutes::new(alloc, table).ok()?).ok()?;
-    }
-    let (_, row) = table_and_row(alloc, text)?;
-    run_all(rt, alloc, asked, all, &row)
+    let (table, row) = table_and_row(alloc, text)?;
+    drop(table);
+    let done = match routes_of(alloc, text, asked.count()) {
+        Some(all) => run_all(rt, alloc, asked, all, &row),
+        None => None,
+    };
+    drop(row);
+    done
 }
 
-/// By threads that share one table.
-pub fn shared<N: RouteName + Send + Sync, R: Threads + Wait + Copy + Send + Sync + Drop + Clock>(
+// By threads that share one table.
+fn share<N: RouteName + Send + Sync, R: Threads + Wait + Copy + Send + Sync + Drop + Clock>(
     rt: R,
     alloc: Global,
     asked: &LookUps,
@@ -172,4 +211,21 @@ pub fn shared<N: RouteName + Send + Sync, R: Threads + Wait + Copy + Send + Sync
 {
     let all = share_routes::<N, R>(rt, alloc, routes, asked.count()).ok()?;
     run_all(&rt, alloc, asked, all, row)
+}
+
+/// By threads that share the table of a list.
+pub fn shared<R: Threads + Wait + Copy + Send + Sync + Drop + Clock>(
+    rt: R,
+    alloc: Global,
+    asked: &LookUps,
+    text: &[u8],
+) -> Option<bool> {
+    let (table, row) = table_and_row(alloc, text)?;
+    let Ok(routes) = NewRoutes::new(alloc, table) else {
+        drop(row);
+        return None;
+    };
+    let done = share::<Brand, R>(rt, alloc, asked, routes, &row);
+    drop(row);
+    done
 }

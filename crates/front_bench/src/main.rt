@@ -21,77 +21,95 @@ mod sinks;
 
 use calls::{check, compact, find, log, post, rows};
 use connection::connection;
-use look_ups::{LookUps, own, shared, table_and_row};
-use route_history::NewRoutes;
+use look_ups::{LookUps, own, shared};
+use std::alloc::Global;
 use std::io::Read;
-use std::marker::Brand;
 use std::process::ExitCode;
+use std::rt::Clock;
+use std::sync::Wait;
+use std::thread::Threads;
 use std::{env, fs};
 
 fn words(rt: &HostRuntime) -> Option<Vec<String>> {
     env::args(rt).ok()?.skip(1).collect(rt.alloc()).ok()
 }
 
-fn run(rt: &HostRuntime) -> Option<bool> {
-    let words = words(rt)?;
-    let [call, times, others @ ..] = words.as_slice() else {
-        return None;
-    };
-    let times = times.as_str().parse::<u32>().ok()?;
+fn input(rt: &HostRuntime) -> Option<Vec<u8>> {
     let mut input = Vec::new(rt.alloc());
     rt.stdin().read_to_end(&mut input).ok()?;
-    let text = input.as_slice();
-    match (call.as_str(), others) {
+    Some(input)
+}
+
+// Makes a call with these words after its name.
+fn call(rt: &HostRuntime, name: &str, words: &[String], text: &[u8]) -> Option<bool> {
+    let [times, others @ ..] = words else {
+        return None;
+    };
+    let alloc = rt.alloc();
+    let times = times.as_str().parse::<u32>().ok()?;
+    match (name, others) {
         ("check", []) => Some(check(text, times)),
-        ("compact", []) => Some(compact(rt.alloc(), text, times)),
-        ("rows", []) => Some(rows(rt.alloc(), text, times)),
-        ("find", [most]) => find(rt.alloc(), text, times, most.as_str().parse().ok()?),
+        ("compact", []) => Some(compact(alloc, text, times)),
+        ("rows", []) => Some(rows(alloc, text, times)),
+        ("find", [most]) => find(alloc, text, times, most.as_str().parse().ok()?),
         ("log", [count, path]) => {
-            let file = fs::create(rt, path.as_str()).ok()?;
-            log(rt.alloc(), text, times, count.as_str().parse().ok()?, file)
+            let count = count.as_str().parse().ok()?;
+            log(
+                alloc,
+                text,
+                times,
+                count,
+                fs::create(rt, path.as_str()).ok()?,
+            )
         }
-        ("connection", []) => connection(rt.alloc(), text, times),
-        ("post", [count]) => post(rt.alloc(), text, times, count.as_str().parse().ok()?),
+        ("connection", []) => connection(alloc, text, times),
+        ("post", [count]) => post(alloc, text, times, count.as_str().parse().ok()?),
         _ => None,
     }
 }
 
-// The list, what is looked up in it by many threads, and whether they share one table, where that is asked for.
-fn asked_for(rt: &HostRuntime) -> Option<(Vec<u8>, LookUps, bool)> {
-    let words = words(rt)?;
-    let [call, times, threads, mode] = words.as_slice() else {
+// Looks up rows by many threads, with these words after the name of the call.
+fn look_up<R: Threads + Wait + Copy + Send + Sync + Drop + Clock>(
+    alloc: Global,
+    threads: R,
+    name: &str,
+    words: &[String],
+    text: &[u8],
+) -> Option<bool> {
+    let [times, count, mode] = words else {
         return None;
     };
-    let share = call.as_str() == "shared";
-    if !share && call.as_str() != "own" {
-        return None;
-    }
-    let mut input = Vec::new(rt.alloc());
-    rt.stdin().read_to_end(&mut input).ok()?;
     let times = times.as_str().parse::<u32>().ok()?;
-    let threads = threads.as_str().parse::<u16>().ok()?;
-    let asked = LookUps::new(
-        rt.alloc(),
-        input.as_slice(),
-        times,
-        threads,
-        mode.as_str() == "write",
-    )?;
-    Some((input, asked, share))
+    let count = count.as_str().parse::<u16>().ok()?;
+    let asked = LookUps::new(alloc, text, times, count, mode.as_str() == "write")?;
+    if name == "own" {
+        own(&threads, alloc, &asked, text)
+    } else {
+        shared(threads, alloc, &asked, text)
+    }
+}
+
+fn run<R: Threads + Wait + Copy + Send + Sync + Drop + Clock>(
+    rt: &HostRuntime,
+    threads: R,
+    words: &[String],
+) -> Option<bool> {
+    let [name, others @ ..] = words else {
+        return None;
+    };
+    let input = input(rt)?;
+    match name.as_str() {
+        "own" | "shared" => {
+            look_up(rt.alloc(), threads, name.as_str(), others, input.as_slice())
+        }
+        _ => call(rt, name.as_str(), others, input.as_slice()),
+    }
 }
 
 fn main(rt: HostRuntime) -> ExitCode {
-    let alloc = rt.alloc();
-    let done = match asked_for(&rt) {
-        None => run(&rt),
-        Some((text, asked, false)) => own(&rt, alloc, &asked, text.as_slice()),
-        Some((text, asked, true)) => match table_and_row(alloc, text.as_slice()) {
-            None => None,
-            Some((table, row)) => match NewRoutes::new(alloc, table) {
-                Err(_) => None,
-                Ok(routes) => { shared::<Brand, HostRuntime>(rt, alloc, &asked, routes, &row) }
-            },
-        },
+    let done = match words(&rt) {
+        Some(words) => run(&rt, rt, words.as_slice()),
+        None => None,
     };
     match done {
         Some(true) => ExitCode::from(0),

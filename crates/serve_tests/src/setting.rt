@@ -20,27 +20,31 @@ fn words_of(alloc: Global, hook: u16) -> Result<Vec<String>, AllocError> {
     Ok(words)
 }
 
-fn bytes_of(alloc: Global, text: &str) -> Result<Bytes, AllocError> {
-    Ok(Bytes::new(text.as_bytes().to_vec(alloc)?))
+// These bytes, or none where memory refuses them.
+fn bytes_of(alloc: Global, text: &str) -> Bytes {
+    match text.as_bytes().to_vec(alloc) {
+        Ok(bytes) => Bytes::new(bytes),
+        Err(_) => Bytes::new(Vec::new(alloc)),
+    }
 }
 
 fn files(alloc: Global, backend: u16) -> Result<MemFiles, Fail> {
     let to = format!(in alloc; "local,127.0.0.1:{backend}\ns/x:443,127.0.0.1:{backend}\n")?;
-    let tokens = (
-        Text::copy_of(alloc, "t")?,
-        bytes_of(alloc, "t1,root,1,\"system:masters\"\n")?,
-    );
-    let services = (Text::copy_of(alloc, "s")?, bytes_of(alloc, SERVICES)?);
-    let endpoints = (Text::copy_of(alloc, "e")?, bytes_of(alloc, to.as_str())?);
-    Ok(MemFiles::new(
-        vec![in alloc; tokens, services, endpoints]?,
-        Vec::new(alloc),
-    ))
+    let tokens = Text::copy_of(alloc, "t")?;
+    let services = Text::copy_of(alloc, "s")?;
+    let endpoints = Text::copy_of(alloc, "e")?;
+    let all = vec![in alloc;
+        (tokens, bytes_of(alloc, "t1,root,1,\"system:masters\"\n")),
+        (services, bytes_of(alloc, SERVICES)),
+        (endpoints, bytes_of(alloc, to.as_str())),
+    ]?;
+    Ok(MemFiles::new(all, Vec::new(alloc)))
 }
 
 pub fn configured(alloc: Global, hook: u16, backend: u16) -> Result<ServeConfig, Fail> {
     let words = words_of(alloc, hook)?;
-    match configure_serve(alloc, &words, &mut files(alloc, backend)?) {
+    let mut files = files(alloc, backend)?;
+    match configure_serve(alloc, &words, &mut files) {
         Ok(config) => Ok(config),
         Err(_) => Err(Fail::from("a configuration")),
     }

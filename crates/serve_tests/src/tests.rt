@@ -7,7 +7,6 @@ ghost use Rattle.proxy_runs.specs.Setup.{options_of};
 use crate::counted::{Counted, figures_of};
 use crate::play::{Peers, play};
 use crate::setting::configured;
-use apiservice_table::RouteTable;
 use audit_core::Settings;
 use front_base::{Address, MOST_LINE_BYTES};
 use proxy_runs::{can_run, settings_of};
@@ -16,6 +15,7 @@ use serve_config::ServeConfig;
 use serve_runs::RunStatus;
 use serve_words::ServeWords;
 use shared_runs::run_shared;
+use std::alloc::Global;
 use std::marker::Brand;
 use std::sync::Arc;
 use std::test::Fail;
@@ -23,8 +23,8 @@ use std::thread;
 use tcp_plant::{TcpGate, TcpPlant};
 use tcp_ports::DEFAULT_LIMITS;
 
-// A gate for two bays, which is open.
-fn open_gate(rt: &HostRuntime) -> Result<Arc<TcpGate>, Fail> {
+// A gate for two bays, which is open, and the end of it that closes it.
+fn open_gate(rt: &HostRuntime) -> Result<(Arc<TcpGate>, Arc<TcpGate>), Fail> {
     let alloc = rt.alloc();
     let at = Address {
         ip: [127, 0, 0, 1],
@@ -33,7 +33,9 @@ fn open_gate(rt: &HostRuntime) -> Result<Arc<TcpGate>, Fail> {
     let hook = String::from_str(alloc, "webhook")?;
     let gate = TcpGate::bind(rt, alloc, at, DEFAULT_LIMITS, 2, String::new(alloc), hook)?;
     gate.open();
-    Ok(Arc::new(alloc, gate)?)
+    let gate = Arc::new(alloc, gate)?;
+    let closer = Arc::try_clone(&gate)?;
+    Ok((gate, closer))
 }
 
 // Whether a run may have these numbers.
@@ -48,31 +50,70 @@ fn can_serve(words: &ServeWords, settings: &Settings) -> bool
 }
 
 // What is left of a configuration, in parts that go different ways.
-fn parts_of(config: ServeConfig) -> (ServeWords, Settings, RouteTable) {
+#[derive(Drop)]
+struct Ready {
+    words: ServeWords,
+    settings: Settings,
+    routes: NewRoutes,
+}
+
+fn ready_of(alloc: Global, config: ServeConfig) -> Option<Ready> {
     let ServeConfig { words, loaded } = config;
     let (settings, table) = settings_of(&words, loaded);
-    (words, settings, table)
+    match NewRoutes::new(alloc, table) {
+        Ok(routes) => Some(Ready {
+            words,
+            settings,
+            routes,
+        }),
+        Err(_) => None,
+    }
+}
+
+// What the run of a server over these peers is made of.
+fn prepared(alloc: Global, peers: &Peers) -> Result<Ready, Fail> {
+    let (hook, backend) = peers.ports()?;
+    let config = configured(alloc, hook, backend)?;
+    match ready_of(alloc, config) {
+        Some(ready) => Ok(ready),
+        None => Err(Fail::from("routes")),
+    }
 }
 
 #[test]
 fn bays_and_the_drainer_work_at_once(rt: HostRuntime) -> Result<(), Fail> {
     let alloc = rt.alloc();
     let peers = Peers::open(&rt)?;
-    let (hook, backend) = peers.ports()?;
-    let gate = open_gate(&rt)?;
-    let closer = Arc::try_clone(&gate)?;
-    let listen = gate.address();
-    let mut plant = TcpPlant::new(&rt, &gate)?;
-    let (words, settings, table) = parts_of(configured(alloc, hook, backend)?);
-    let routes = NewRoutes::new(alloc, table)?;
-    if !can_serve(&words, &settings) {
+    let ready = prepared(alloc, &peers)?;
+    if !can_serve(&ready.words, &ready.settings) {
+        drop(ready);
         return Err(Fail::from("numbers of a run"));
     }
-    let player = thread::spawn(&rt, move || {
+    let (gate, closer) = match open_gate(&rt) {
+        Ok(ends) => ends,
+        Err(fail) => {
+            drop(ready);
+            return Err(fail);
+        }
+    };
+    let listen = gate.address();
+    let Ok(mut plant) = TcpPlant::new(&rt, &gate) else {
+        drop(ready);
+        return Err(Fail::from("a plant"));
+    };
+    let Ok(player) = thread::spawn(&rt, move || {
         let played = play(&rt, listen, &peers).unwrap_or("a socket failed");
         closer.close();
         played
-    })?;
+    }) else {
+        drop(ready);
+        return Err(Fail::from("a player"));
+    };
+    let Ready {
+        words,
+        settings,
+        routes,
+    } = ready;
     let ended = run_shared::<Brand, TcpPlant<HostRuntime>>(
         &rt, alloc, &words, settings, listen, routes, &mut plant,
     );

@@ -52,15 +52,28 @@ fn told(alloc: Global, done: Answer, out: &MemBytes) -> Option<String> {
     }
 }
 
+fn told_by<R: Threads + Wait + Copy + Send + Sync + Drop>(
+    rt: &R,
+    alloc: Global,
+    words: &Vec<String>,
+    out: &mut MemBytes,
+) -> Option<String> {
+    let done = run_rehearse(rt, alloc, words, out).answer();
+    told(alloc, done, out)
+}
+
 fn rehearsed<R: Threads + Wait + Copy + Send + Sync + Drop>(
     rt: &R,
     alloc: Global,
     line: &str,
 ) -> Option<String> {
-    let words = words_of(alloc, line).ok()?;
     let mut out = MemBytes::new(alloc, 4096, Vec::new(alloc)).ok()?;
-    let done = run_rehearse(rt, alloc, &words, &mut out).answer();
-    told(alloc, done, &out)
+    let told = match words_of(alloc, line) {
+        Ok(words) => told_by(rt, alloc, &words, &mut out),
+        Err(_) => None,
+    };
+    drop(out);
+    told
 }
 
 fn by_many_bays<R: Threads + Wait + Copy + Send + Sync + Drop>(
@@ -69,7 +82,9 @@ fn by_many_bays<R: Threads + Wait + Copy + Send + Sync + Drop>(
 ) -> Option<String> {
     let mut out = MemBytes::new(alloc, 4096, Vec::new(alloc)).ok()?;
     let done = run_plan(rt, alloc, MANY_BAYS, &mut out).answer();
-    told(alloc, done, &out)
+    let told = told(alloc, done, &out);
+    drop(out);
+    told
 }
 
 // What the first run by many bays told, where all others told the same.
