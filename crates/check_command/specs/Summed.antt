@@ -1,5 +1,5 @@
 -- A run of the command `check` that is followed by a summary, where its words ask for one.
-use Rattle.std.specs.Prelude.{◌≡◌, ℕ, ◌⊎◌, Bool, true, false, List, Option}
+use Rattle.std.specs.Prelude.{◌≡◌, ℕ, Bool, true, false, List, Option}
 use Rattle.std.specs.Io.KnownBytes.{Appends}
 use Rattle.check_command.specs.Run.{Run, why_of}
 use Rattle.check_command.specs.Words.{asks_summary}
