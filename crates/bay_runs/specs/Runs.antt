@@ -19,7 +19,7 @@ use Rattle.session_core.specs.declared.exchange.Exchange.{Exchange}
 
 -- ---- what is told
 
--- what a connection tells: the address of its peer, and its bytes and faults
+-- what a connection tells: the address of its peer, its bytes and faults, and what it will wish
 pub record ConnTells : Type 0 where
   pub peer : List ℕ
   pub state : ConnState
@@ -32,6 +32,7 @@ conn_tells s b c conn = record {
     written = b.written conn;
     read_faults = s.read_faults conn;
     write_faults = b.write_faults conn;
+    wishes = c.wishes conn;
   };
 }
 

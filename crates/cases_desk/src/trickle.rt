@@ -17,7 +17,7 @@ impl ByteSink for Trickle {
 
     ghost write_faults = { λ t. t.faults };
 
-    ghost inward = { λ _. record { told = None; faults = 0; mark = [] } };
+    ghost inward = { λ _. record { told = None; faults = 0; mark = []; wishes = None } };
 
     fn write(&mut self, piece: &[u8]) -> Result<usize, PortFault> {
         let count = piece.len().min(self.most);

@@ -53,6 +53,7 @@ json_quoted.txt
 json_escaped.txt
 json_members.txt
 port_conns.txt
+port_wishes.txt
 port_sinks.txt
 port_files.txt
 port_doors.txt

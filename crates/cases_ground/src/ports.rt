@@ -116,6 +116,29 @@ fn show_conn(alloc: Global, out: &mut String, row: &str) -> Result<(), NoMemory>
     }
 }
 
+// What a connection wishes that was given these, each time that it is asked: four times.
+fn show_wishes(alloc: Global, out: &mut String, row: &str) -> Result<(), NoMemory> {
+    let mut wishes = Vec::new(alloc);
+    for word in row.split(' ') {
+        if word != "-" {
+            wishes.push(word == "end")?;
+        }
+    }
+    match MemConn::wishing(alloc, [10, 0, 0, 7], script_of(alloc, ""), wishes) {
+        Ok(mut conn) => {
+            let asked = [
+                conn.wishes_to_end(),
+                conn.wishes_to_end(),
+                conn.wishes_to_end(),
+                conn.wishes_to_end(),
+            ];
+            drop(conn);
+            Ok(write!(out, "{asked:?}")?)
+        }
+        Err(fault) => Err(fault),
+    }
+}
+
 // What writes answer, and what was written.
 fn show_sink(alloc: Global, out: &mut String, row: &str) -> Result<(), NoMemory> {
     let (writes, room) = fields(row);
@@ -198,6 +221,7 @@ fn show_clock(out: &mut String, row: &str) -> Result<(), NoMemory> {
 pub fn show_port(alloc: Global, out: &mut String, file: &str, row: &str) -> Result<(), NoMemory> {
     match file {
         "port_conns.txt" => show_conn(alloc, out, row),
+        "port_wishes.txt" => show_wishes(alloc, out, row),
         "port_sinks.txt" => show_sink(alloc, out, row),
         "port_files.txt" => show_files(alloc, out, row),
         _ => show_clock(out, row),

@@ -5,11 +5,11 @@ ghost use Rattle.front_ports.specs.Memory.{IsUnused};
 use crate::fixtures::{ann, field};
 use audit_core::Handling;
 use case_rows::{bytes_of, spelled};
-use exchange_replies::{forward, refusal_text, reply_to};
+use exchange_replies::{ReplyTag, forward, refusal_text, reply_to};
 use forward_link::Target;
 use front_base::{Address, AuditId, Bytes};
 use front_ports::{MemBytes, MemDial, MemLink, Script};
-use http_edge::Request;
+use http_edge::{Request, asks};
 use http_head::{HeadAnswer, read_request};
 use stage_event::Show;
 use std::alloc::Global;
@@ -67,7 +67,11 @@ fn show_sent(
     match sent {
         Ok(sent) => {
             let note = sent.note();
-            let end = reply_to(alloc, dial, out, request, ID, handling, sent, Show::Whole);
+            let tag = ReplyTag {
+                id: ID,
+                closing: asks(request),
+            };
+            let end = reply_to(alloc, dial, out, request, tag, handling, sent, Show::Whole);
             println!(rt; "  {note:?} {end:?}")
         }
         Err(_) => println!(rt; "  out of memory"),

@@ -1,2 +1,3 @@
 mod CountLemmas
 mod WholeLemmas
+mod WishLemmas

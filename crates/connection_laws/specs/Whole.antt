@@ -1,5 +1,5 @@
 -- What the requests of a connection do together (Kubernetes, "Auditing").
-use Rattle.std.specs.Prelude.{◌≡◌, ℕ, ◌+◌, ◌-◌, ◌^◌, ◌≤◌, min, ◌&&◌, Bool, true, false, List, [], ◌∷◌, ◌++◌, length, take, ⊤}
+use Rattle.std.specs.Prelude.{◌≡◌, ℕ, ◌+◌, ◌-◌, ◌^◌, ◌≤◌, min, ◌&&◌, Bool, true, false, List, [], ◌∷◌, ◌++◌, length, map, take, ⊤}
 use Rattle.audit_core.specs.Offers.{Due, offers_due}
 use Rattle.audit_core.specs.Owed.{owed}
 use Rattle.audit_core.specs.declared.offers.OfferNote.{OfferNote}
@@ -10,6 +10,7 @@ use Rattle.audit_core.specs.declared.sinks.Sink.{Sink}
 use Rattle.event_offers.specs.Offering.{OffersAll, note_of}
 use Rattle.event_offers.specs.Taken.{is_for}
 use Rattle.front_ports.specs.Told.{Adds}
+use Rattle.http_edge.specs.declared.request.Request.{Request}
 use Rattle.session_core.specs.Bays.{BayState}
 use Rattle.session_core.specs.declared.conn_end.ConnEnd.{ConnEnd}
 use Rattle.session_core.specs.declared.conn_end.ConnEnd.TheVariants as conn_end
@@ -27,6 +28,10 @@ offered_of set x = take (length x.offers) (offers_due set (owed x.decision x.fac
 abbrev pub offered_in : Settings → List Exchange → List Due
 offered_in set [] = []
 offered_in set (x ∷ xs) = offered_of set x ++ offered_in set xs
+
+-- the requests that they answered
+abbrev pub requests_in : List Exchange → List Request
+requests_in xs = map (λ x. x.request) xs
 
 -- what became of all offers
 abbrev pub offers_in : List Exchange → List OfferNote

@@ -6,9 +6,14 @@
 //! connection as for one request. `refusals_are_counted` says that no offer is noted as Full or Failed that its lane did not
 //! count.
 //!
-//! Nothing runs here: both are laws of definitions.
+//! `a_content_connection_has_all_requests_served` says that only a wish of the connection leaves requests of its input unserved
+//! where it ends with `Stopped`.
+//!
+//! Nothing runs here: these are laws of definitions.
 #![tactic(auto)]
 
 mod laws;
 
-pub use laws::{a_connection_is_told_whole, refusals_are_counted};
+pub use laws::{
+    a_connection_is_told_whole, a_content_connection_has_all_requests_served, refusals_are_counted,
+};

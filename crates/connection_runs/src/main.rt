@@ -32,7 +32,7 @@ use truncate_backend::{NoNotes, OwnLane};
 // How many bytes a port takes.
 const ROOM: u64 = 1_000_000;
 
-// The clients' bytes, after a `!` which of their calls fails the second time, the replies of backends with `~` for CR LF, the APIServices, the policy, and the log of each
+// The clients' bytes, after a `!` which of their calls fails the second time or after which reply the connection wishes to end, the replies of backends with `~` for CR LF, the APIServices, the policy, and the log of each
 // connection.
 const RUNS: &str = "\
 changes.http|changes.replies|changes.json|policy.json|blocking
@@ -55,6 +55,8 @@ cut_short.http|mixed.replies|mixed.json|policy.json|blocking
 cut_short.http!read|mixed.replies|mixed.json|policy.json|blocking
 two.http!write|mixed.replies|mixed.json|policy.json|blocking
 bad_head.http!write|mixed.replies|mixed.json|policy.json|blocking
+two.http!end1|mixed.replies|mixed.json|policy.json|blocking
+two.http!end2|mixed.replies|mixed.json|policy.json|blocking
 ";
 
 fn text_of(rt: &HostRuntime, name: &str) -> Option<String> {
@@ -165,6 +167,18 @@ fn fail_second(ports: &mut Script, call: &str) -> Result<(), NoMemory> {
     }
 }
 
+// After which reply a connection wishes to end, if that is said. What memory refuses is left out.
+fn wishes_of(alloc: Global, call: &str) -> Vec<bool> {
+    let mut wishes = Vec::new(alloc);
+    if call == "end2" {
+        let _ = wishes.push(false);
+    }
+    if call.starts_with("end") {
+        let _ = wishes.push(true);
+    }
+    wishes
+}
+
 // A client that sends these bytes.
 fn client_of(rt: &HostRuntime, name: &str) -> Option<MemConn> {
     let alloc = rt.alloc();
@@ -175,7 +189,7 @@ fn client_of(rt: &HostRuntime, name: &str) -> Option<MemConn> {
         drop(ports);
         return None;
     }
-    MemConn::new(alloc, [10, 0, 0, 7], ports).ok()
+    MemConn::wishing(alloc, [10, 0, 0, 7], ports, wishes_of(alloc, call)).ok()
 }
 
 fn bay_over(alloc: Global, routes: TableRoutes, dial: MemDial, log: OwnLog, hook: OwnLog) -> OwnBay

@@ -7,6 +7,7 @@ use Rattle.exchange_replies.specs.Client.{client_text}
 use Rattle.exchange_replies.specs.Sent.{DialState, is_head}
 use Rattle.exchange_replies.specs.Streams.{once, streamed, ComesTo, Closes, RepliedOnce, RepliedTo, RepliedPart, Streamed, StreamedPart, GivenBack}
 use Rattle.exchange_replies.specs.declared.reached.Reached.{Reached}
+use Rattle.exchange_replies.specs.declared.reply_tag.ReplyTag.{ReplyTag}
 use Rattle.exchange_replies.specs.declared.sent_on.SentOn.{SentOn}
 use Rattle.exchange_replies.specs.declared.sent_on.SentOn.TheVariants.{Once, Open}
 use Rattle.exchange_replies.specs.declared.streaming.ReplyEnd.{ReplyEnd}
@@ -14,7 +15,6 @@ use Rattle.exchange_replies.proofs.LinkLemmas.{closes}
 use Rattle.exchange_replies.proofs.SaysLemmas.{BlocksStay, BlocksEnd}
 use Rattle.forward_link.specs.Exchange.{LinkState}
 use Rattle.forward_link.specs.Reading.{rest_of}
-use Rattle.front_base.specs.AuditId.{AuditId}
 use Rattle.front_ports.specs.Dials.{NotesSent}
 use Rattle.http_edge.specs.declared.request.Request.{Request}
 use Rattle.http_head.specs.declared.reply.ReplyHead.{ReplyHead}
@@ -31,37 +31,37 @@ module _ {K : Type 0} (state : K → LinkState) where
   comes_open is_head head frame rest link k n after c long None m h = absurd h
   comes_open is_head head frame rest link k n after c long (Some own) m h = c long m.calls own.to own.text h
 
-  pub once_to : (r : Request) (id : AuditId) (handling : Handling) (show : Show) (reached : Reached) (sent : SentOn K) (k : DialState)
-      (w0 w1 : Option (List ℕ)) (rose : Type 0) (own : ReplyEnd) → sent ≡ Once reached → RepliedOnce r id handling show reached w0 w1 rose own
-      → RepliedTo state r id handling show sent k k w0 w1 rose own
-  once_to r id handling show reached sent k w0 w1 rose own e h =
-      subst (λ (s : SentOn K). RepliedTo state r id handling show s k k w0 w1 rose own) (sym e) (record {
+  pub once_to : (r : Request) (tag : ReplyTag) (handling : Handling) (show : Show) (reached : Reached) (sent : SentOn K) (k : DialState)
+      (w0 w1 : Option (List ℕ)) (rose : Type 0) (own : ReplyEnd) → sent ≡ Once reached → RepliedOnce r tag handling show reached w0 w1 rose own
+      → RepliedTo state r tag handling show sent k k w0 w1 rose own
+  once_to r tag handling show reached sent k w0 w1 rose own e h =
+      subst (λ (s : SentOn K). RepliedTo state r tag handling show s k k w0 w1 rose own) (sym e) (record {
         came = once reached;
         comes = comes_once (is_head r) k reached;
         link_is = refl;
-        text = client_text r id handling reached;
+        text = client_text r tag handling reached;
         replies = (h.ends, refl);
         writes = h.writes;
         kept = h.kept;
       })
 
-  pub once_part : (r : Request) (id : AuditId) (handling : Handling) (reached : Reached) (sent : SentOn K) (k : DialState)
-      (w0 w1 : Option (List ℕ)) → sent ≡ Once reached → w1 ≡ w0 → RepliedPart state r id handling sent k k w0 w1
-  once_part r id handling reached sent k w0 w1 e q =
-      subst (λ (s : SentOn K). RepliedPart state r id handling s k k w0 w1) (sym e) (record {
+  pub once_part : (r : Request) (tag : ReplyTag) (handling : Handling) (reached : Reached) (sent : SentOn K) (k : DialState)
+      (w0 w1 : Option (List ℕ)) → sent ≡ Once reached → w1 ≡ w0 → RepliedPart state r tag handling sent k k w0 w1
+  once_part r tag handling reached sent k w0 w1 e q =
+      subst (λ (s : SentOn K). RepliedPart state r tag handling s k k w0 w1) (sym e) (record {
         came = once reached;
         comes = comes_once (is_head r) k reached;
         link_is = refl;
         written = inl q;
       })
 
-  pub open_to : (r : Request) (id : AuditId) (handling : Handling) (show : Show) (head : ReplyHead) (frame : Frame) (rest bytes : List ℕ) (link : K)
+  pub open_to : (r : Request) (tag : ReplyTag) (handling : Handling) (show : Show) (head : ReplyHead) (frame : Frame) (rest bytes : List ℕ) (link : K)
       (sent : SentOn K) (k n : DialState) (w0 w1 : Option (List ℕ)) (rose : Type 0) (own : ReplyEnd) → sent ≡ Open head frame rest link
-      → bytes ≡ rest → Streamed r id head frame bytes show (state link) k n w0 w1 rose own
-      → RepliedTo state r id handling show sent k n w0 w1 rose own
-  open_to r id handling show head frame rest bytes link sent k n w0 w1 rose own e b s =
-      let h = subst (λ (l : List ℕ). Streamed r id head frame l show (state link) k n w0 w1 rose own) b s in
-      subst (λ (s : SentOn K). RepliedTo state r id handling show s k n w0 w1 rose own) (sym e) (record {
+      → bytes ≡ rest → Streamed r tag head frame bytes show (state link) k n w0 w1 rose own
+      → RepliedTo state r tag handling show sent k n w0 w1 rose own
+  open_to r tag handling show head frame rest bytes link sent k n w0 w1 rose own e b s =
+      let h = subst (λ (l : List ℕ). Streamed r tag head frame l show (state link) k n w0 w1 rose own) b s in
+      subst (λ (s : SentOn K). RepliedTo state r tag handling show s k n w0 w1 rose own) (sym e) (record {
         came = streamed head frame h.after;
         comes = comes_open (is_head r) head frame rest link k n h.after h.closes;
         link_is = refl;
@@ -71,12 +71,12 @@ module _ {K : Type 0} (state : K → LinkState) where
         kept = h.kept;
       })
 
-  pub open_part : (r : Request) (id : AuditId) (handling : Handling) (head : ReplyHead) (frame : Frame) (rest bytes : List ℕ) (link : K)
+  pub open_part : (r : Request) (tag : ReplyTag) (handling : Handling) (head : ReplyHead) (frame : Frame) (rest bytes : List ℕ) (link : K)
       (sent : SentOn K) (k n : DialState) (w0 w1 : Option (List ℕ)) → sent ≡ Open head frame rest link → bytes ≡ rest
-      → StreamedPart r id head frame bytes (state link) k n w0 w1 → RepliedPart state r id handling sent k n w0 w1
-  open_part r id handling head frame rest bytes link sent k n w0 w1 e b s =
-      let h = subst (λ (l : List ℕ). StreamedPart r id head frame l (state link) k n w0 w1) b s in
-      subst (λ (s : SentOn K). RepliedPart state r id handling s k n w0 w1) (sym e) (record {
+      → StreamedPart r tag head frame bytes (state link) k n w0 w1 → RepliedPart state r tag handling sent k n w0 w1
+  open_part r tag handling head frame rest bytes link sent k n w0 w1 e b s =
+      let h = subst (λ (l : List ℕ). StreamedPart r tag head frame l (state link) k n w0 w1) b s in
+      subst (λ (s : SentOn K). RepliedPart state r tag handling s k n w0 w1) (sym e) (record {
         came = streamed head frame h.after;
         comes = comes_open (is_head r) head frame rest link k n h.after h.closes;
         link_is = refl;

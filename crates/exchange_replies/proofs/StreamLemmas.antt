@@ -11,12 +11,12 @@ use Rattle.body_frames.specs.Chunks.{IsPiece}
 use Rattle.body_frames.specs.declared.frame.Frame.{Frame}
 use Rattle.exchange_replies.specs.Sent.{DialState, is_head}
 use Rattle.exchange_replies.specs.Streams.{IsTold, IsAnyText, Streams, WritesTo, HandedOn, HandedPart, Closes, Streamed, StreamedPart, KeepsTo, IsKeptOf, stream_head, in_chunks}
+use Rattle.exchange_replies.specs.declared.reply_tag.ReplyTag.{ReplyTag}
 use Rattle.exchange_replies.proofs.LinkLemmas.{closes}
 use Rattle.exchange_replies.proofs.SaysLemmas.{BlocksStay, BlocksEnd}
 use Rattle.exchange_replies.proofs.WritingLemmas.{front_of_first}
 use Rattle.forward_link.specs.Exchange.{LinkState}
 use Rattle.forward_link.specs.Reading.{rest_of}
-use Rattle.front_base.specs.AuditId.{AuditId}
 use Rattle.front_ports.specs.Cause.{Rose}
 use Rattle.front_ports.specs.Dials.{NotesSent}
 use Rattle.front_ports.specs.Written.{AppendsFront}
@@ -88,24 +88,24 @@ text_split c h pieces more y z e is =
     ∙ ap (λ l. h ++ (pieces_text c pieces ++ l)) is
     ∙ sym (append_assoc h (pieces_text c pieces) (y ++ z))
 
-module _ (r : Request) (id : AuditId) (head : ReplyHead) (frame : Frame) where
+module _ (r : Request) (tag : ReplyTag) (head : ReplyHead) (frame : Frame) where
   abbrev c : Bool
   c = in_chunks r frame
 
   abbrev h : List ℕ
-  h = stream_head r id head frame
+  h = stream_head r tag head frame
 
   abbrev text_of : List (List ℕ) → Relayed → List ℕ
   text_of pieces end = h ++ (pieces_text c pieces ++ ending c end)
 
   told : (after : List ℕ) (end : Relayed) (pieces : List (List ℕ)) → Says frame after end → All IsPiece pieces → body_in frame after ≡ joined pieces
-      → IsTold r id head frame after end (text_of pieces end)
+      → IsTold r tag head frame after end (text_of pieces end)
   told after end pieces says each is = record { says = says; text_is = record { pieces = pieces; each = each; body_is = is; text_is = refl } }
 
   -- what was written of a reply that stopped stands first in a text of all of its bytes
   pub record Front (after : List ℕ) (w0 w1 : Option (List ℕ)) : Type 0 where
     pub text : List ℕ
-    pub text_is : IsAnyText r id head frame after text
+    pub text_is : IsAnyText r tag head frame after text
     pub written : AppendsFront w0 w1 text
 
   short_rest : Fits → (after done more : List ℕ) → body_in frame after ≡ done ++ more → length more ≤ MOST_STREAMED_BYTES
@@ -186,15 +186,15 @@ module _ (r : Request) (id : AuditId) (head : ReplyHead) (frame : Frame) where
         front one fits (s.seen ++ rest_of left) w0 w1 s.wrote.pieces s.wrote.each s.done s.more s.split s.wrote.body_is s.text s.front
         (both (pieces_text c s.wrote.pieces ++ s.text) s.wrote.written)
 
-    pub part : Stopped frame c rest left0 left from to → HandedPart r id head frame rest left0 left w0 w1
+    pub part : Stopped frame c rest left0 left from to → HandedPart r tag head frame rest left0 left w0 w1
     part s = let f = stopped s in record { seen = s.seen; taken = s.taken; text = f.text; text_is = f.text_is; written = f.written }
 
     ended_told : (end : Relayed) (e : Ended frame c rest left0 left from to end)
-        → IsTold r id head frame (e.seen ++ rest_of left) end (text_of e.wrote.pieces end)
+        → IsTold r tag head frame (e.seen ++ rest_of left) end (text_of e.wrote.pieces end)
     ended_told end e = told (e.seen ++ rest_of left) end e.wrote.pieces e.says e.wrote.each e.wrote.body_is
 
     pub handed : (link_rose rose later : Type 0) (end : Relayed) → (rose → later) → Relays frame c rest left0 left from to link_rose rose end
-        → HandedOn r id head frame rest left0 left begun to link_rose later end
+        → HandedOn r tag head frame rest left0 left begun to link_rose later end
     handed link_rose rose later relayed.Done go e = record {
       seen = e.seen;
       taken = e.taken;
@@ -253,12 +253,12 @@ module _ (r : Request) (id : AuditId) (head : ReplyHead) (frame : Frame) where
   none_taken left rest = record { taken = []; consumed = Consumes-nil left; all = sym (append-nil rest) }
 
   pub head_cut : OneEnd → Fits → (rest : List ℕ) (left w0 w1 : Option (List ℕ)) (keep : Keep) (link_rose rose : Type 0) → AppendsFront w0 w1 h → rose
-      → HandedOn r id head frame rest left left (record { written = w0; keep = keep }) (record { written = w1; keep = keep }) link_rose rose relayed.WriteFault
+      → HandedOn r tag head frame rest left left (record { written = w0; keep = keep }) (record { written = w1; keep = keep }) link_rose rose relayed.WriteFault
   head_cut one fits rest left w0 w1 keep link_rose rose w p =
       let f = unwritten one fits (rest ++ rest_of left) w0 w1 w in
       record { seen = rest; taken = none_taken left rest; text = f.text; streams = f.text_is; writes = (f.written, p); kept = tt }
 
-  pub no_head : OneEnd → Fits → (rest : List ℕ) (left w0 w1 : Option (List ℕ)) → AppendsFront w0 w1 h → HandedPart r id head frame rest left left w0 w1
+  pub no_head : OneEnd → Fits → (rest : List ℕ) (left w0 w1 : Option (List ℕ)) → AppendsFront w0 w1 h → HandedPart r tag head frame rest left left w0 w1
   no_head one fits rest left w0 w1 w =
       let f = unwritten one fits (rest ++ rest_of left) w0 w1 w in
       record { seen = rest; taken = none_taken left rest; text = f.text; text_is = f.text_is; written = f.written }
@@ -271,13 +271,13 @@ front_of w0 w1 text rose relayed.BackendCut h = (length text, subst (Appends w0 
 front_of w0 w1 text rose relayed.StreamSpent h = (length text, subst (Appends w0 w1) (sym (take-length text)) h)
 front_of w0 w1 text rose relayed.WriteFault h = h.0
 
-streams_later : (r : Request) (id : AuditId) (head : ReplyHead) (frame : Frame) (after : List ℕ) (rose later : Type 0) (end : Relayed) (text : List ℕ)
-    → (rose → later) → Streams r id head frame after rose end text → Streams r id head frame after later end text
-streams_later r id head frame after rose later relayed.Done text go h = h
-streams_later r id head frame after rose later relayed.StreamSpent text go h = h
-streams_later r id head frame after rose later relayed.WriteFault text go h = h
-streams_later r id head frame after rose later relayed.BackendCut text go (inl h) = inl h
-streams_later r id head frame after rose later relayed.BackendCut text go (inr h) =
+streams_later : (r : Request) (tag : ReplyTag) (head : ReplyHead) (frame : Frame) (after : List ℕ) (rose later : Type 0) (end : Relayed) (text : List ℕ)
+    → (rose → later) → Streams r tag head frame after rose end text → Streams r tag head frame after later end text
+streams_later r tag head frame after rose later relayed.Done text go h = h
+streams_later r tag head frame after rose later relayed.StreamSpent text go h = h
+streams_later r tag head frame after rose later relayed.WriteFault text go h = h
+streams_later r tag head frame after rose later relayed.BackendCut text go (inl h) = inl h
+streams_later r tag head frame after rose later relayed.BackendCut text go (inr h) =
     inr (record { seen = h.seen; more = h.more; split = h.split; text_is = h.text_is; failed = go h.failed })
 
 keeps_done : (due : Bool) (old new : Keep) (body : List ℕ) (end : Relayed) → Keeps due [] old → KeepsTo old new body end → end ≡ relayed.Done
@@ -287,7 +287,7 @@ keeps_done due old new body relayed.StreamSpent k h e = absurd (cc e)
 keeps_done due old new body relayed.WriteFault k h e = absurd (cc e)
 keeps_done due old new body relayed.BackendCut k h e = absurd (cc e)
 
-module _ (stay : BlocksStay) (ends : BlocksEnd) (r : Request) (id : AuditId) (head : ReplyHead) (frame : Frame) (rest : List ℕ) (show : Show)
+module _ (stay : BlocksStay) (ends : BlocksEnd) (r : Request) (tag : ReplyTag) (head : ReplyHead) (frame : Frame) (rest : List ℕ) (show : Show)
     (link : LinkState) (left : Option (List ℕ)) (k n : DialState) (w0 w1 : Option (List ℕ)) (keep0 keep : Keep) (link_rose rose : Type 0)
     (go : link_rose → Rose k.link_faults n.link_faults) (sent : NotesSent k.calls n.calls link.number link.written) where
   abbrev was : Output
@@ -301,29 +301,29 @@ module _ (stay : BlocksStay) (ends : BlocksEnd) (r : Request) (id : AuditId) (he
 
   pub streamed_whole : (end : Relayed) (kept : Kept) → Keeps (is_due show) [] keep0
       → ((body : List ℕ) → (end ≡ relayed.Done → Keeps (is_due show) body keep) → IsKeptOf r show end body kept)
-      → HandedOn r id head frame rest link.left left was is link_rose rose end
-      → Streamed r id head frame rest show link k n w0 w1 rose (record { end = end; kept = kept })
+      → HandedOn r tag head frame rest link.left left was is link_rose rose end
+      → Streamed r tag head frame rest show link k n w0 w1 rose (record { end = end; kept = kept })
   streamed_whole end kept none keeps h = record {
     after = h.seen ++ rest_of left;
     closes = closed h.seen h.taken;
     text = h.text;
-    streams = streams_later r id head frame (h.seen ++ rest_of left) link_rose _ end h.text go h.streams;
+    streams = streams_later r tag head frame (h.seen ++ rest_of left) link_rose _ end h.text go h.streams;
     writes = h.writes;
     kept = keeps (body_in frame (h.seen ++ rest_of left)) (λ e. keeps_done (is_due show) keep0 keep _ end none h.kept e);
   }
 
-  pub streamed_then : (end : Relayed) → HandedOn r id head frame rest link.left left was is link_rose rose end
-      → StreamedPart r id head frame rest link k n w0 w1
+  pub streamed_then : (end : Relayed) → HandedOn r tag head frame rest link.left left was is link_rose rose end
+      → StreamedPart r tag head frame rest link k n w0 w1
   streamed_then end h = record {
     after = h.seen ++ rest_of left;
     closes = closed h.seen h.taken;
     text = h.text;
     end = end;
-    streams = streams_later r id head frame (h.seen ++ rest_of left) link_rose _ end h.text go h.streams;
+    streams = streams_later r tag head frame (h.seen ++ rest_of left) link_rose _ end h.text go h.streams;
     written = front_of w0 w1 h.text rose end h.writes;
   }
 
-  pub streamed_part : HandedPart r id head frame rest link.left left w0 w1 → StreamedPart r id head frame rest link k n w0 w1
+  pub streamed_part : HandedPart r tag head frame rest link.left left w0 w1 → StreamedPart r tag head frame rest link k n w0 w1
   streamed_part h = record {
     after = h.seen ++ rest_of left;
     closes = closed h.seen h.taken;

@@ -6,10 +6,9 @@ use Rattle.exchange_replies.specs.Own.{own_text}
 use Rattle.exchange_replies.specs.Sent.{is_head}
 use Rattle.exchange_replies.specs.declared.reached.Reached.{Reached}
 use Rattle.exchange_replies.specs.declared.reached.Reached.TheVariants as reached
+use Rattle.exchange_replies.specs.declared.reply_tag.ReplyTag.{ReplyTag}
 use Rattle.forward_link.specs.Client.{client_head}
 use Rattle.forward_link.specs.Kinds.{whole_frame}
-use Rattle.front_base.specs.AuditId.{AuditId}
-use Rattle.http_edge.specs.Requests.{asks}
 use Rattle.http_edge.specs.declared.request.Request.{Request}
 use Rattle.http_head.specs.Written.{reply_text}
 use Rattle.http_head.specs.declared.reply.ReplyHead.{ReplyHead}
@@ -17,14 +16,14 @@ use Rattle.local_replies.specs.Status.{front_refusal}
 
 -- ---- this server's own reply
 
-abbrev pub refusal_for : Request → AuditId → ℕ → List ℕ
-refusal_for r id code = own_text (is_head r) (front_refusal code) (Some id) (asks r)
+abbrev pub refusal_for : Request → ReplyTag → ℕ → List ℕ
+refusal_for r tag code = own_text (is_head r) (front_refusal code) (Some tag.id) tag.closing
 
 -- to a request that was sent on it is the refusal that says why no reply came
-abbrev pub own_text_by : Request → AuditId → Handling → ℕ → List ℕ
-own_text_by r id (Refused code) failure = refusal_for r id code
-own_text_by r id (Served local reply change) failure = own_text (is_head r) reply (Some id) (asks r)
-own_text_by r id (Proxied target) failure = refusal_for r id failure
+abbrev pub own_text_by : Request → ReplyTag → Handling → ℕ → List ℕ
+own_text_by r tag (Refused code) failure = refusal_for r tag code
+own_text_by r tag (Served local reply change) failure = own_text (is_head r) reply (Some tag.id) tag.closing
+own_text_by r tag (Proxied target) failure = refusal_for r tag failure
 
 -- 502 where the backend was reached, and 503 where it wasn't
 abbrev pub failure : Reached → ℕ
@@ -38,19 +37,19 @@ failure reached.LinkFault = 502
 -- ---- a backend's reply
 
 -- what is for the client of the head of a whole reply whose body has so many bytes
-unfoldable pub whole_head : Request → AuditId → ReplyHead → ℕ → List ℕ
-whole_head r id head size =
-    reply_text (client_head head id (whole_frame (is_head r) head.status size) (r.head.minor == 0) (asks r))
+unfoldable pub whole_head : Request → ReplyTag → ReplyHead → ℕ → List ℕ
+whole_head r tag head size =
+    reply_text (client_head head tag.id (whole_frame (is_head r) head.status size) (r.head.minor == 0) tag.closing)
 
 -- ---- the reply to a request that was handled so, and whose link came to that
 
-abbrev pub client_text : Request → AuditId → Handling → Reached → List ℕ
-client_text r id handling (reached.Whole head body) = whole_head r id head (length body) ++ body
-client_text r id handling reached.NotUsed = own_text_by r id handling (failure reached.NotUsed)
-client_text r id handling reached.DialFailed = own_text_by r id handling (failure reached.DialFailed)
-client_text r id handling reached.BadReply = own_text_by r id handling (failure reached.BadReply)
-client_text r id handling reached.Cut = own_text_by r id handling (failure reached.Cut)
-client_text r id handling reached.LinkFault = own_text_by r id handling (failure reached.LinkFault)
+abbrev pub client_text : Request → ReplyTag → Handling → Reached → List ℕ
+client_text r tag handling (reached.Whole head body) = whole_head r tag head (length body) ++ body
+client_text r tag handling reached.NotUsed = own_text_by r tag handling (failure reached.NotUsed)
+client_text r tag handling reached.DialFailed = own_text_by r tag handling (failure reached.DialFailed)
+client_text r tag handling reached.BadReply = own_text_by r tag handling (failure reached.BadReply)
+client_text r tag handling reached.Cut = own_text_by r tag handling (failure reached.Cut)
+client_text r tag handling reached.LinkFault = own_text_by r tag handling (failure reached.LinkFault)
 
 -- ---- what a call on the way gives
 

@@ -12,6 +12,7 @@ use Rattle.exchange_replies.specs.Client.{client_text}
 use Rattle.exchange_replies.specs.Sent.{is_head, Sent, DialState, Reaches, note_of, body_of}
 use Rattle.exchange_replies.specs.Statuses.{IsFinalReached, IsStatus}
 use Rattle.exchange_replies.specs.declared.reached.Reached.{Reached}
+use Rattle.exchange_replies.specs.declared.reply_tag.ReplyTag.{ReplyTag}
 use Rattle.exchange_replies.specs.declared.sent_on.SentOn.{SentOn}
 use Rattle.exchange_replies.specs.declared.sent_on.SentOn.TheVariants.{Once, Open}
 use Rattle.exchange_replies.specs.declared.streaming.ReplyEnd.{ReplyEnd}
@@ -19,12 +20,10 @@ use Rattle.forward_link.specs.Client.{client_head}
 use Rattle.forward_link.specs.Exchange.{Answered, LinkState, Opened}
 use Rattle.forward_link.specs.Reading.{rest_of}
 use Rattle.forward_link.specs.Says.{stream}
-use Rattle.front_base.specs.AuditId.{AuditId}
 use Rattle.front_base.specs.declared.address.Address.{Address}
 use Rattle.front_ports.specs.Cause.{Rose}
 use Rattle.front_ports.specs.Written.{AppendsFront}
 use Rattle.front_ports.specs.declared.dial.Call.{Call}
-use Rattle.http_edge.specs.Requests.{asks}
 use Rattle.http_edge.specs.declared.request.Request.{Request}
 use Rattle.http_head.specs.Written.{reply_text}
 use Rattle.http_head.specs.declared.reply.ReplyHead.{ReplyHead}
@@ -93,45 +92,45 @@ ComesTo state is_head sent k n came =
 -- ---- the client's bytes
 
 -- the head that the client gets of a reply that streams
-unfoldable pub stream_head : Request → AuditId → ReplyHead → Frame → List ℕ
-stream_head r id head frame = reply_text (client_head head id frame (r.head.minor == 0) (asks r))
+unfoldable pub stream_head : Request → ReplyTag → ReplyHead → Frame → List ℕ
+stream_head r tag head frame = reply_text (client_head head tag.id frame (r.head.minor == 0) tag.closing)
 
 abbrev pub in_chunks : Request → Frame → Bool
 in_chunks r frame = gets_chunks frame (r.head.minor == 0)
 
 -- the head, the decoded body of these bytes in pieces that are not empty, and what follows by how it ends
-pub record IsStreamText (r : Request) (id : AuditId) (head : ReplyHead) (frame : Frame) (input : List ℕ) (end : Relayed)
+pub record IsStreamText (r : Request) (tag : ReplyTag) (head : ReplyHead) (frame : Frame) (input : List ℕ) (end : Relayed)
     (text : List ℕ) : Type 0 where
   pub pieces : List (List ℕ)
   pub each : All IsPiece pieces
   pub body_is : body_in frame input ≡ joined pieces
-  pub text_is : text ≡ stream_head r id head frame ++ (pieces_text (in_chunks r frame) pieces ++ ending (in_chunks r frame) end)
+  pub text_is : text ≡ stream_head r tag head frame ++ (pieces_text (in_chunks r frame) pieces ++ ending (in_chunks r frame) end)
 
 -- all bytes after the head say that the body ends so, and this is the text of it
-pub record IsTold (r : Request) (id : AuditId) (head : ReplyHead) (frame : Frame) (after : List ℕ) (end : Relayed) (text : List ℕ)
+pub record IsTold (r : Request) (tag : ReplyTag) (head : ReplyHead) (frame : Frame) (after : List ℕ) (end : Relayed) (text : List ℕ)
     : Type 0 where
   pub says : Says frame after end
-  pub text_is : IsStreamText r id head frame after end text
+  pub text_is : IsStreamText r tag head frame after end text
 
 -- the link failed, and this is the text of the bytes that had come
-pub record IsLost (r : Request) (id : AuditId) (head : ReplyHead) (frame : Frame) (after text : List ℕ) (rose : Type 0) : Type 0 where
+pub record IsLost (r : Request) (tag : ReplyTag) (head : ReplyHead) (frame : Frame) (after text : List ℕ) (rose : Type 0) : Type 0 where
   pub seen : List ℕ
   pub more : List ℕ
   pub split : after ≡ seen ++ more
-  pub text_is : IsStreamText r id head frame seen relayed.BackendCut text
+  pub text_is : IsStreamText r tag head frame seen relayed.BackendCut text
   pub failed : rose
 
 -- the text of all bytes after the head, however they end
-abbrev pub IsAnyText : Request → AuditId → ReplyHead → Frame → List ℕ → List ℕ → Type 0
-IsAnyText r id head frame after text = (end : Relayed) × IsTold r id head frame after end text
+abbrev pub IsAnyText : Request → ReplyTag → ReplyHead → Frame → List ℕ → List ℕ → Type 0
+IsAnyText r tag head frame after text = (end : Relayed) × IsTold r tag head frame after end text
 
 -- what is written of a reply that streams and ends so, where the client takes it
-abbrev pub Streams : Request → AuditId → ReplyHead → Frame → List ℕ → Type 0 → Relayed → List ℕ → Type 0
-Streams r id head frame after rose relayed.Done text = IsTold r id head frame after relayed.Done text
-Streams r id head frame after rose relayed.StreamSpent text = IsTold r id head frame after relayed.StreamSpent text
-Streams r id head frame after rose relayed.BackendCut text =
-    IsTold r id head frame after relayed.BackendCut text ⊎ IsLost r id head frame after text rose
-Streams r id head frame after rose relayed.WriteFault text = IsAnyText r id head frame after text
+abbrev pub Streams : Request → ReplyTag → ReplyHead → Frame → List ℕ → Type 0 → Relayed → List ℕ → Type 0
+Streams r tag head frame after rose relayed.Done text = IsTold r tag head frame after relayed.Done text
+Streams r tag head frame after rose relayed.StreamSpent text = IsTold r tag head frame after relayed.StreamSpent text
+Streams r tag head frame after rose relayed.BackendCut text =
+    IsTold r tag head frame after relayed.BackendCut text ⊎ IsLost r tag head frame after text rose
+Streams r tag head frame after rose relayed.WriteFault text = IsAnyText r tag head frame after text
 
 -- a reply that came at once is cut only by a write that fails
 abbrev pub EndsAtOnce : Relayed → Type 0
@@ -141,9 +140,9 @@ EndsAtOnce relayed.BackendCut = ⊥
 EndsAtOnce relayed.StreamSpent = ⊥
 
 -- what is written of any reply that ends so; `rose` says that a link failed
-abbrev pub Replies : Request → AuditId → Handling → Type 0 → Came → Relayed → List ℕ → Type 0
-Replies r id handling rose (once reached) end text = EndsAtOnce end × (text ≡ client_text r id handling reached)
-Replies r id handling rose (streamed head frame after) end text = Streams r id head frame after rose end text
+abbrev pub Replies : Request → ReplyTag → Handling → Type 0 → Came → Relayed → List ℕ → Type 0
+Replies r tag handling rose (once reached) end text = EndsAtOnce end × (text ≡ client_text r tag handling reached)
+Replies r tag handling rose (streamed head frame after) end text = Streams r tag head frame after rose end text
 
 -- all of a text was written, or a prefix of it where a write failed
 abbrev pub WritesTo : Option (List ℕ) → Option (List ℕ) → List ℕ → Type 0 → Relayed → Type 0
@@ -153,10 +152,10 @@ WritesTo old new text rose relayed.StreamSpent = Appends old new text
 WritesTo old new text rose relayed.WriteFault = AppendsFront old new text × rose
 
 -- nothing was written, or some prefix of a reply, whatever its end would have been
-abbrev pub WritesPart : Request → AuditId → Handling → Type 0 → Came → Option (List ℕ) → Option (List ℕ) → Type 0
-WritesPart r id handling rose came old new =
+abbrev pub WritesPart : Request → ReplyTag → Handling → Type 0 → Came → Option (List ℕ) → Option (List ℕ) → Type 0
+WritesPart r tag handling rose came old new =
     (new ≡ old)
-    ⊎ ((text : List ℕ) × (end : Relayed) × Replies r id handling rose came end text × AppendsFront old new text)
+    ⊎ ((text : List ℕ) × (end : Relayed) × Replies r tag handling rose came end text × AppendsFront old new text)
 
 -- ---- what is kept of its body
 
@@ -181,23 +180,23 @@ IsKeptBy r handling show (streamed head frame after) end kept = IsKeptOf r show 
 -- ---- what the calls do
 
 -- the whole reply, or a part of it, was written by its end, and this was kept
-pub record RepliedTo {K : Type 0} (state : K → LinkState) (r : Request) (id : AuditId) (handling : Handling) (show : Show)
+pub record RepliedTo {K : Type 0} (state : K → LinkState) (r : Request) (tag : ReplyTag) (handling : Handling) (show : Show)
     (sent : SentOn K) (k n : DialState) (w0 w1 : Option (List ℕ)) (rose : Type 0) (own : ReplyEnd) : Type 0 where
   pub came : Came
   pub comes : ComesTo state (is_head r) sent k n came
   pub link_is : link_of came ≡ note_of_sent sent
   pub text : List ℕ
-  pub replies : Replies r id handling (Rose k.link_faults n.link_faults) came own.end text
+  pub replies : Replies r tag handling (Rose k.link_faults n.link_faults) came own.end text
   pub writes : WritesTo w0 w1 text rose own.end
   pub kept : IsKeptBy r handling show came own.end own.kept
 
 -- memory ran out: the link was handed back, and some prefix of the reply was written
-pub record RepliedPart {K : Type 0} (state : K → LinkState) (r : Request) (id : AuditId) (handling : Handling)
+pub record RepliedPart {K : Type 0} (state : K → LinkState) (r : Request) (tag : ReplyTag) (handling : Handling)
     (sent : SentOn K) (k n : DialState) (w0 w1 : Option (List ℕ)) : Type 0 where
   pub came : Came
   pub comes : ComesTo state (is_head r) sent k n came
   pub link_is : link_of came ≡ note_of_sent sent
-  pub written : WritesPart r id handling (Rose k.link_faults n.link_faults) came w0 w1
+  pub written : WritesPart r tag handling (Rose k.link_faults n.link_faults) came w0 w1
 
 -- where the link was open, all of its bytes say what comes once it is handed back
 abbrev pub Closes : Bool → ReplyHead → Frame → List ℕ → LinkState → DialState → DialState → List ℕ → Type 0
@@ -212,48 +211,48 @@ KeepsTo old new body relayed.Done = KeepsMore old new body
 KeepsTo old new body _ = ⊤
 
 -- the head and the body were handed on; `rest` came with the head, and the link had `left0` to give and has `left`
-pub record HandedOn (r : Request) (id : AuditId) (head : ReplyHead) (frame : Frame) (rest : List ℕ) (left0 left : Option (List ℕ))
+pub record HandedOn (r : Request) (tag : ReplyTag) (head : ReplyHead) (frame : Frame) (rest : List ℕ) (left0 left : Option (List ℕ))
     (old new : Output) (link_rose rose : Type 0) (end : Relayed) : Type 0 where
   pub seen : List ℕ
   pub taken : Seen left0 left rest seen
   pub text : List ℕ
-  pub streams : Streams r id head frame (seen ++ rest_of left) link_rose end text
+  pub streams : Streams r tag head frame (seen ++ rest_of left) link_rose end text
   pub writes : WritesTo old.written new.written text rose end
   pub kept : KeepsTo old.keep new.keep (body_in frame (seen ++ rest_of left)) end
 
 -- memory ran out on the way
-pub record HandedPart (r : Request) (id : AuditId) (head : ReplyHead) (frame : Frame) (rest : List ℕ) (left0 left : Option (List ℕ))
+pub record HandedPart (r : Request) (tag : ReplyTag) (head : ReplyHead) (frame : Frame) (rest : List ℕ) (left0 left : Option (List ℕ))
     (w0 w1 : Option (List ℕ)) : Type 0 where
   pub seen : List ℕ
   pub taken : Seen left0 left rest seen
   pub text : List ℕ
-  pub text_is : IsAnyText r id head frame (seen ++ rest_of left) text
+  pub text_is : IsAnyText r tag head frame (seen ++ rest_of left) text
   pub written : AppendsFront w0 w1 text
 
 -- the same, once the link was handed back
-pub record Streamed (r : Request) (id : AuditId) (head : ReplyHead) (frame : Frame) (rest : List ℕ) (show : Show) (link : LinkState)
+pub record Streamed (r : Request) (tag : ReplyTag) (head : ReplyHead) (frame : Frame) (rest : List ℕ) (show : Show) (link : LinkState)
     (k n : DialState) (w0 w1 : Option (List ℕ)) (rose : Type 0) (own : ReplyEnd) : Type 0 where
   pub after : List ℕ
   pub closes : Closes (is_head r) head frame rest link k n after
   pub text : List ℕ
-  pub streams : Streams r id head frame after (Rose k.link_faults n.link_faults) own.end text
+  pub streams : Streams r tag head frame after (Rose k.link_faults n.link_faults) own.end text
   pub writes : WritesTo w0 w1 text rose own.end
   pub kept : IsKeptOf r show own.end (body_in frame after) own.kept
 
-pub record StreamedPart (r : Request) (id : AuditId) (head : ReplyHead) (frame : Frame) (rest : List ℕ) (link : LinkState)
+pub record StreamedPart (r : Request) (tag : ReplyTag) (head : ReplyHead) (frame : Frame) (rest : List ℕ) (link : LinkState)
     (k n : DialState) (w0 w1 : Option (List ℕ)) : Type 0 where
   pub after : List ℕ
   pub closes : Closes (is_head r) head frame rest link k n after
   pub text : List ℕ
   pub end : Relayed
-  pub streams : Streams r id head frame after (Rose k.link_faults n.link_faults) end text
+  pub streams : Streams r tag head frame after (Rose k.link_faults n.link_faults) end text
   pub written : AppendsFront w0 w1 text
 
 -- a reply that came at once was written by its end, and this was kept
-pub record RepliedOnce (r : Request) (id : AuditId) (handling : Handling) (show : Show) (reached : Reached)
+pub record RepliedOnce (r : Request) (tag : ReplyTag) (handling : Handling) (show : Show) (reached : Reached)
     (w0 w1 : Option (List ℕ)) (rose : Type 0) (own : ReplyEnd) : Type 0 where
   pub ends : EndsAtOnce own.end
-  pub writes : WritesTo w0 w1 (client_text r id handling reached) rose own.end
+  pub writes : WritesTo w0 w1 (client_text r tag handling reached) rose own.end
   pub kept : IsKeptBy r handling show (once reached) own.end own.kept
 
 -- nothing was written, and the link was handed back

@@ -5,17 +5,17 @@ ghost use Rattle.exchange_replies.specs.Own.{own_text};
 ghost use Rattle.exchange_replies.specs.Sent as sent;
 ghost use Rattle.exchange_replies.specs.Statuses.{IsFinalHandling, IsFinalReached};
 ghost use Rattle.exchange_replies.specs.Writing.{Writes};
-ghost use Rattle.http_edge.specs.Requests as requests;
 ghost use Rattle.front_ports.specs.Cause.{Rose};
 
 use crate::own::own_head;
 use crate::reached::Reached;
+use crate::reply_tag::ReplyTag;
 use crate::writing::{Wrote, put};
 use audit_core::Handling;
 use forward_link::{client_head, whole_frame};
-use front_base::{AuditId, NoMemory};
+use front_base::NoMemory;
 use front_ports::ByteSink;
-use http_edge::{Request, asks};
+use http_edge::Request;
 use http_head::{ReplyHead, push_reply};
 use local_replies::{LocalReply, front_refusal};
 use std::alloc::Global;
@@ -44,16 +44,16 @@ fn sent_body<'b>(request: &Request, body: &'b [u8]) -> &'b [u8]
 fn whole_head(
     alloc: Global,
     request: &Request,
-    id: AuditId,
+    tag: ReplyTag,
     head: &ReplyHead,
     size: usize,
 ) -> Result<Vec<u8>, NoMemory>
     requires { 200 ≤ head.now.status × head.now.status < 1000 }
-    ensures { IfOk result (λ text. text.items ≡ spec.whole_head request.now id head.now size) }
+    ensures { IfOk result (λ text. text.items ≡ spec.whole_head request.now tag head.now size) }
 {
     let frame = whole_frame(is_head(request), head.status, size as u64);
     let old_client = request.head.minor == 0;
-    let client = client_head(alloc, head, id, &frame, old_client, asks(request))?;
+    let client = client_head(alloc, head, tag.id, &frame, old_client, tag.closing)?;
     let mut out = Vec::new(alloc);
     push_reply(&mut out, &client)?;
     Ok(out)
@@ -64,18 +64,18 @@ fn put_own<O: ByteSink>(
     alloc: Global,
     out: &mut O,
     request: &Request,
-    id: AuditId,
+    tag: ReplyTag,
     reply: &LocalReply,
 ) -> Result<Wrote, NoMemory>
     requires { 200 ≤ reply.now.status × reply.now.status < 1000 }
     ensures ok { IfOk result (Writes (O.written out.old) (O.written out.new)
-        (own_text (sent.is_head request.now) reply.now (Some id) (requests.asks request.now))
+        (own_text (sent.is_head request.now) reply.now (Some tag.id) tag.closing)
         (Rose (O.write_faults out.old) (O.write_faults out.new))) }
     ensures err { OnErr result (O.written out.new ≡ O.written out.old) }
     ensures later { O.write_faults out.old ≤ O.write_faults out.new }
     ensures aside { O.inward out.new ≡ O.inward out.old }
 {
-    let head = own_head(alloc, reply, Some(id), asks(request))?;
+    let head = own_head(alloc, reply, Some(tag.id), tag.closing)?;
     put(out, head, sent_body(request, reply.body.as_slice()))
 }
 
@@ -84,19 +84,19 @@ fn put_refusal<O: ByteSink>(
     alloc: Global,
     out: &mut O,
     request: &Request,
-    id: AuditId,
+    tag: ReplyTag,
     code: u16,
 ) -> Result<Wrote, NoMemory>
     requires { 200 ≤ code × code < 1000 }
     ensures ok { IfOk result (Writes (O.written out.old) (O.written out.new)
-        (spec.refusal_for request.now id code)
+        (spec.refusal_for request.now tag code)
         (Rose (O.write_faults out.old) (O.write_faults out.new))) }
     ensures err { OnErr result (O.written out.new ≡ O.written out.old) }
     ensures later { O.write_faults out.old ≤ O.write_faults out.new }
     ensures aside { O.inward out.new ≡ O.inward out.old }
 {
     let reply = front_refusal(alloc, code)?;
-    put_own(alloc, out, request, id, &reply)
+    put_own(alloc, out, request, tag, &reply)
 }
 
 // The code that says why no reply came.
@@ -114,40 +114,40 @@ fn put_by<O: ByteSink>(
     alloc: Global,
     out: &mut O,
     request: &Request,
-    id: AuditId,
+    tag: ReplyTag,
     handling: &Handling,
     failure: u16,
 ) -> Result<Wrote, NoMemory>
     requires handling { IsFinalHandling handling.now }
     requires failure { 200 ≤ failure × failure < 1000 }
     ensures ok { IfOk result (Writes (O.written out.old) (O.written out.new)
-        (spec.own_text_by request.now id handling.now failure)
+        (spec.own_text_by request.now tag handling.now failure)
         (Rose (O.write_faults out.old) (O.write_faults out.new))) }
     ensures err { OnErr result (O.written out.new ≡ O.written out.old) }
     ensures later { O.write_faults out.old ≤ O.write_faults out.new }
     ensures aside { O.inward out.new ≡ O.inward out.old }
 {
     match handling {
-        Handling::Refused(code) => put_refusal(alloc, out, request, id, *code),
-        Handling::Served { reply, .. } => put_own(alloc, out, request, id, reply),
-        Handling::Proxied(_) => put_refusal(alloc, out, request, id, failure),
+        Handling::Refused(code) => put_refusal(alloc, out, request, tag, *code),
+        Handling::Served { reply, .. } => put_own(alloc, out, request, tag, reply),
+        Handling::Proxied(_) => put_refusal(alloc, out, request, tag, failure),
     }
 }
 
-/// Writes the reply to a request with that audit ID, which was handled so, and whose link came to that. Where memory runs out,
+/// Writes the reply with that tag to a request, which was handled so, and whose link came to that. Where memory runs out,
 /// nothing was written.
 pub fn answer<O: ByteSink>(
     alloc: Global,
     out: &mut O,
     request: &Request,
-    id: AuditId,
+    tag: ReplyTag,
     handling: &Handling,
     reached: &Reached,
 ) -> Result<Wrote, NoMemory>
     requires handling { IsFinalHandling handling.now }
     requires reached { IsFinalReached reached.now }
     ensures ok { IfOk result (Writes (O.written out.old) (O.written out.new)
-        (spec.client_text request.now id handling.now reached.now)
+        (spec.client_text request.now tag handling.now reached.now)
         (Rose (O.write_faults out.old) (O.write_faults out.new))) }
     ensures err { OnErr result (O.written out.new ≡ O.written out.old) }
     ensures later { O.write_faults out.old ≤ O.write_faults out.new }
@@ -156,9 +156,9 @@ pub fn answer<O: ByteSink>(
     match reached {
         Reached::Whole { head, body } => {
             let body = body.as_slice();
-            let text = whole_head(alloc, request, id, head, body.len())?;
+            let text = whole_head(alloc, request, tag, head, body.len())?;
             put(out, text, body)
         }
-        _ => put_by(alloc, out, request, id, handling, failure(reached)),
+        _ => put_by(alloc, out, request, tag, handling, failure(reached)),
     }
 }

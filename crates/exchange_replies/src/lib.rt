@@ -4,7 +4,8 @@
 //! the address and with the bytes of `sent_on`, and answers what all bytes of the link say, or the head of a reply that streams
 //! beside its open link. `reply_to` writes the reply and hands that link back: of a backend's whole reply the head without what
 //! is for this server alone, and the body; of one that streams the head, and the body decoded from all bytes of the link, as
-//! far as they go; otherwise a reply of this server's own. It answers how the reply ended, and what was kept of its body.
+//! far as they go; otherwise a reply of this server's own. Its head has what the `ReplyTag` says. It answers how the reply ended,
+//! and what was kept of its body.
 //!
 //! Nothing is promised of when a reply or a piece of it comes, nor that a piece is written before the next is read.
 #![tactic(auto)]
@@ -13,6 +14,7 @@ mod client;
 mod own;
 mod reached;
 mod refusals;
+mod reply_tag;
 mod sending;
 mod sent_on;
 mod statuses;
@@ -21,6 +23,7 @@ mod writing;
 
 pub use reached::Reached;
 pub use refusals::refusal_text;
+pub use reply_tag::ReplyTag;
 pub use sending::forward;
 pub use sent_on::SentOn;
 pub use statuses::statuses_are_final;

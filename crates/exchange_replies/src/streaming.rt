@@ -10,14 +10,15 @@ ghost use Rattle.stream_relay.specs.Keep.{Keeps};
 
 use crate::client::{answer, is_head};
 use crate::reached::Reached;
+use crate::reply_tag::ReplyTag;
 use crate::sent_on::SentOn;
 use crate::writing::{Wrote, put_text};
 use audit_core::{Handling, kept_sent};
 use body_frames::Frame;
 use forward_link::client_head;
-use front_base::{AuditId, NoMemory};
+use front_base::NoMemory;
 use front_ports::{ByteSink, Dial, Source};
-use http_edge::{Request, asks};
+use http_edge::Request;
 use http_head::{ReplyHead, blocks_are_bounded, blocks_stay, push_reply};
 use stage_event::{Kept, Show, kept};
 use std::alloc::Global;
@@ -36,15 +37,15 @@ pub struct ReplyEnd {
 fn stream_head(
     alloc: Global,
     request: &Request,
-    id: AuditId,
+    tag: ReplyTag,
     head: &ReplyHead,
     frame: &Frame,
 ) -> Result<Vec<u8>, NoMemory>
     requires { IsStatus head.now.status }
-    ensures { IfOk result (λ text. text.items ≡ spec.stream_head request.now id head.now frame.now) }
+    ensures { IfOk result (λ text. text.items ≡ spec.stream_head request.now tag head.now frame.now) }
 {
     let old_client = request.head.minor == 0;
-    let client = client_head(alloc, head, id, frame, old_client, asks(request))?;
+    let client = client_head(alloc, head, tag.id, frame, old_client, tag.closing)?;
     let mut out = Vec::new(alloc);
     push_reply(&mut out, &client)?;
     Ok(out)
@@ -56,19 +57,19 @@ fn hand_on<K: Source, O: ByteSink>(
     link: &mut K,
     out: &mut O,
     request: &Request,
-    id: AuditId,
+    tag: ReplyTag,
     head: &ReplyHead,
     frame: Frame,
     rest: &[u8],
     keep: &mut Keep,
 ) -> Result<Relayed, NoMemory>
     requires { IsStatus head.now.status }
-    ensures ok { IfOk result (spec.HandedOn request.now id head.now frame rest.now (K.left link.old) (K.left link.new)
+    ensures ok { IfOk result (spec.HandedOn request.now tag head.now frame rest.now (K.left link.old) (K.left link.new)
         (record { written = O.written out.old; keep = keep.old })
         (record { written = O.written out.new; keep = keep.new })
         (Rose (K.read_faults link.old) (K.read_faults link.new))
         (Rose (O.write_faults out.old) (O.write_faults out.new))) }
-    ensures err { OnErr result (spec.HandedPart request.now id head.now frame rest.now (K.left link.old) (K.left link.new)
+    ensures err { OnErr result (spec.HandedPart request.now tag head.now frame rest.now (K.left link.old) (K.left link.new)
         (O.written out.old) (O.written out.new)) }
     ensures read_later { K.read_faults link.old ≤ K.read_faults link.new }
     ensures later { O.write_faults out.old ≤ O.write_faults out.new }
@@ -77,7 +78,7 @@ fn hand_on<K: Source, O: ByteSink>(
 {
     bodies_end_one_way();
     bodies_are_relayed_whole();
-    let text = stream_head(alloc, request, id, head, &frame)?;
+    let text = stream_head(alloc, request, tag, head, &frame)?;
     match put_text(out, text.as_slice()) {
         Wrote::Whole => {}
         Wrote::Cut => return Ok(Relayed::WriteFault),
@@ -145,7 +146,7 @@ fn stream<O: ByteSink, D: Dial>(
     dial: &mut D,
     out: &mut O,
     request: &Request,
-    id: AuditId,
+    tag: ReplyTag,
     head: &ReplyHead,
     frame: Frame,
     rest: &[u8],
@@ -153,7 +154,7 @@ fn stream<O: ByteSink, D: Dial>(
     show: Show,
 ) -> Result<ReplyEnd, NoMemory>
     requires { IsStatus head.now.status }
-    ensures ok { IfOk result (spec.Streamed request.now id head.now frame rest.now show
+    ensures ok { IfOk result (spec.Streamed request.now tag head.now frame rest.now show
         (record {
           left = D.K.left link;
           written = D.K.written link;
@@ -163,7 +164,7 @@ fn stream<O: ByteSink, D: Dial>(
         (record { calls = D.calls dial.old; faults = D.faults dial.old; link_faults = D.link_faults dial.old })
         (record { calls = D.calls dial.new; faults = D.faults dial.new; link_faults = D.link_faults dial.new })
         (O.written out.old) (O.written out.new) (Rose (O.write_faults out.old) (O.write_faults out.new))) }
-    ensures err { OnErr result (spec.StreamedPart request.now id head.now frame rest.now
+    ensures err { OnErr result (spec.StreamedPart request.now tag head.now frame rest.now
         (record {
           left = D.K.left link;
           written = D.K.written link;
@@ -182,7 +183,7 @@ fn stream<O: ByteSink, D: Dial>(
     blocks_are_bounded();
     let mut keep = Keep::new(alloc, show.is_due());
     let handed = hand_on(
-        alloc, &mut link, out, request, id, head, frame, rest, &mut keep,
+        alloc, &mut link, out, request, tag, head, frame, rest, &mut keep,
     );
     dial.done(link);
     let end = handed?;
@@ -195,14 +196,14 @@ fn reply_once<O: ByteSink>(
     alloc: Global,
     out: &mut O,
     request: &Request,
-    id: AuditId,
+    tag: ReplyTag,
     handling: &Handling,
     reached: &Reached,
     show: Show,
 ) -> Result<ReplyEnd, NoMemory>
     requires handling { IsFinalHandling handling.now }
     requires reached { IsFinalReached reached.now }
-    ensures ok { IfOk result (spec.RepliedOnce request.now id handling.now show reached.now
+    ensures ok { IfOk result (spec.RepliedOnce request.now tag handling.now show reached.now
         (O.written out.old) (O.written out.new) (Rose (O.write_faults out.old) (O.write_faults out.new))) }
     ensures err { OnErr result (O.written out.new ≡ O.written out.old) }
     ensures later { O.write_faults out.old ≤ O.write_faults out.new }
@@ -217,14 +218,14 @@ fn reply_once<O: ByteSink>(
         reached.note(),
         reached.body(),
     )?;
-    let end = match answer(alloc, out, request, id, handling, reached)? {
+    let end = match answer(alloc, out, request, tag, handling, reached)? {
         Wrote::Whole => Relayed::Done,
         Wrote::Cut => Relayed::WriteFault,
     };
     Ok(ReplyEnd { end, kept })
 }
 
-/// Writes the reply to a request with that audit ID, which was handled so and sent on to that, and hands its link back, also
+/// Writes the reply with that tag to a request, which was handled so and sent on to that, and hands its link back, also
 /// where memory runs out. Events show that of the reply's body. A reply that streams is written as it comes: to a
 /// client of version 1.1 in chunks where its head says no length. After an end other than `Done` nothing more may be written.
 pub fn reply_to<O: ByteSink, D: Dial>(
@@ -232,7 +233,7 @@ pub fn reply_to<O: ByteSink, D: Dial>(
     dial: &mut D,
     out: &mut O,
     request: &Request,
-    id: AuditId,
+    tag: ReplyTag,
     handling: &Handling,
     sent: SentOn<D::K>,
     show: Show,
@@ -244,7 +245,7 @@ pub fn reply_to<O: ByteSink, D: Dial>(
       written = D.K.written link;
       number = D.K.number link;
       faults = D.K.read_faults link + D.K.write_faults link;
-    }) request.now id handling.now show sent
+    }) request.now tag handling.now show sent
         (record { calls = D.calls dial.old; faults = D.faults dial.old; link_faults = D.link_faults dial.old })
         (record { calls = D.calls dial.new; faults = D.faults dial.new; link_faults = D.link_faults dial.new })
         (O.written out.old) (O.written out.new) (Rose (O.write_faults out.old) (O.write_faults out.new))) }
@@ -253,7 +254,7 @@ pub fn reply_to<O: ByteSink, D: Dial>(
       written = D.K.written link;
       number = D.K.number link;
       faults = D.K.read_faults link + D.K.write_faults link;
-    }) request.now id handling.now sent
+    }) request.now tag handling.now sent
         (record { calls = D.calls dial.old; faults = D.faults dial.old; link_faults = D.link_faults dial.old })
         (record { calls = D.calls dial.new; faults = D.faults dial.new; link_faults = D.link_faults dial.new })
         (O.written out.old) (O.written out.new)) }
@@ -262,7 +263,7 @@ pub fn reply_to<O: ByteSink, D: Dial>(
     ensures aside { O.inward out.new ≡ O.inward out.old }
 {
     match sent {
-        SentOn::Once(reached) => reply_once(alloc, out, request, id, handling, &reached, show),
+        SentOn::Once(reached) => reply_once(alloc, out, request, tag, handling, &reached, show),
         SentOn::Open {
             head,
             frame,
@@ -273,7 +274,7 @@ pub fn reply_to<O: ByteSink, D: Dial>(
             dial,
             out,
             request,
-            id,
+            tag,
             &head,
             frame,
             rest.as_slice(),

@@ -34,7 +34,7 @@ impl<'t> Source for RepeatConn<'t> {
 
     ghost read_faults = { λ _. 0 };
 
-    ghost outward = { λ _. record { told = None; faults = 0; mark = 127 ∷ 0 ∷ 0 ∷ 1 ∷ [] } };
+    ghost outward = { λ _. record { told = None; faults = 0; mark = 127 ∷ 0 ∷ 0 ∷ 1 ∷ []; wishes = None } };
 
     fn read(&mut self, buf: &mut [u8]) -> Result<usize, PortFault> {
         self.turn();
@@ -53,7 +53,7 @@ impl<'t> ByteSink for RepeatConn<'t> {
 
     ghost write_faults = { λ _. 0 };
 
-    ghost inward = { λ _. record { told = None; faults = 0; mark = 127 ∷ 0 ∷ 0 ∷ 1 ∷ [] } };
+    ghost inward = { λ _. record { told = None; faults = 0; mark = 127 ∷ 0 ∷ 0 ∷ 1 ∷ []; wishes = None } };
 
     fn write(&mut self, piece: &[u8]) -> Result<usize, PortFault> {
         Ok(piece.len())
@@ -61,9 +61,11 @@ impl<'t> ByteSink for RepeatConn<'t> {
 }
 
 impl<'t> Conn for RepeatConn<'t> {
-    ghost use Rattle.std.specs.Prelude.{refl, [], ◌∷◌};
+    ghost use Rattle.std.specs.Prelude.{refl, None, [], ◌∷◌};
 
     ghost from = { λ _. 127 ∷ 0 ∷ 0 ∷ 1 ∷ [] };
+
+    ghost wishes = { λ _. None };
 
     ghost outward_is = { λ c. refl };
 
@@ -71,6 +73,10 @@ impl<'t> Conn for RepeatConn<'t> {
 
     fn peer(&self) -> [u8; 4] {
         [127, 0, 0, 1]
+    }
+
+    fn wishes_to_end(&mut self) -> bool {
+        false
     }
 }
 
@@ -85,7 +91,7 @@ impl ByteSink for NoSink {
 
     ghost write_faults = { λ _. 0 };
 
-    ghost inward = { λ _. record { told = None; faults = 0; mark = [] } };
+    ghost inward = { λ _. record { told = None; faults = 0; mark = []; wishes = None } };
 
     fn write(&mut self, piece: &[u8]) -> Result<usize, PortFault> {
         Ok(piece.len())

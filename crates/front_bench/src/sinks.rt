@@ -19,7 +19,7 @@ impl<W: Write> ByteSink for WriterSink<W> {
 
     ghost write_faults = { λ s. s.faults };
 
-    ghost inward = { λ s. record { told = None; faults = 0; mark = [] } };
+    ghost inward = { λ s. record { told = None; faults = 0; mark = []; wishes = None } };
 
     fn write(&mut self, piece: &[u8]) -> Result<usize, PortFault> {
         match self.writer.write(piece) {
@@ -50,7 +50,7 @@ impl Source for LoopLink {
 
     ghost read_faults = { λ _. 0 };
 
-    ghost outward = { λ link. record { told = None; faults = link.faults; mark = 0 ∷ [] } };
+    ghost outward = { λ link. record { told = None; faults = link.faults; mark = 0 ∷ []; wishes = None } };
 
     fn read(&mut self, buf: &mut [u8]) -> Result<usize, PortFault> {
         let rest = REPLY.get(self.given..).unwrap_or(b"");
@@ -68,7 +68,7 @@ impl ByteSink for LoopLink {
 
     ghost write_faults = { λ link. link.faults };
 
-    ghost inward = { λ _. record { told = None; faults = 0; mark = 0 ∷ [] } };
+    ghost inward = { λ _. record { told = None; faults = 0; mark = 0 ∷ []; wishes = None } };
 
     fn write(&mut self, piece: &[u8]) -> Result<usize, PortFault> {
         self.buffer.clear();

@@ -1,11 +1,11 @@
 -- What a plant in memory tells, and what it will do.
 use Rattle.std.specs.Prelude.{◌≡◌, ℕ, List, map, min, Option, Some, None, option_map, unwrap_or, slice_get, Bool, if◌then◌else◌}
+use Rattle.front_ports.specs.Memory.{MemConn}
 use Rattle.front_ports.specs.MemoryDoor.{door_left}
 use Rattle.front_ports.specs.Scripts.{next_is_listed}
 use Rattle.front_ports.specs.declared.mem_bytes.MemBytes.{MemBytes}
 use Rattle.front_ports.specs.declared.mem_dial.MemDial.{MemDial}
 use Rattle.front_ports.specs.declared.mem_door.MemDoor.{MemDoor}
-use Rattle.front_ports.specs.declared.mem_duplex.MemDuplex.{MemDuplex}
 use Rattle.truncate_backend.specs.Notes as notes
 use Rattle.front_plants.specs.Plants.{PlantTells}
 use Rattle.front_plants.specs.Rooms.{notes_room}
@@ -77,13 +77,13 @@ module _ {R : Type 0} where
   abbrev pub plant_door : MemPlant R → ℕ → Option MemDoor
   plant_door plant bay = door_at plant.doors bay
 
-  abbrev pub plant_due : MemPlant R → ℕ → Option (List (MemDuplex (List ℕ)))
+  abbrev pub plant_due : MemPlant R → ℕ → Option (List (MemConn))
   plant_due plant bay = option_map door_left (plant_door plant bay)
 
   abbrev pub plant_faults : MemPlant R → ℕ
   plant_faults plant = counted_faults plant.failures
 
-  abbrev pub plant_tells : MemPlant R → PlantTells (MemDuplex (List ℕ))
+  abbrev pub plant_tells : MemPlant R → PlantTells (MemConn)
   plant_tells plant = record { made = plant_made plant; due = plant_due plant; faults = plant_faults plant }
 
   -- the word that it answers, and the allotments

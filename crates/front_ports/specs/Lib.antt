@@ -13,4 +13,5 @@ pub mod MemoryStream
 pub mod Scripts
 pub mod Side
 pub mod Told
+pub mod Wishes
 pub mod Written

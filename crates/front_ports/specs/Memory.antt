@@ -1,8 +1,9 @@
 -- What the forms in memory tell.
-use Rattle.std.specs.Prelude.{◌≡◌, ℕ, List, [], ◌∷◌, Option, Some, drop}
+use Rattle.std.specs.Prelude.{◌≡◌, ℕ, Bool, List, [], ◌∷◌, Option, Some, drop}
 use Rattle.front_ports.specs.Side.{Side}
 use Rattle.front_ports.specs.declared.mem_bytes.MemBytes.{MemBytes}
 use Rattle.front_ports.specs.declared.mem_duplex.MemDuplex.{MemDuplex}
+use Rattle.front_ports.specs.declared.mem_duplex.MemVisitor.{MemVisitor}
 use Rattle.front_ports.specs.declared.mem_files.MemFiles.{MemFiles}
 use Rattle.front_ports.specs.declared.mem_stream.MemStream.{MemStream}
 
@@ -56,16 +57,33 @@ duplex_written duplex = stream_written duplex.stream
 abbrev pub duplex_write_faults : {M : Type 0} → MemDuplex M → ℕ
 duplex_write_faults duplex = stream_write_faults duplex.stream
 
--- its input and its output with their mark, each of which a call on the other leaves
-abbrev pub input_side : {M : Type 0} → List ℕ → MemDuplex M → Side
-input_side mark duplex = record { told = Some (duplex_left duplex); faults = duplex_read_faults duplex; mark = mark }
+-- its input and its output with their mark and what it will wish, each of which a call on the other leaves
+abbrev pub input_side : {M : Type 0} → List ℕ → Option (List Bool) → MemDuplex M → Side
+input_side mark wishes duplex = record {
+  told = Some (duplex_left duplex);
+  faults = duplex_read_faults duplex;
+  mark = mark;
+  wishes = wishes;
+}
 
-abbrev pub output_side : {M : Type 0} → List ℕ → MemDuplex M → Side
-output_side mark duplex = record { told = Some (duplex_written duplex); faults = duplex_write_faults duplex; mark = mark }
+abbrev pub output_side : {M : Type 0} → List ℕ → Option (List Bool) → MemDuplex M → Side
+output_side mark wishes duplex = record {
+  told = Some (duplex_written duplex);
+  faults = duplex_write_faults duplex;
+  mark = mark;
+  wishes = wishes;
+}
 
--- the address of a connection's peer
-abbrev pub conn_from : MemDuplex (List ℕ) → List ℕ
-conn_from conn = conn.mark
+-- a connection in memory
+abbrev pub MemConn : Type 0
+MemConn = MemDuplex MemVisitor
+
+-- the address of a connection's peer, and whether it will wish to end, each time that it is asked
+abbrev pub conn_from : MemConn → List ℕ
+conn_from conn = conn.mark.from
+
+abbrev pub conn_wishes : MemConn → List Bool
+conn_wishes conn = conn.mark.wishes.items
 
 -- the number of a link's call among those of its dial
 abbrev pub link_number : MemDuplex ℕ → ℕ

@@ -1,17 +1,17 @@
 -- What a door in memory tells.
 use Rattle.std.specs.Prelude.{ℕ, List, map, Bool}
+use Rattle.front_ports.specs.Memory.{MemConn}
 use Rattle.front_ports.specs.Scripts.{next_is_listed}
 use Rattle.front_ports.specs.declared.door.Visit.{Visit}
-use Rattle.front_ports.specs.declared.mem_duplex.MemDuplex.{MemDuplex}
 use Rattle.front_ports.specs.declared.mem_door.Expected.{Expected}
 use Rattle.front_ports.specs.declared.mem_door.MemDoor.{MemDoor}
 
 -- the connections of those that are expected
-abbrev pub expected_conns : List Expected → List (MemDuplex (List ℕ))
+abbrev pub expected_conns : List Expected → List MemConn
 expected_conns expected = map (λ e. e.conn) expected
 
 -- the connections that it will still give
-abbrev pub door_left : MemDoor → List (MemDuplex (List ℕ))
+abbrev pub door_left : MemDoor → List MemConn
 door_left door = expected_conns door.expected.items
 
 -- those that it gave

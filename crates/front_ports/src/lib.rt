@@ -1,8 +1,8 @@
 //! The outside as traits with a written meaning: where bytes come from, where they go, connections and doors that give
 //! them, links and dials that open them, clocks, files, and forms of all these in memory.
 //!
-//! An object of the outside may tell what it has left to give, what it gave, what was written to it and what it holds; a
-//! file, a socket or a terminal tells nothing. Where it tells, each call says exactly what it changes. The object's own
+//! An object of the outside may tell what it has left to give, what it gave, what was written to it, what it holds and what it
+//! will wish; a file, a socket or a terminal tells nothing. Where it tells, each call says exactly what it changes. The object's own
 //! count of faults rises in a call that fails and in no other, so that nobody above can give up without a fault or hide
 //! one. The forms in memory fail exactly where they were told to when they were made, and their reads give as many bytes
 //! as they may. They take memory only when they are made, but for `Files::read`, which hands out a copy.
@@ -35,7 +35,7 @@ pub use mem_clock::MemClock;
 pub use mem_conn::MemConn;
 pub use mem_dial::MemDial;
 pub use mem_door::MemDoor;
-pub use mem_duplex::{Mark, MemDuplex};
+pub use mem_duplex::{Mark, MemDuplex, MemVisitor};
 pub use mem_files::MemFiles;
 pub use mem_link::MemLink;
 pub use script::Script;

@@ -71,7 +71,7 @@ impl ByteSink for MemBytes {
 
     ghost write_faults = { λ m. m.faults };
 
-    ghost inward = { λ m. record { told = None; faults = 0; mark = [] } };
+    ghost inward = { λ m. record { told = None; faults = 0; mark = []; wishes = None } };
 
     fn write(&mut self, piece: &[u8]) -> Result<usize, PortFault>
         requires { 0 < length piece.now }

@@ -1,25 +1,39 @@
-ghost use Rattle.std.specs.Prelude.{◌≡◌, ◌<◌, ℕ, List, Some, IfOk, length};
+ghost use Rattle.std.specs.Prelude.{◌≡◌, ◌<◌, ℕ, Bool, List, Option, Some, IfOk, length};
 ghost use Rattle.std.specs.Io.{ReadsAtMost, WritesAtMost};
 ghost use Rattle.std.specs.Io.KnownBytes.{ReadConsumes, WriteAppends};
 ghost use Rattle.front_ports.specs.Cause.{HasCause};
-ghost use Rattle.front_ports.specs.Mark.{list_mark, number_mark};
+ghost use Rattle.front_ports.specs.Mark.{number_mark, number_wishes, visitor_mark, visitor_wishes};
 
 use crate::mem_stream::MemStream;
 use crate::stream::{ByteSink, PortFault, Source};
+use std::collections::VecDeque;
 
-/// What marks a connection or a link in memory: the address of its peer, or the number of its call. No read and no write
-/// changes it.
+/// What marks a connection or a link in memory: its visitor, or the number of its call. No read and no write changes it.
 pub trait Mark {
     /// The mark as the two sides show it.
     ghost shown: { Self → List ℕ };
+
+    /// What it will wish, as the two sides show it.
+    ghost wishes: { Self → Option (List Bool) };
 }
 
-impl Mark for [u8; 4] {
-    ghost shown = { list_mark };
+/// Who visits by a connection in memory: the IPv4 address of its peer, and whether it will wish to end, each time that it is asked.
+#[derive(Debug, Drop)]
+pub struct MemVisitor {
+    pub(crate) from: [u8; 4],
+    pub(crate) wishes: VecDeque<bool>,
+}
+
+impl Mark for MemVisitor {
+    ghost shown = { visitor_mark };
+
+    ghost wishes = { visitor_wishes };
 }
 
 impl Mark for usize {
     ghost shown = { number_mark };
+
+    ghost wishes = { number_wishes };
 }
 
 /// A connection or a link in memory, which does what a script says, and tells its input and its output.
@@ -65,14 +79,15 @@ impl<M: Mark> Source for MemDuplex<M> {
 
     ghost read_faults = { duplex_read_faults };
 
-    ghost outward = { λ d. output_side (M.shown d.mark) d };
+    ghost outward = { λ d. output_side (M.shown d.mark) (M.wishes d.mark) d };
 
     fn read(&mut self, buf: &mut [u8]) -> Result<usize, PortFault>
         requires { 0 < length buf.old }
         ensures bound { ReadsAtMost result buf.new }
         ensures bytes { ReadConsumes (Some (duplex_left self.old)) (Some (duplex_left self.new)) result buf.new }
         ensures cause { HasCause (duplex_read_faults self.old) (duplex_read_faults self.new) result }
-        ensures aside { output_side (M.shown self.new.mark) self.new ≡ output_side (M.shown self.old.mark) self.old }
+        ensures aside { output_side (M.shown self.new.mark) (M.wishes self.new.mark) self.new
+            ≡ output_side (M.shown self.old.mark) (M.wishes self.old.mark) self.old }
 
         // Which reads fail, and how many bytes the others give.
         ensures told { ReadsAsTold (duplex_stream self.old) (duplex_stream self.new) result (length buf.old) }
@@ -89,7 +104,7 @@ impl<M: Mark> ByteSink for MemDuplex<M> {
 
     ghost write_faults = { duplex_write_faults };
 
-    ghost inward = { λ d. input_side (M.shown d.mark) d };
+    ghost inward = { λ d. input_side (M.shown d.mark) (M.wishes d.mark) d };
 
     fn write(&mut self, piece: &[u8]) -> Result<usize, PortFault>
         requires { 0 < length piece.now }
@@ -97,7 +112,8 @@ impl<M: Mark> ByteSink for MemDuplex<M> {
         ensures some { IfOk result (λ n. 0 < n) }
         ensures bytes { WriteAppends (Some (duplex_written self.old)) (Some (duplex_written self.new)) result piece.now }
         ensures cause { HasCause (duplex_write_faults self.old) (duplex_write_faults self.new) result }
-        ensures aside { input_side (M.shown self.new.mark) self.new ≡ input_side (M.shown self.old.mark) self.old }
+        ensures aside { input_side (M.shown self.new.mark) (M.wishes self.new.mark) self.new
+            ≡ input_side (M.shown self.old.mark) (M.wishes self.old.mark) self.old }
 
         // Which writes fail, and that the others take the whole piece.
         ensures told { SendsAsTold (duplex_stream self.old) (duplex_stream self.new) result (length piece.now) }

@@ -1,8 +1,9 @@
-ghost use Rattle.std.specs.Prelude.{◌≡◌, ◌<◌, List, [], ◌∷◌, ℕ, Option, IfOk, IfErr, OnOk, OnErr, length, take};
+ghost use Rattle.std.specs.Prelude.{◌≡◌, ◌<◌, List, [], ◌∷◌, ℕ, Bool, Option, None, IfOk, IfErr, OnOk, OnErr, length, take};
 ghost use Rattle.std.specs.Io.{ReadsAtMost, WritesAtMost};
 ghost use Rattle.std.specs.Io.KnownBytes.{Appends, ReadConsumes, WriteAppends};
 ghost use Rattle.front_ports.specs.Cause.{HasCause};
 ghost use Rattle.front_ports.specs.Side.{Side};
+ghost use Rattle.front_ports.specs.Wishes.{GivesWish};
 ghost use Rattle.front_ports.specs.Written.{AppendsFront};
 
 /// A call on the outside failed.
@@ -55,15 +56,27 @@ pub trait Conn: Source + ByteSink {
     /// The IPv4 address of the peer, which no call changes.
     ghost from: { Self → List ℕ };
 
+    /// Whether it will wish to end, each time that it is asked, where it tells so. After the last of these it wishes nothing.
+    ghost wishes: { Self → Option (List Bool) };
+
     fn peer(&self) -> [u8; 4]
         ensures { result ≡ from self.now };
 
-    /// What a read leaves is the output, and what a write leaves is the input.
-    ghost outward_is: { (c : Self) →
-        Self.outward c ≡ record { told = Self.written c; faults = Self.write_faults c; mark = from c } };
+    /// Whether it wishes to end after the reply that comes next, as where another client waits for a bay.
+    fn wishes_to_end(&mut self) -> bool
+        ensures wish { GivesWish (wishes self.old) (wishes self.new) result }
+        ensures from { from self.new ≡ from self.old }
+        ensures left { Self.left self.new ≡ Self.left self.old }
+        ensures read_faults { Self.read_faults self.new ≡ Self.read_faults self.old }
+        ensures written { Self.written self.new ≡ Self.written self.old }
+        ensures write_faults { Self.write_faults self.new ≡ Self.write_faults self.old };
 
-    ghost inward_is: { (c : Self) →
-        Self.inward c ≡ record { told = Self.left c; faults = Self.read_faults c; mark = from c } };
+    /// What a read leaves is the output, and what a write leaves is the input. Both leave what it will wish.
+    ghost outward_is: { (c : Self) → Self.outward c
+        ≡ record { told = Self.written c; faults = Self.write_faults c; mark = from c; wishes = wishes c } };
+
+    ghost inward_is: { (c : Self) → Self.inward c
+        ≡ record { told = Self.left c; faults = Self.read_faults c; mark = from c; wishes = wishes c } };
 }
 
 /// A link to a backend.
@@ -73,10 +86,10 @@ pub trait Link: Source + ByteSink {
 
     /// What a read leaves is the output, and what a write leaves is the input.
     ghost outward_is: { (link : Self) → Self.outward link
-        ≡ record { told = Self.written link; faults = Self.write_faults link; mark = number link ∷ [] } };
+        ≡ record { told = Self.written link; faults = Self.write_faults link; mark = number link ∷ []; wishes = None } };
 
     ghost inward_is: { (link : Self) → Self.inward link
-        ≡ record { told = Self.left link; faults = Self.read_faults link; mark = number link ∷ [] } };
+        ≡ record { told = Self.left link; faults = Self.read_faults link; mark = number link ∷ []; wishes = None } };
 }
 
 /// Writes all of a text, in as many writes as the sink wants. On a fault, a prefix of it was written.

@@ -38,7 +38,7 @@ impl<R: Read> Source for ReaderSource<R> {
 
     ghost read_faults = { λ s. s.faults };
 
-    ghost outward = { λ s. record { told = None; faults = 0; mark = [] } };
+    ghost outward = { λ s. record { told = None; faults = 0; mark = []; wishes = None } };
 
     fn read(&mut self, buf: &mut [u8]) -> Result<usize, PortFault> {
         match self.reader.read(buf) {
@@ -85,7 +85,7 @@ impl<W: Write> ByteSink for WriterSink<W> {
 
     ghost write_faults = { λ s. s.faults };
 
-    ghost inward = { λ s. record { told = None; faults = 0; mark = [] } };
+    ghost inward = { λ s. record { told = None; faults = 0; mark = []; wishes = None } };
 
     fn write(&mut self, piece: &[u8]) -> Result<usize, PortFault> {
         let reason = match self.writer.write(piece) {

@@ -1,11 +1,11 @@
 -- What the handles of a plant in memory tell, and routes of one bay's own.
-use Rattle.std.specs.Prelude.{ℕ, List, Some}
+use Rattle.std.specs.Prelude.{ℕ, Some}
 use Rattle.apiservice_table.specs.Changes.{placed}
 use Rattle.apiservice_table.specs.declared.routes.Routes as routes
 use Rattle.apiservice_table.specs.declared.table_routes.TableRoutes.{TableRoutes}
 use Rattle.front_plants.specs.MemorySinks.{mem_log_tells, mem_hook_tells}
-use Rattle.front_ports.specs.Mark.{list_mark}
-use Rattle.front_ports.specs.Memory.{conn_from, duplex_left, duplex_written, duplex_read_faults, duplex_write_faults, input_side, output_side}
+use Rattle.front_ports.specs.Mark.{visitor_mark, visitor_wishes}
+use Rattle.front_ports.specs.Memory.{MemConn, conn_from, conn_wishes, duplex_left, duplex_written, duplex_read_faults, duplex_write_faults, input_side, output_side}
 use Rattle.front_ports.specs.MemoryClock.{clock_given, clock_last}
 use Rattle.front_ports.specs.MemoryDial.{dial_calls, dial_faults, dial_link_faults}
 use Rattle.front_ports.specs.MemoryDoor.{door_closes, door_faults, door_given, door_left}
@@ -29,10 +29,7 @@ use Rattle.truncate_backend.specs.declared.mem_notes.MemNotes.{MemNotes}
 use Rattle.truncate_backend.specs.declared.sink.BatchSink as sinks
 use Rattle.webhook_sink.specs.declared.webhook.WebhookSink.{WebhookSink}
 
--- a connection and a link, by what marks them
-abbrev pub MemConn : Type 0
-MemConn = MemDuplex (List ℕ)
-
+-- a link, by what marks it
 abbrev pub MemLink : Type 0
 MemLink = MemDuplex ℕ
 
@@ -59,13 +56,13 @@ abbrev pub mem_door : doors.Ghosts MemDoor MemConn
 mem_door = record { left = λ d. Some (door_left d); given = λ d. Some (door_given d); closes = door_closes; faults = door_faults }
 
 abbrev pub conn_source : sources.Ghosts MemConn
-conn_source = record { left = λ c. Some (duplex_left c); read_faults = duplex_read_faults; outward = λ c. output_side (list_mark c.mark) c }
+conn_source = record { left = λ c. Some (duplex_left c); read_faults = duplex_read_faults; outward = λ c. output_side (visitor_mark c.mark) (visitor_wishes c.mark) c }
 
 abbrev pub conn_sink : byte_sinks.Ghosts MemConn
-conn_sink = record { written = λ c. Some (duplex_written c); write_faults = duplex_write_faults; inward = λ c. input_side (list_mark c.mark) c }
+conn_sink = record { written = λ c. Some (duplex_written c); write_faults = duplex_write_faults; inward = λ c. input_side (visitor_mark c.mark) (visitor_wishes c.mark) c }
 
 abbrev pub mem_conn : conns.Ghosts MemConn
-mem_conn = record { from = conn_from }
+mem_conn = record { from = conn_from; wishes = λ c. Some (conn_wishes c) }
 
 -- all of them
 abbrev pub mem_handles : BayHandles TableRoutes MemDial MemLink (LogSink MemBytes MemNotes) (WebhookSink MemDial MemNotes) MemClock MemDiary MemDoor MemConn

@@ -11,7 +11,8 @@ use Rattle.log_sink.specs.declared.log.LogSink.{LogSink}
 use Rattle.proxy_runs.specs.Setup.{settings_of, options_of}
 use Rattle.rehearse_check.specs.Planned.{Follows}
 use Rattle.rehearse_plan.specs.Words.{Asked}
-use Rattle.rehearse_runs.specs.Handles.{MemConn, mem_handles}
+use Rattle.front_ports.specs.Memory.{MemConn}
+use Rattle.rehearse_runs.specs.Handles.{mem_handles}
 use Rattle.rehearse_setting.specs.Sent.{IsDue}
 use Rattle.rehearse_setting.specs.Setting.{IsConfig, Opens, words_of}
 use Rattle.serve_config.specs.declared.config.ServeConfig.{ServeConfig}

@@ -2,9 +2,9 @@
 use Rattle.std.proofs.Common.{◌≡◌, ◌<◌, ℕ, List, [], ◌∷◌, ◌++◌, length, slice_get, IfSome, Option, All, subst, sym, ap, ◌∙◌, arith}
 use Rattle.std.specs.Prelude.{option_map}
 use Rattle.std.proofs.lemmas.List.Elements.{All-append, All-cons, All-nil}
+use Rattle.front_ports.specs.Memory.{MemConn}
 use Rattle.front_ports.specs.MemoryDoor.{door_left}
 use Rattle.front_ports.specs.declared.mem_door.MemDoor.{MemDoor}
-use Rattle.front_ports.specs.declared.mem_duplex.MemDuplex.{MemDuplex}
 use Rattle.rehearse_check.proofs.Places.{places_more, some_place}
 use Rattle.rehearse_setting.specs.Sent.{AreSent, IsDue, IsSent}
 
@@ -16,7 +16,7 @@ pub more_sent : (start count bays : ℕ) (xs ys : List MemDoor) (x : MemDoor) �
 more_sent start count bays xs ys x e h p =
     subst (AreSent start count bays) (sym e) (places_more (λ bay door. IsSent start count bays bay (door_left door)) xs x h p)
 
-pub is_due : (start count bays : ℕ) (doors : List MemDoor) (due : ℕ → Option (List (MemDuplex (List ℕ)))) → length doors ≡ bays
+pub is_due : (start count bays : ℕ) (doors : List MemDoor) (due : ℕ → Option (List MemConn)) → length doors ≡ bays
     → AreSent start count bays doors → ((bay : ℕ) → due bay ≡ option_map door_left (slice_get doors bay))
     → IsDue start count bays due
 is_due start count bays doors due e h d bay lt =

@@ -1,5 +1,5 @@
 -- A connection goes on from request to request.
-use Rattle.std.proofs.Common.{◌≡◌, ℕ, ◌+◌, ◌≤◌, ◌<◌, ◌⊎◌, Bool, true, false, List, [], ◌∷◌, ◌++◌, take, Option, Some, None, refl, sym, ap, ◌∙◌, subst, append_assoc, append-nil, inl, inr, arith}
+use Rattle.std.proofs.Common.{◌≡◌, ℕ, ◌+◌, ◌≤◌, ◌<◌, ◌⊎◌, ◌||◌, Bool, true, false, List, [], ◌∷◌, ◌++◌, take, Option, Some, None, refl, sym, ap, ◌∙◌, subst, append_assoc, append-nil, inl, inr, arith}
 use Rattle.std.specs.Prelude.{IfSome}
 use Rattle.std.specs.Io.KnownBytes.{Consumes, Appends, IsAtEnd}
 use Rattle.std.proofs.KnownBytes.{Consumes-nil, Consumes-trans, Appends-nil, Appends-trans}
@@ -11,6 +11,7 @@ use Rattle.exchange_replies.specs.Streams.{WritesTo}
 use Rattle.front_base.specs.declared.audit_id.TheConstants.{MOST_REQUESTS}
 use Rattle.front_ports.specs.Cause.{Rose}
 use Rattle.front_ports.specs.Side.{Side}
+use Rattle.front_ports.specs.Wishes.{GaveWishes, GivesWish}
 use Rattle.front_ports.specs.Written.{AppendsFront}
 use Rattle.http_edge.specs.Calls.{GotRequest, NoRequest, Stopped, Awaits}
 use Rattle.http_edge.specs.Requests.{StartsWith, asks, IsRequests, IsStop, ReadsTo, IsUnfinished}
@@ -20,7 +21,8 @@ use Rattle.http_edge.specs.declared.request.Request.{Request}
 use Rattle.http_edge.specs.declared.request.Stop.{Stop}
 use Rattle.http_edge.specs.declared.request.Stop.TheVariants as stop
 use Rattle.session_core.specs.Bays.{BayState}
-use Rattle.session_core.specs.Connection.{ConnState, Ran, FirstOf, refusal_of, WritesRefusal, ServedAll, ServedTaken, ServedCut, ServedBroken, ServedMost, ServedFirst, HaltsAt, Serves}
+use Rattle.session_core.specs.Closing.{MayWish, NoneWished, closes, wishes_of}
+use Rattle.session_core.specs.Connection.{AreServed, ConnState, MayWishAt, Ran, FirstOf, refusal_of, WritesRefusal, ServedAll, ServedTaken, ServedCut, ServedBroken, ServedMost, ServedFirst, HaltsAt, Serves}
 use Rattle.session_core.specs.Ends.{Refuses, RefusesAt, ServesNext, ServesOne, SoFar, end_after, end_of_stop}
 use Rattle.session_core.specs.Exchange.{Exchanged, ExchangedTo, Halted, ReplyStopped, StoppedAt, StopsAtEnd, StopsBeforeEnd, Unbegun}
 use Rattle.session_core.specs.Parts.{Outcomes}
@@ -128,8 +130,9 @@ ran_one set peer m k n (q ∷ rs) r out text xs x h e = (
   ran_one set peer h.2 k n rs r h.1 text h.4 x h.8 e,
 )
 
-pub none_so_far : (set : Settings) (peer : List ℕ) (m : BayState) (a w : Option (List ℕ)) (x : List ℕ) → x ≡ [] → SoFar set peer m m a a x w w
-none_so_far set peer m a w x e = record {
+pub none_so_far : (set : Settings) (peer : List ℕ) (m : BayState) (a w : Option (List ℕ)) (v : Option (List Bool)) (x : List ℕ) → x ≡ []
+    → SoFar set peer m m a a x w w v v
+none_so_far set peer m a w v x e = record {
   requests = [];
   taken = [];
   consumed = Consumes-nil a;
@@ -138,7 +141,27 @@ none_so_far set peer m a w x e = record {
   exchanges = [];
   ran = (refl, refl, refl);
   written = Appends-nil w;
+  none = tt;
+  gave = refl;
 }
+
+-- ---- what was wished
+
+-- it wished to go on after all of these, and after one more
+none_more : (xs : List Exchange) (x : Exchange) → NoneWished xs → x.wished ≡ false → NoneWished (xs ++ x ∷ [])
+none_more [] x h e = (e, tt)
+none_more (y ∷ ys) x h e = (h.0, none_more ys x h.1 e)
+
+-- one more wish came after these
+gave_more : (xs : List Exchange) (x : Exchange) (v0 v1 v2 : Option (List Bool)) → GaveWishes v0 (wishes_of xs) v1 → GivesWish v1 v2 x.wished
+    → GaveWishes v0 (wishes_of (xs ++ x ∷ [])) v2
+gave_more [] x v0 v1 v2 h g = (v2, subst (λ (o : Option (List Bool)). GivesWish o v2 x.wished) h g, refl)
+gave_more (y ∷ ys) x v0 v1 v2 h g = (h.0, h.1, gave_more ys x h.0 v1 v2 h.2 g)
+
+-- a connection goes on after a request that doesn't ask to close, and only where it wished so
+goes_both : (wished asked : Bool) → (wished || asked) ≡ false → (wished ≡ false) × (asked ≡ false)
+goes_both true asked e = absurd (cc e)
+goes_both false asked e = (refl, e)
 
 -- nothing was done
 still : (m : BayState) (w : Option (List ℕ)) → Unbegun m m w w
@@ -160,6 +183,10 @@ never_begun set peer m c = (
     last = [];
     halts = inl (refl, still m c.written);
     exchanges_are = refl;
+    none = tt;
+    wishes = c.wishes;
+    gave = refl;
+    may_wish = refl;
   },
 )
   where
@@ -170,10 +197,13 @@ never_begun set peer m c = (
 -- ---- from what was so far, over one call
 
 module _ (law : StartsStay) (refusals : RefusalsStay) (set : Settings) (peer : List ℕ) (m k n : BayState) (a b c : ConnState) (x y : List ℕ)
-    (s : SoFar set peer m k a.left b.left x a.written b.written) where
+    (s : SoFar set peer m k a.left b.left x a.written b.written a.wishes b.wishes) where
   -- ---- no request came
 
-  module _ (refused : n ≡ k) where
+  module _ (refused : n ≡ k) (quiet : c.wishes ≡ b.wishes) where
+    gave_now : GaveWishes a.wishes (wishes_of s.exchanges) c.wishes
+    gave_now = subst (GaveWishes a.wishes (wishes_of s.exchanges)) (sym quiet) s.gave
+
     now : Ran set peer m s.requests s.out n s.exchanges
     now = subst (λ (q : BayState). Ran set peer m s.requests s.out q s.exchanges) (sym refused) s.ran
 
@@ -199,13 +229,17 @@ module _ (law : StartsStay) (refusals : RefusalsStay) (set : Settings) (peer : L
           requests = s.requests;
           taken = taken;
           consumed = consumed;
-          list = list_stop taken (x ++ t.seen.taken) s.requests e reads stop;
-          whole = of_ended a.left c.left taken (λ input. IsRequests input s.requests e) consumed (λ ys at_end.
-              list_stop (taken ++ ys) ((x ++ t.seen.taken) ++ ys) s.requests e (reads_more law taken ys (x ++ t.seen.taken) s.requests reads)
-              (stop_whole refusals (x ++ t.seen.taken) ys e (IsAtEnd c.left) stop t.at_end at_end));
+          list = inl (s.none, list_stop taken (x ++ t.seen.taken) s.requests e reads stop);
+          whole = of_ended a.left c.left taken (λ input. AreServed input s.requests e s.exchanges) consumed (λ ys at_end.
+              inl (
+                s.none,
+                list_stop (taken ++ ys) ((x ++ t.seen.taken) ++ ys) s.requests e (reads_more law taken ys (x ++ t.seen.taken) s.requests reads)
+                    (stop_whole refusals (x ++ t.seen.taken) ys e (IsAtEnd c.left) stop t.at_end at_end),
+              ));
           out = s.out;
           ran = now;
           written = written_by (refusal_of e) le writes;
+          gave = gave_now;
         }
 
     fault_taken : Awaits b.left c.left x → c.written ≡ b.written → ServedTaken set peer m n a c s.exchanges
@@ -219,6 +253,8 @@ module _ (law : StartsStay) (refusals : RefusalsStay) (set : Settings) (peer : L
       out = s.out;
       ran = now;
       written = subst (λ o. Appends a.written o s.out) (sym same) s.written;
+      none = s.none;
+      gave = gave_now;
     }
 
     -- memory ran out while the next request was read
@@ -236,6 +272,10 @@ module _ (law : StartsStay) (refusals : RefusalsStay) (set : Settings) (peer : L
       last = [];
       halts = inl (refl, still n c.written);
       exchanges_are = refl;
+      none = s.none;
+      wishes = c.wishes;
+      gave = gave_now;
+      may_wish = refl;
     }
 
     by_stop : (t : Stop) → a.read_faults ≤ b.read_faults → a.write_faults ≤ b.write_faults → NoRequest b.left c.left x (Rose b.read_faults c.read_faults) t
@@ -276,37 +316,55 @@ module _ (law : StartsStay) (refusals : RefusalsStay) (set : Settings) (peer : L
     writes_more : (text : List ℕ) → Appends b.written c.written text → Appends a.written c.written (s.out ++ text)
     writes_more text h = Appends-trans a.written b.written c.written s.out text s.written h
 
-    more_so_far : (text : List ℕ) (e : Exchange) → asks r ≡ false → Exchanged set peer r k text n e → Appends b.written c.written text
-        → SoFar set peer m n a.left c.left y a.written c.written
-    more_so_far text e goes h w = record {
+    gave_with : (e : Exchange) → GivesWish b.wishes c.wishes e.wished → GaveWishes a.wishes (wishes_of (s.exchanges ++ e ∷ [])) c.wishes
+    gave_with e g = gave_more s.exchanges e a.wishes b.wishes c.wishes s.gave g
+
+    more_so_far : (text : List ℕ) (e : Exchange) → closes r e.wished ≡ false → Exchanged set peer r k text n e → Appends b.written c.written text
+        → GivesWish b.wishes c.wishes e.wished → SoFar set peer m n a.left c.left y a.written c.written a.wishes c.wishes
+    more_so_far text e goes h w g = record {
       requests = s.requests ++ r ∷ [];
       taken = taken_now;
       consumed = consumed_now;
-      reads = reads_one taken_now middle y s.requests r reads_now starts_now goes;
+      reads = reads_one taken_now middle y s.requests r reads_now starts_now (goes_both e.wished (asks r) goes).1;
       out = s.out ++ text;
       exchanges = s.exchanges ++ e ∷ [];
       ran = ran_one set peer m k n s.requests r s.out text s.exchanges e s.ran h;
       written = writes_more text w;
+      none = none_more s.exchanges e s.none (goes_both e.wished (asks r) goes).0;
+      gave = gave_with e g;
     }
 
-    asked_all : (text : List ℕ) (e : Exchange) → asks r ≡ true → Exchanged set peer r k text n e → Appends b.written c.written text
-        → ServedAll set peer m n a c end.Asked (s.exchanges ++ e ∷ [])
-    asked_all text e ends h w = record {
+    -- it was the last of its connection: it asks so, or the connection wished it
+    last_by : (e : Exchange) (bytes held after : List ℕ) → ReadsTo bytes s.requests held → StartsWith held r after → (wished : Bool) → e.wished ≡ wished
+        → closes r wished ≡ true → AreServed bytes (s.requests ++ r ∷ []) end.Asked (s.exchanges ++ e ∷ [])
+    last_by e bytes held after reads starts true is ends =
+        inr (record {
+          first = first_one bytes held after s.requests r reads starts;
+          end_is = refl;
+          last = record { before = s.exchanges; last = e; exchanges_are = refl; none = s.none; wished = is };
+        })
+    last_by e bytes held after reads starts false is ends =
+        inl (none_more s.exchanges e s.none is, list_asked bytes held after s.requests r reads starts ends)
+
+    asked_all : (text : List ℕ) (e : Exchange) → closes r e.wished ≡ true → Exchanged set peer r k text n e → Appends b.written c.written text
+        → GivesWish b.wishes c.wishes e.wished → ServedAll set peer m n a c end.Asked (s.exchanges ++ e ∷ [])
+    asked_all text e ends h w g = record {
       requests = s.requests ++ r ∷ [];
       taken = taken_now;
       consumed = consumed_now;
-      list = list_asked taken_now middle y s.requests r reads_now starts_now ends;
-      whole = of_input a.left c.left taken_now (λ input. IsRequests input (s.requests ++ r ∷ []) end.Asked) consumed_now (λ ys.
-          list_asked (taken_now ++ ys) (middle ++ ys) (y ++ ys) s.requests r (reads_more law taken_now ys middle s.requests reads_now)
-          (law middle ys y r starts_now) ends);
+      list = last_by e taken_now middle y reads_now starts_now e.wished refl ends;
+      whole = of_input a.left c.left taken_now (λ input. AreServed input (s.requests ++ r ∷ []) end.Asked (s.exchanges ++ e ∷ [])) consumed_now (λ ys.
+          last_by e (taken_now ++ ys) (middle ++ ys) (y ++ ys) (reads_more law taken_now ys middle s.requests reads_now)
+          (law middle ys y r starts_now) e.wished refl ends);
       out = s.out ++ text;
       ran = ran_one set peer m k n s.requests r s.out text s.exchanges e s.ran h;
       written = writes_more text w;
+      gave = gave_with e g;
     }
 
     cut_last : (text : List ℕ) (e : Exchange) → ExchangedTo set peer r k text n relayed.WriteFault e → AppendsFront b.written c.written text
-        → ServedCut set peer m n a c (s.exchanges ++ e ∷ [])
-    cut_last text e h w = record {
+        → GivesWish b.wishes c.wishes e.wished → ServedCut set peer m n a c (s.exchanges ++ e ∷ [])
+    cut_last text e h w g = record {
       requests = s.requests;
       last = r;
       first = first_with;
@@ -320,11 +378,13 @@ module _ (law : StartsStay) (refusals : RefusalsStay) (set : Settings) (peer : L
       exchanges_are = refl;
       count = w.0;
       written = writes_more (take w.0 text) w.1;
+      none = s.none;
+      gave = gave_with e g;
     }
 
     broken_last : (end : Relayed) (text : List ℕ) (e : Exchange) → ExchangedTo set peer r k text n end e → Appends b.written c.written text
-        → ServedBroken set peer m n a c end (s.exchanges ++ e ∷ [])
-    broken_last end text e h w = record {
+        → GivesWish b.wishes c.wishes e.wished → ServedBroken set peer m n a c end (s.exchanges ++ e ∷ [])
+    broken_last end text e h w g = record {
       requests = s.requests;
       last = r;
       first = first_with;
@@ -337,10 +397,12 @@ module _ (law : StartsStay) (refusals : RefusalsStay) (set : Settings) (peer : L
       broken = h;
       exchanges_are = refl;
       written = writes_more text w;
+      none = s.none;
+      gave = gave_with e g;
     }
 
-    most : k.number ≡ MOST_REQUESTS → n ≡ k → c.written ≡ b.written → ServedMost set peer m n a c s.exchanges
-    most all same w =
+    most : k.number ≡ MOST_REQUESTS → n ≡ k → c.written ≡ b.written → c.wishes ≡ b.wishes → ServedMost set peer m n a c s.exchanges
+    most all same w quiet =
         subst (λ (q : BayState). ServedMost set peer m q a c s.exchanges) (sym same)
         (record {
           requests = s.requests;
@@ -350,11 +412,17 @@ module _ (law : StartsStay) (refusals : RefusalsStay) (set : Settings) (peer : L
           ran = s.ran;
           written = subst (λ o. Appends a.written o s.out) (sym w) s.written;
           all = all;
+          none = s.none;
+          gave = subst (GaveWishes a.wishes (wishes_of s.exchanges)) (sym quiet) s.gave;
         })
 
-    halts_next : a.write_faults ≤ b.write_faults
-        → Unbegun k n b.written c.written ⊎ ((e : Exchange) × Halted set peer r k n b.written c.written (Rose b.write_faults c.write_faults) e)
-        → (xs : List Exchange) × ServedFirst set peer m n a c xs
+    abbrev pub Halting : Type 0
+    Halting =
+        (Unbegun k n b.written c.written × (c.wishes ≡ b.wishes))
+        ⊎ ((e : Exchange) × Halted set peer r k n b.written c.written (Rose b.write_faults c.write_faults) e
+        × MayWish b.wishes c.wishes false e.wished)
+
+    halts_next : a.write_faults ≤ b.write_faults → Halting → (xs : List Exchange) × ServedFirst set peer m n a c xs
     halts_next le h =
         let halts = by h in (
           s.exchanges ++ halts.0,
@@ -370,12 +438,17 @@ module _ (law : StartsStay) (refusals : RefusalsStay) (set : Settings) (peer : L
             last = halts.0;
             halts = halts.1;
             exchanges_are = refl;
+            none = s.none;
+            wishes = b.wishes;
+            gave = s.gave;
+            may_wish = halts.2;
           },
         )
       where
-        by : Unbegun k n b.written c.written ⊎ ((e : Exchange) × Halted set peer r k n b.written c.written (Rose b.write_faults c.write_faults) e)
+        by : Halting
             → (xs : List Exchange) × HaltsAt set peer a.left s.requests k n b.written c.written (Rose a.write_faults c.write_faults) xs
-        by (inl q) = ([], inl (refl, q))
+            × MayWishAt b.wishes c.wishes xs
+        by (inl q) = ([], inl (refl, q.0), q.1)
         by (inr q) = (
           q.0 ∷ [],
           inr (
@@ -386,33 +459,34 @@ module _ (law : StartsStay) (refusals : RefusalsStay) (set : Settings) (peer : L
             halted_later set peer r k n b.written c.written (Rose b.write_faults c.write_faults)
                 (Rose a.write_faults c.write_faults) q.0 (rose_earlier a.write_faults b.write_faults c.write_faults le) q.1,
           ),
+          q.2,
         )
 
   -- ---- how it goes on
 
   -- it goes on, or it ended so
   abbrev pub Goes : Option ConnEnd → Type 0
-  Goes None = SoFar set peer m n a.left c.left y a.written c.written
+  Goes None = SoFar set peer m n a.left c.left y a.written c.written a.wishes c.wishes
   Goes (Some end) = (xs : List Exchange) × Serves set peer m n a c end xs
 
-  by_outcome : (r : Request) (g : GotRequest b.left c.left x y r) (o : Outcome) (last : Bool) → asks r ≡ last → a.write_faults ≤ b.write_faults
-      → Outcomes set peer r k n b.written c.written (Rose b.write_faults c.write_faults) o → Goes (end_after o last)
-  by_outcome r g outcome.Whole true e le h = (s.exchanges ++ h.1 ∷ [], asked_all r g h.0 h.1 e h.2 h.3)
-  by_outcome r g outcome.Whole false e le h = more_so_far r g h.0 h.1 e h.2 h.3
-  by_outcome r g outcome.Cut last e le h =
-      (s.exchanges ++ h.1 ∷ [], (cut_last r g h.0 h.1 h.2 h.3, rose_earlier a.write_faults b.write_faults c.write_faults le h.4))
-  by_outcome r g outcome.BackendCut last e le h = (s.exchanges ++ h.1 ∷ [], broken_last r g relayed.BackendCut h.0 h.1 h.2 h.3)
-  by_outcome r g outcome.StreamSpent last e le h = (s.exchanges ++ h.1 ∷ [], broken_last r g relayed.StreamSpent h.0 h.1 h.2 h.3)
-  by_outcome r g outcome.NoMemory last e le h = halts_next r g le h
+  by_outcome : (r : Request) (g : GotRequest b.left c.left x y r) (o : Outcome) → a.write_faults ≤ b.write_faults
+      → Outcomes set peer r k n b.written c.written (Rose b.write_faults c.write_faults) b.wishes c.wishes o → Goes (end_after o)
+  by_outcome r g outcome.Last le h = (s.exchanges ++ h.1 ∷ [], asked_all r g h.0 h.1 h.5 h.2 h.3 h.4)
+  by_outcome r g outcome.Whole le h = more_so_far r g h.0 h.1 h.5 h.2 h.3 h.4
+  by_outcome r g outcome.Cut le h =
+      (s.exchanges ++ h.1 ∷ [], (cut_last r g h.0 h.1 h.2 h.3 h.5, rose_earlier a.write_faults b.write_faults c.write_faults le h.4))
+  by_outcome r g outcome.BackendCut le h = (s.exchanges ++ h.1 ∷ [], broken_last r g relayed.BackendCut h.0 h.1 h.2 h.3 h.4)
+  by_outcome r g outcome.StreamSpent le h = (s.exchanges ++ h.1 ∷ [], broken_last r g relayed.StreamSpent h.0 h.1 h.2 h.3 h.4)
+  by_outcome r g outcome.NoMemory le h = halts_next r g le h
 
   by_one : (r : Request) (g : GotRequest b.left c.left x y r) (own : Option ConnEnd) → a.write_faults ≤ b.write_faults
-      → ServesOne set peer r k n b.written c.written (Rose b.write_faults c.write_faults) own → Goes own
-  by_one r g own le (inl h) = subst Goes (sym h.end_is) (by_outcome r g h.outcome (asks r) refl le h.served)
-  by_one r g own le (inr h) = subst Goes (sym h.end_is) (s.exchanges, most r g h.all h.same h.written)
+      → ServesOne set peer r k n b.written c.written (Rose b.write_faults c.write_faults) b.wishes c.wishes own → Goes own
+  by_one r g own le (inl h) = subst Goes (sym h.end_is) (by_outcome r g h.outcome le h.served)
+  by_one r g own le (inr h) = subst Goes (sym h.end_is) (s.exchanges, most r g h.all h.same h.written h.wishes)
 
   goes_on : (own : Option ConnEnd) → a.read_faults ≤ b.read_faults → a.write_faults ≤ b.write_faults → ServesNext set peer k n x y b c own → Goes own
   goes_on own lr lw (inl h) = by_one h.request h.got own lw h.serves
-  goes_on own lr lw (inr h) = subst Goes (sym h.end_is) (by_stop h.same h.stop lr lw h.none h.refuses)
+  goes_on own lr lw (inr h) = subst Goes (sym h.end_is) (by_stop h.same h.wishes h.stop lr lw h.none h.refuses)
 
   pub goes : (own : Option ConnEnd) (from : List ℕ) → from ≡ peer → a.read_faults ≤ b.read_faults → a.write_faults ≤ b.write_faults
       → ServesNext set from k n x y b c own → Goes own
@@ -424,18 +498,18 @@ pub smaller : (set : Settings) (peer : List ℕ) (k n : BayState) (x y : List �
 smaller set peer k n x y b c own e (inr h) = absurd (cc (e, h.end_is))
 smaller set peer k n x y b c own e (inl h) = by h.serves
   where
-    by_outcome : (o : Outcome) (last : Bool) → None ≡ end_after o last
-        → Outcomes set peer h.request k n b.written c.written (Rose b.write_faults c.write_faults) o → n.number ≡ k.number + 1
-    by_outcome outcome.Whole true e q = absurd (cc e)
-    by_outcome outcome.Whole false e q = q.2.number_is
-    by_outcome outcome.Cut last e q = absurd (cc e)
-    by_outcome outcome.BackendCut last e q = absurd (cc e)
-    by_outcome outcome.StreamSpent last e q = absurd (cc e)
-    by_outcome outcome.NoMemory last e q = absurd (cc e)
+    by_outcome : (o : Outcome) → None ≡ end_after o
+        → Outcomes set peer h.request k n b.written c.written (Rose b.write_faults c.write_faults) b.wishes c.wishes o → n.number ≡ k.number + 1
+    by_outcome outcome.Last e q = absurd (cc e)
+    by_outcome outcome.Whole e q = q.2.number_is
+    by_outcome outcome.Cut e q = absurd (cc e)
+    by_outcome outcome.BackendCut e q = absurd (cc e)
+    by_outcome outcome.StreamSpent e q = absurd (cc e)
+    by_outcome outcome.NoMemory e q = absurd (cc e)
 
-    by : ServesOne set peer h.request k n b.written c.written (Rose b.write_faults c.write_faults) own
+    by : ServesOne set peer h.request k n b.written c.written (Rose b.write_faults c.write_faults) b.wishes c.wishes own
         → (k.number < MOST_REQUESTS) × (n.number ≡ k.number + 1)
-    by (inl q) = (q.few, by_outcome q.outcome (asks h.request) (sym e ∙ q.end_is) q.served)
+    by (inl q) = (q.few, by_outcome q.outcome (sym e ∙ q.end_is) q.served)
     by (inr q) = absurd (cc (e, q.end_is))
 
 -- ---- one object that is read and written
@@ -449,33 +523,42 @@ faults_kept a b e = ap (λ (s : Side). s.faults) e
 pub mark_kept : (a b : Side) → a ≡ b → a.mark ≡ b.mark
 mark_kept a b e = ap (λ (s : Side). s.mark) e
 
+pub wishes_kept : (a b : Side) → a ≡ b → a.wishes ≡ b.wishes
+wishes_kept a b e = ap (λ (s : Side). s.wishes) e
+
 -- what was read first, and then written
 module _ (set : Settings) (peer : List ℕ) (m n : BayState) (x y : List ℕ) (left0 left1 left2 written0 written1 written2 : Option (List ℕ))
-    (read0 read1 read2 write0 write1 write2 : ℕ) (own : Option ConnEnd)
-    (left_is : left2 ≡ left1) (written_is : written1 ≡ written0) (read_is : read2 ≡ read1) (write_is : write1 ≡ write0) where
-  pub next_read : (from : List ℕ) (r : Request) → from ≡ peer → GotRequest left0 left1 x y r → ServesOne set from r m n written1 written2 (Rose write1 write2) own
-      → ServesNext set peer m n x y (record { left = left0; written = written0; read_faults = read0; write_faults = write0 })
-      (record { left = left2; written = written2; read_faults = read2; write_faults = write2 }) own
+    (read0 read1 read2 write0 write1 write2 : ℕ) (wishes0 wishes1 wishes2 : Option (List Bool)) (own : Option ConnEnd)
+    (left_is : left2 ≡ left1) (written_is : written1 ≡ written0) (read_is : read2 ≡ read1) (write_is : write1 ≡ write0)
+    (wishes_are : wishes1 ≡ wishes0) where
+  abbrev pub told_before : ConnState
+  told_before = record { left = left0; written = written0; read_faults = read0; write_faults = write0; wishes = wishes0 }
+
+  abbrev pub told_after : ConnState
+  told_after = record { left = left2; written = written2; read_faults = read2; write_faults = write2; wishes = wishes2 }
+
+  pub next_read : (from : List ℕ) (r : Request) → from ≡ peer → GotRequest left0 left1 x y r
+      → ServesOne set from r m n written1 written2 (Rose write1 write2) wishes1 wishes2 own → ServesNext set peer m n x y told_before told_after own
   next_read from r e g h =
       inl (record {
         request = r;
         got = subst (λ (l : Option (List ℕ)). GotRequest left0 l x y r) (sym left_is) g;
-        serves = subst (λ (f : ℕ). ServesOne set peer r m n written0 written2 (Rose f write2) own) write_is
-            (subst (λ (o : Option (List ℕ)). ServesOne set peer r m n o written2 (Rose write1 write2) own) written_is
-            (subst (λ (p : List ℕ). ServesOne set p r m n written1 written2 (Rose write1 write2) own) e h));
+        serves = subst (λ (v : Option (List Bool)). ServesOne set peer r m n written0 written2 (Rose write0 write2) v wishes2 own) wishes_are
+            (subst (λ (f : ℕ). ServesOne set peer r m n written0 written2 (Rose f write2) wishes1 wishes2 own) write_is
+            (subst (λ (o : Option (List ℕ)). ServesOne set peer r m n o written2 (Rose write1 write2) wishes1 wishes2 own) written_is
+            (subst (λ (p : List ℕ). ServesOne set p r m n written1 written2 (Rose write1 write2) wishes1 wishes2 own) e h)));
       })
 
-  pub next_none : (t : Stop) → NoRequest left0 left1 x (Rose read0 read1) t → RefusesAt t written1 written2 (Rose write1 write2) → n ≡ m
-      → own ≡ Some (end_of_stop t)
-      → ServesNext set peer m n x y (record { left = left0; written = written0; read_faults = read0; write_faults = write0 })
-      (record { left = left2; written = written2; read_faults = read2; write_faults = write2 }) own
-  next_none t g h same end =
+  pub next_none : (t : Stop) → NoRequest left0 left1 x (Rose read0 read1) t → RefusesAt t written1 written2 (Rose write1 write2)
+      → wishes2 ≡ wishes1 → n ≡ m → own ≡ Some (end_of_stop t) → ServesNext set peer m n x y told_before told_after own
+  next_none t g h quiet same end =
       inr (record {
         stop = t;
         none = subst (λ (l : Option (List ℕ)). NoRequest left0 l x (Rose read0 read2) t) (sym left_is)
             (subst (λ (f : ℕ). NoRequest left0 left1 x (Rose read0 f) t) (sym read_is) g);
         refuses = subst (λ (f : ℕ). RefusesAt t written0 written2 (Rose f write2)) write_is
             (subst (λ (o : Option (List ℕ)). RefusesAt t o written2 (Rose write1 write2)) written_is h);
+        wishes = quiet ∙ wishes_are;
         same = same;
         end_is = end;
       })

@@ -1,6 +1,6 @@
 -- An exchange that is noted.
 use Rattle.std.proofs.Common.{◌≡◌, ◌≤◌, ◌+◌, ◌⊎◌, ℕ, Bool, true, false, if◌then◌else◌, List, [], ◌∷◌, ◌++◌, Option, refl, sym, ap, subst, ◌∙◌, arith, append_assoc, append-nil, inl, inr}
-use Rattle.std.specs.Prelude.{Result, Ok, Err, OnErr, IfOk}
+use Rattle.std.specs.Prelude.{Result, Ok, Err, OnErr, OnOk, IfOk}
 use Rattle.apiservice_rows.specs.Row.{Row}
 use Rattle.apiservice_table.specs.declared.change.Change.{Change}
 use Rattle.audit_core.specs.Answer as answer
@@ -29,10 +29,12 @@ use Rattle.front_base.specs.declared.memory.NoMemory.{NoMemory}
 use Rattle.front_base.specs.declared.stage.Stage.TheVariants.{RequestReceived, ResponseComplete}
 use Rattle.front_ports.specs.Cause.{Rose}
 use Rattle.front_ports.specs.Told.{Grows, Adds}
+use Rattle.front_ports.specs.Wishes.{GivesWish}
 use Rattle.http_edge.specs.declared.request.Request.{Request}
 use Rattle.http_head.specs.declared.reply.ReplyHead.{ReplyHead}
 use Rattle.policy_rules.specs.declared.decision.Decision.{Decision}
 use Rattle.session_core.specs.Bays.{BayState, Recording, next_id}
+use Rattle.session_core.specs.Closing.{MayWish, closes, tag_by}
 use Rattle.session_core.specs.Exchange.{ExchangedTo, AnsweredBy, Halted, IsTimed, IsTimedSoFar, arrival_due, answered_of, errand_after, is_long, moments_by, unrouted}
 use Rattle.session_core.specs.Parts.{AnsweredTo, AnswerHalts, AnswerHaltsAt, Handled, HandleHalts, HaltsAtEnd, HaltsBeforeEnd, IsStartedBy, IsTimedBy, Outcomes, SendHalts, StageOffered, end_due, known_facts, later_moments, object_show, outcome_of, ReplyHaltsAt, sending, start_due}
 use Rattle.session_core.specs.Steps.{Arrived, WorkState, exchange_of, first_facts, first_work, linked, stamp_at, with_start}
@@ -246,10 +248,16 @@ module _ (join : Join) (hides : HidesLater) (stages : Stages) (both : DueOfBoth)
 
     -- the facts in the end
     abbrev pub final : Came → Kept → ℕ → ℕ → Facts
-    final came reply started complete = known_facts reply started complete (linked routed.handling (link_of came) w).facts
+    final came reply started complete = known_facts reply started complete (linked routed.handling (link_of came) false w).facts
 
-    abbrev pub noted_as : Came → Facts → WorkState
-    noted_as came facts = record { decision = decision_in set r; facts = facts; link = link_of came; notes = v.notes }
+    abbrev pub noted_as : Came → Bool → Facts → WorkState
+    noted_as came wished facts = record {
+      decision = decision_in set r;
+      facts = facts;
+      link = link_of came;
+      notes = v.notes;
+      wished = wished;
+    }
 
     offered_all : (came : Came) (facts : Facts) (status started complete : ℕ) (reply : Kept) (due : List Due)
         → facts ≡ filled status w.facts.request reply started complete w.facts → Noted due l1 a.notes b.lanes v.notes
@@ -260,9 +268,10 @@ module _ (join : Join) (hides : HidesLater) (stages : Stages) (both : DueOfBoth)
 
     exchanged : (end : Relayed) → AnsweredTo set r routed.handling m.dial dial first (offered a.notes) b v w0 w1 rose end
         → (text : List ℕ) × (x : Exchange) × ExchangedTo set peer r m text (bay dial b) end x × WritesTo w0 w1 text rose end
+        × (x.wished ≡ v.wished)
     exchanged end s =
         let facts = final s.came s.kept s.started s.complete in
-        let x : Exchange = exchange_of r routed (noted_as s.came facts) in
+        let x : Exchange = exchange_of r routed (noted_as s.came s.wished facts) in
         let stamp : Stamp = record { id = next_id m; peer = peer; received = last; started = s.started; complete = s.complete } in (
           s.text,
           x,
@@ -287,12 +296,13 @@ module _ (join : Join) (hides : HidesLater) (stages : Stages) (both : DueOfBoth)
             opening_is = op_is;
           },
           s.writes,
+          sym (ap (λ (t : WorkState). t.wished) s.work_is),
         )
 
     -- ---- memory ran out after it was handled
 
     sending_halted : SendHalts r routed.handling m.dial dial first (offered a.notes) b v w0 w1
-        → (x : Exchange) × Halted set peer r m (bay dial b) w0 w1 rose x
+        → (x : Exchange) × Halted set peer r m (bay dial b) w0 w1 rose x × (x.wished ≡ v.wished)
     sending_halted s =
         let notes : v.notes ≡ a.notes = ap (λ (t : WorkState). t.notes) s.work_is in
         let lanes : b.lanes ≡ l1 = ap (λ (t : Recording). t.lanes) s.same in
@@ -314,6 +324,7 @@ module _ (join : Join) (hides : HidesLater) (stages : Stages) (both : DueOfBoth)
                 status_is = refl;
                 reply_is = refl;
                 link_is = refl;
+                wished_is = refl;
                 timed = timed_arrival m (next_id m) peer last given grows le l1 b (bay dial b) (ap (λ (t : Recording). t.given) s.same) (ap (λ (t : Recording). t.last) s.same);
                 written = s.written;
               };
@@ -325,21 +336,22 @@ module _ (join : Join) (hides : HidesLater) (stages : Stages) (both : DueOfBoth)
             boot_is = refl;
             opening_is = op_is;
           },
+          sym (ap (λ (t : WorkState). t.wished) s.work_is),
         )
 
-    module _ (came : Came) (comes : Comes (is_head r) (is_long r) (sending r routed.handling w) m.dial dial came)
+    module _ (came : Came) (wished : Bool) (comes : Comes (is_head r) (is_long r) (sending r routed.handling w) m.dial dial came)
         (refuses : has_refused set v.notes ≡ has_refused set a.notes) where
       abbrev pub faulty : Type 0
       faulty = Rose m.dial.link_faults dial.link_faults
 
       abbrev pub linked_work : WorkState
-      linked_work = linked routed.handling (link_of came) (offered a.notes)
+      linked_work = linked routed.handling (link_of came) wished (offered a.notes)
 
       before_end : HaltsBeforeEnd set r routed.handling came faulty first linked_work b v w0 w1
-          → (x : Exchange) × Halted set peer r m (bay dial b) w0 w1 rose x
+          → (x : Exchange) × Halted set peer r m (bay dial b) w0 w1 rose x × (x.wished ≡ v.wished)
       before_end s =
           let facts = with_start s.started linked_work.facts in
-          let x : Exchange = exchange_of r routed (noted_as came facts) in
+          let x : Exchange = exchange_of r routed (noted_as came wished facts) in
           let stamp : Stamp = record { id = next_id m; peer = peer; received = last; started = s.started; complete = last } in
           let all = by s facts refl s.written in (
             x,
@@ -367,16 +379,17 @@ module _ (join : Join) (hides : HidesLater) (stages : Stages) (both : DueOfBoth)
               boot_is = refl;
               opening_is = op_is;
             },
+            sym (ap (λ (t : WorkState). t.wished) s.work_is),
           )
         where
           -- what was not offered
           by : (s : HaltsBeforeEnd set r routed.handling came faulty first linked_work b v w0 w1) (facts : Facts)
               → facts ≡ with_start s.started linked_work.facts
-              → ((s.due ≡ []) × (w1 ≡ w0)) ⊎ ((s.due ≡ start_due set w.decision (with_start s.started linked_work.facts)) × WritesPart r (next_id m) routed.handling faulty came w0 w1)
+              → ((s.due ≡ []) × (w1 ≡ w0)) ⊎ ((s.due ≡ start_due set w.decision (with_start s.started linked_work.facts)) × WritesPart r (tag_by r (next_id m) wished) routed.handling faulty came w0 w1)
               → (rest : List Due) × (start_due set w.decision facts ++ end_due set w.decision facts ≡ s.due ++ rest)
               × (((offers_due set (stage_events w.decision facts RequestReceived) ++ s.due ≡ offers_due set (stage_events w.decision facts RequestReceived)) × (w1 ≡ w0))
               ⊎ ((offers_due set (stage_events w.decision facts RequestReceived) ++ s.due ≡ offers_due set (stage_events w.decision facts RequestReceived) ++ start_due set w.decision facts)
-              × WritesPart r (next_id m) routed.handling faulty came w0 w1))
+              × WritesPart r (tag_by r (next_id m) wished) routed.handling faulty came w0 w1))
           by s facts is (inl q) = (
             start_due set w.decision facts ++ end_due set w.decision facts,
             ap (λ l. l ++ (start_due set w.decision facts ++ end_due set w.decision facts)) (sym q.0),
@@ -390,10 +403,10 @@ module _ (join : Join) (hides : HidesLater) (stages : Stages) (both : DueOfBoth)
               )
 
       at_end : HaltsAtEnd set r routed.handling came faulty first linked_work b v w0 w1 rose
-          → (x : Exchange) × Halted set peer r m (bay dial b) w0 w1 rose x
+          → (x : Exchange) × Halted set peer r m (bay dial b) w0 w1 rose x × (x.wished ≡ v.wished)
       at_end s =
           let facts = final came s.kept s.started s.complete in
-          let x : Exchange = exchange_of r routed (noted_as came facts) in
+          let x : Exchange = exchange_of r routed (noted_as came wished facts) in
           let stamp : Stamp = record { id = next_id m; peer = peer; received = last; started = s.started; complete = s.complete } in
           let starts = start_due set w.decision facts in (
             x,
@@ -425,26 +438,29 @@ module _ (join : Join) (hides : HidesLater) (stages : Stages) (both : DueOfBoth)
               boot_is = refl;
               opening_is = op_is;
             },
+            sym (ap (λ (t : WorkState). t.wished) s.work_is),
           )
 
     answer_halted : AnswerHalts set r routed.handling m.dial dial first (offered a.notes) b v w0 w1 rose
-        → (x : Exchange) × Halted set peer r m (bay dial b) w0 w1 rose x
+        → (x : Exchange) × Halted set peer r m (bay dial b) w0 w1 rose x × (x.wished ≡ v.wished)
     answer_halted (inl s) = sending_halted s
     answer_halted (inr s) = by s s.halts
       where
         by : (s : AnswerHaltsAt set r routed.handling m.dial dial first (offered a.notes) b v w0 w1 rose)
-            → ReplyHaltsAt set r routed.handling s.came (Rose m.dial.link_faults dial.link_faults) first (linked routed.handling (link_of s.came) (offered a.notes)) b v w0 w1 rose
-            → (x : Exchange) × Halted set peer r m (bay dial b) w0 w1 rose x
-        by s (e, inl q) = before_end s.came s.comes e q
-        by s (e, inr q) = at_end s.came s.comes e q
+            → ReplyHaltsAt set r routed.handling s.came (Rose m.dial.link_faults dial.link_faults) first (linked routed.handling (link_of s.came) s.wished (offered a.notes)) b v w0 w1 rose
+            → (x : Exchange) × Halted set peer r m (bay dial b) w0 w1 rose x × (x.wished ≡ v.wished)
+        by s (e, inl q) = before_end s.came s.wished s.comes e q
+        by s (e, inr q) = at_end s.came s.wished s.comes e q
 
   -- ---- memory ran out before it was handled
 
   undecided : (v : WorkState) (w0 : Option (List ℕ)) (rose : Type 0) → HandleHalts set m.seen m.own m.lanes w seen own l1 v
-      → Adds m.notes nn (exchange_of r unrouted v ∷ []) → (x : Exchange) × Halted set peer r m (bay m.dial first) w0 w0 rose x
+      → Adds m.notes nn (exchange_of r unrouted v ∷ [])
+      → (x : Exchange) × Halted set peer r m (bay m.dial first) w0 w0 rose x × (x.wished ≡ false)
   undecided v w0 rose s adds = by s.offered
     where
-      by : ((l1 ≡ m.lanes) × (v ≡ w)) ⊎ StageOffered set RequestReceived m.lanes w l1 v → (x : Exchange) × Halted set peer r m (bay m.dial first) w0 w0 rose x
+      by : ((l1 ≡ m.lanes) × (v ≡ w)) ⊎ StageOffered set RequestReceived m.lanes w l1 v
+          → (x : Exchange) × Halted set peer r m (bay m.dial first) w0 w0 rose x × (x.wished ≡ false)
       by (inl q) =
           let x : Exchange = exchange_of r unrouted w in (
             x,
@@ -464,6 +480,7 @@ module _ (join : Join) (hides : HidesLater) (stages : Stages) (both : DueOfBoth)
                   status_is = refl;
                   reply_is = refl;
                   link_is = refl;
+                  wished_is = refl;
                   timed = timed_arrival m (next_id m) peer last given grows le l1 first (bay m.dial first) refl refl;
                   written = refl;
                 };
@@ -474,6 +491,7 @@ module _ (join : Join) (hides : HidesLater) (stages : Stages) (both : DueOfBoth)
               boot_is = refl;
               opening_is = op_is;
             },
+            refl,
           )
       by (inr q) =
           let x : Exchange = exchange_of r unrouted (offered v.notes) in (
@@ -494,6 +512,7 @@ module _ (join : Join) (hides : HidesLater) (stages : Stages) (both : DueOfBoth)
                   status_is = refl;
                   reply_is = refl;
                   link_is = refl;
+                  wished_is = refl;
                   timed = timed_arrival m (next_id m) peer last given grows le l1 first (bay m.dial first) refl refl;
                   written = refl;
                 };
@@ -504,30 +523,47 @@ module _ (join : Join) (hides : HidesLater) (stages : Stages) (both : DueOfBoth)
               boot_is = refl;
               opening_is = op_is;
             },
+            refl,
           )
 
   -- ---- as results tell them
 
-  abbrev pub Ends : DialState → Recording → Option (List ℕ) → Option (List ℕ) → Type 0 → Result Relayed NoMemory → Type 0
-  Ends dial b w0 w1 rose res = Outcomes set peer r m (bay dial b) w0 w1 rose (outcome_of res)
+  abbrev pub Ends : DialState → Recording → Option (List ℕ) → Option (List ℕ) → Type 0 → Option (List Bool) → Option (List Bool)
+      → Result Relayed NoMemory → Bool → Type 0
+  Ends dial b w0 w1 rose v0 v1 res closing = Outcomes set peer r m (bay dial b) w0 w1 rose v0 v1 (outcome_of res closing)
 
-  whole : (routed : Routed) (a v : WorkState) (dial : DialState) (b : Recording) (w0 w1 : Option (List ℕ)) (rose : Type 0) (end : Relayed)
-      → (text : List ℕ) × (x : Exchange) × ExchangedTo set peer r m text (bay dial b) end x × WritesTo w0 w1 text rose end
-      → Ends dial b w0 w1 rose (Ok end)
-  whole routed a v dial b w0 w1 rose relayed.Done e = (e.0, e.1, e.2, e.3)
-  whole routed a v dial b w0 w1 rose relayed.WriteFault e = (e.0, e.1, e.2, e.3.0, e.3.1)
-  whole routed a v dial b w0 w1 rose relayed.BackendCut e = (e.0, e.1, e.2, e.3)
-  whole routed a v dial b w0 w1 rose relayed.StreamSpent e = (e.0, e.1, e.2, e.3)
+  module _ (dial : DialState) (b : Recording) (w0 w1 : Option (List ℕ)) (rose : Type 0) (v0 v1 : Option (List Bool)) (wished : Bool) where
+    -- what is known of what was wished is known of the exchange
+    wish_of : (x : Exchange) → x.wished ≡ wished → GivesWish v0 v1 wished → GivesWish v0 v1 x.wished
+    wish_of x e g = subst (GivesWish v0 v1) (sym e) g
+
+    whole : (end : Relayed) (closing : Bool) → closing ≡ closes r wished → GivesWish v0 v1 wished
+        → (text : List ℕ) × (x : Exchange) × ExchangedTo set peer r m text (bay dial b) end x × WritesTo w0 w1 text rose end × (x.wished ≡ wished)
+        → Ends dial b w0 w1 rose v0 v1 (Ok end) closing
+    whole relayed.Done true is g e = (e.0, e.1, e.2, e.3, wish_of e.1 e.4 g, ap (closes r) e.4 ∙ sym is)
+    whole relayed.Done false is g e = (e.0, e.1, e.2, e.3, wish_of e.1 e.4 g, ap (closes r) e.4 ∙ sym is)
+    whole relayed.WriteFault closing is g e = (e.0, e.1, e.2, e.3.0, e.3.1, wish_of e.1 e.4 g)
+    whole relayed.BackendCut closing is g e = (e.0, e.1, e.2, e.3, wish_of e.1 e.4 g)
+    whole relayed.StreamSpent closing is g e = (e.0, e.1, e.2, e.3, wish_of e.1 e.4 g)
+
+    part : (closing before : Bool) (e : NoMemory) → before ≡ false → MayWish v0 v1 before wished
+        → (x : Exchange) × Halted set peer r m (bay dial b) w0 w1 rose x × (x.wished ≡ wished)
+        → Ends dial b w0 w1 rose v0 v1 (Err e) closing
+    part closing before e none may h =
+        inr (h.0, h.1, subst (MayWish v0 v1 false) (sym h.2) (subst (λ (o : Bool). MayWish v0 v1 o wished) none may))
 
   pub outcomes : (routed : Routed) (a v : WorkState) (h : Handles a routed) (dial : DialState) (b : Recording) (w0 w1 : Option (List ℕ)) (rose : Type 0)
-      → Adds m.notes nn (exchange_of r routed v ∷ []) → (res : Result Relayed NoMemory)
+      (v0 v1 : Option (List Bool)) → Adds m.notes nn (exchange_of r routed v ∷ []) → (res : Result Relayed NoMemory) (closing : Bool)
+      → closing ≡ closes r v.wished
       → IfOk res (AnsweredTo set r routed.handling m.dial dial first a b v w0 w1 rose)
-      → OnErr res (AnswerHalts set r routed.handling m.dial dial first a b v w0 w1 rose) → Ends dial b w0 w1 rose res
-  outcomes routed a v h dial b w0 w1 rose adds (Ok end) s f =
-      whole routed a v dial b w0 w1 rose end (exchanged routed a v h dial b w0 w1 rose adds end
+      → OnErr res (AnswerHalts set r routed.handling m.dial dial first a b v w0 w1 rose)
+      → OnOk res (GivesWish v0 v1 v.wished) → OnErr res (MayWish v0 v1 a.wished v.wished) → Ends dial b w0 w1 rose v0 v1 res closing
+  outcomes routed a v h dial b w0 w1 rose v0 v1 adds (Ok end) closing is s f g may =
+      whole dial b w0 w1 rose v0 v1 v.wished end closing is g (exchanged routed a v h dial b w0 w1 rose adds end
       (subst (λ (t : WorkState). AnsweredTo set r routed.handling m.dial dial first t b v w0 w1 rose end) h.offered.work_is s))
-  outcomes routed a v h dial b w0 w1 rose adds (Err e) s f =
-      inr (answer_halted routed a v h dial b w0 w1 rose adds
+  outcomes routed a v h dial b w0 w1 rose v0 v1 adds (Err e) closing is s f g may =
+      part dial b w0 w1 rose v0 v1 v.wished closing a.wished e (ap (λ (t : WorkState). t.wished) h.offered.work_is) may
+      (answer_halted routed a v h dial b w0 w1 rose adds
       (subst (λ (t : WorkState). AnswerHalts set r routed.handling m.dial dial first t b v w0 w1 rose) h.offered.work_is f))
 
 -- ---- by what was judged
@@ -563,27 +599,33 @@ module _ (join : Join) (hides : HidesLater) (stages : Stages) (both : DueOfBoth)
       (subst (λ (t : WorkState). P begun.errand t) begins_is h)
 
   pub answered_outcomes : (routed : Routed) (a v : WorkState) → Handled set begun.errand k.opening k.seen k.own k.lanes begins seen own l1 a routed
-      → (dial : DialState) (b : Recording) (w0 w1 : Option (List ℕ)) (rose : Type 0) → Adds k.notes nn (exchange_of r routed v ∷ [])
-      → (res : Result Relayed NoMemory) (ended : Outcome) → ended ≡ outcome_of res
+      → (dial : DialState) (b : Recording) (w0 w1 : Option (List ℕ)) (rose : Type 0) (v0 v1 : Option (List Bool))
+      → Adds k.notes nn (exchange_of r routed v ∷ [])
+      → (res : Result Relayed NoMemory) (closing : Bool) (ended : Outcome) → ended ≡ outcome_of res closing → closing ≡ closes r v.wished
       → IfOk res (AnsweredTo set r routed.handling k.dial dial reads a b v w0 w1 rose)
       → OnErr res (AnswerHalts set r routed.handling k.dial dial reads a b v w0 w1 rose)
-      → Outcomes set peer r m (after k dial b) w0 w1 rose ended
-  answered_outcomes routed a v h dial b w0 w1 rose adds res ended is s f =
-      subst (λ (o : Outcome). Outcomes set peer r m (after k dial b) w0 w1 rose o) (sym is)
+      → OnOk res (GivesWish v0 v1 v.wished) → OnErr res (MayWish v0 v1 a.wished v.wished)
+      → Outcomes set peer r m (after k dial b) w0 w1 rose v0 v1 ended
+  answered_outcomes routed a v h dial b w0 w1 rose v0 v1 adds res closing ended is closing_is s f g may =
+      subst (λ (o : Outcome). Outcomes set peer r m (after k dial b) w0 w1 rose v0 v1 o) (sym is)
       (subst (λ (q : BayState). Handled set (errand_in set r) q.opening q.seen q.own q.lanes judged seen own l1 a routed → Adds q.notes nn (exchange_of r routed v ∷ [])
       → op ≡ q.opening → IfOk res (AnsweredTo set r routed.handling q.dial dial reads a b v w0 w1 rose)
-      → OnErr res (AnswerHalts set r routed.handling q.dial dial reads a b v w0 w1 rose) → Outcomes set peer r m (after q dial b) w0 w1 rose (outcome_of res))
+      → OnErr res (AnswerHalts set r routed.handling q.dial dial reads a b v w0 w1 rose)
+      → Outcomes set peer r m (after q dial b) w0 w1 rose v0 v1 (outcome_of res closing))
       (sym arrived.bay_is)
       (λ h adds o s f. outcomes join hides stages both set peer r m k.last k.given arrived.is_begun.kept arrived.is_begun.kept_is arrived.given arrived.later
-      op seen own l1 nn o routed a v h dial b w0 w1 rose adds res s f)
+      op seen own l1 nn o routed a v h dial b w0 w1 rose v0 v1 adds res closing closing_is s f g may)
       (judged_by (λ e t. Handled set e k.opening k.seen k.own k.lanes t seen own l1 a routed) h) adds op_is s f)
 
-  pub undecided_outcome : (v : WorkState) (w0 : Option (List ℕ)) (rose : Type 0) → HandleHalts set k.seen k.own k.lanes begins seen own l1 v
-      → Adds k.notes nn (exchange_of r unrouted v ∷ []) → Outcomes set peer r m (after k k.dial reads) w0 w0 rose outcome.NoMemory
-  undecided_outcome v w0 rose h adds =
+  pub undecided_outcome : (v : WorkState) (w0 : Option (List ℕ)) (rose : Type 0) (v0 : Option (List Bool))
+      → HandleHalts set k.seen k.own k.lanes begins seen own l1 v
+      → Adds k.notes nn (exchange_of r unrouted v ∷ []) → Outcomes set peer r m (after k k.dial reads) w0 w0 rose v0 v0 outcome.NoMemory
+  undecided_outcome v w0 rose v0 h adds =
       subst (λ (q : BayState). HandleHalts set q.seen q.own q.lanes judged seen own l1 v → Adds q.notes nn (exchange_of r unrouted v ∷ [])
-      → op ≡ q.opening → Outcomes set peer r m (after q q.dial reads) w0 w0 rose outcome.NoMemory)
+      → op ≡ q.opening → Outcomes set peer r m (after q q.dial reads) w0 w0 rose v0 v0 outcome.NoMemory)
       (sym arrived.bay_is)
-      (λ h adds o. inr (undecided join hides stages both set peer r m k.last k.given arrived.is_begun.kept arrived.is_begun.kept_is arrived.given arrived.later
-      op seen own l1 nn o v w0 rose h adds))
+      (λ h adds o.
+      let all = undecided join hides stages both set peer r m k.last k.given arrived.is_begun.kept arrived.is_begun.kept_is arrived.given arrived.later
+      op seen own l1 nn o v w0 rose h adds in
+      inr (all.0, all.1, inl (refl, all.2)))
       (judged_by (λ e t. HandleHalts set k.seen k.own k.lanes t seen own l1 v) h) adds op_is

@@ -1,5 +1,5 @@
 -- A bay may go on.
-use Rattle.std.proofs.Common.{◌≡◌, ◌≤◌, ◌<◌, ◌+◌, ℕ, List, [], ◌∷◌, ◌++◌, length, Option, refl, sym, ap, subst, arith, append-nil, length-append, inl, inr}
+use Rattle.std.proofs.Common.{◌≡◌, ◌≤◌, ◌<◌, ◌+◌, ℕ, Bool, List, [], ◌∷◌, ◌++◌, length, Option, refl, sym, ap, subst, arith, append-nil, length-append, inl, inr}
 use Rattle.apiservice_rows.specs.Row.{Row}
 use Rattle.apiservice_table.specs.declared.change.Change.{Change}
 use Rattle.audit_core.specs.Offers.{Due, offers_due}
@@ -71,17 +71,19 @@ ready_unbegun set m n w0 w1 h u =
     subst (IsReady set) (sym u.same) (record { max = h.max; lanes = h.lanes; few = h.few; log = h.log; hook = h.hook })
 
 pub ready_by : Stay → FewLog → FewHook → Stages → (set : Settings) (peer : List ℕ) (r : Request) (m n : BayState) (w0 w1 : Option (List ℕ)) (rose : Type 0)
-    (own : Outcome) → IsReady set m → m.number < MOST_REQUESTS → Outcomes set peer r m n w0 w1 rose own → IsReady set n
-ready_by stay log hook stages set peer r m n w0 w1 rose outcome.Whole h few o =
+    (v0 v1 : Option (List Bool)) (own : Outcome) → IsReady set m → m.number < MOST_REQUESTS → Outcomes set peer r m n w0 w1 rose v0 v1 own → IsReady set n
+ready_by stay log hook stages set peer r m n w0 w1 rose v0 v1 outcome.Whole h few o =
     ready_exchanged stay log hook stages set peer r m n o.0 relayed.Done o.1 h few o.2
-ready_by stay log hook stages set peer r m n w0 w1 rose outcome.Cut h few o =
+ready_by stay log hook stages set peer r m n w0 w1 rose v0 v1 outcome.Last h few o =
+    ready_exchanged stay log hook stages set peer r m n o.0 relayed.Done o.1 h few o.2
+ready_by stay log hook stages set peer r m n w0 w1 rose v0 v1 outcome.Cut h few o =
     ready_exchanged stay log hook stages set peer r m n o.0 relayed.WriteFault o.1 h few o.2
-ready_by stay log hook stages set peer r m n w0 w1 rose outcome.BackendCut h few o =
+ready_by stay log hook stages set peer r m n w0 w1 rose v0 v1 outcome.BackendCut h few o =
     ready_exchanged stay log hook stages set peer r m n o.0 relayed.BackendCut o.1 h few o.2
-ready_by stay log hook stages set peer r m n w0 w1 rose outcome.StreamSpent h few o =
+ready_by stay log hook stages set peer r m n w0 w1 rose v0 v1 outcome.StreamSpent h few o =
     ready_exchanged stay log hook stages set peer r m n o.0 relayed.StreamSpent o.1 h few o.2
-ready_by stay log hook stages set peer r m n w0 w1 rose outcome.NoMemory h few (inl u) = ready_unbegun set m n w0 w1 h u
-ready_by stay log hook stages set peer r m n w0 w1 rose outcome.NoMemory h few (inr x) =
+ready_by stay log hook stages set peer r m n w0 w1 rose v0 v1 outcome.NoMemory h few (inl u) = ready_unbegun set m n w0 w1 h u.0
+ready_by stay log hook stages set peer r m n w0 w1 rose v0 v1 outcome.NoMemory h few (inr x) =
     ready_after stay log hook stages set m n x.0.decision x.0.facts x.1.due x.1.rest x.0.offers h few x.1.due_is x.1.offered x.1.number_is
 
 -- before it was judged

@@ -20,7 +20,7 @@ use Rattle.http_edge.specs.declared.request.Request.{Request}
 use Rattle.policy_rules.specs.declared.decision.Decision.{Decision}
 use Rattle.session_core.specs.Bays.{CanOffer, Recording}
 use Rattle.session_core.specs.Parts.{StartedBy, StartIsOffered, StartHalts, CompleteHalts, Started, Completed, Replied, ReplyHalts, IsStartedBy, IsTimedBy, known_facts, object_show, end_due, start_due}
-use Rattle.session_core.specs.Steps.{WorkState, with_end, with_kept, with_object, with_start}
+use Rattle.session_core.specs.Steps.{WorkState, tag_in, with_end, with_kept, with_object, with_start}
 use Rattle.session_core.proofs.ChainLemmas.{grows_join, Join, noted_join, noted_none, RefusesNone, refuses_same}
 use Rattle.stage_event.specs.Begun.{filled}
 use Rattle.stage_event.specs.Events.{event}
@@ -125,10 +125,10 @@ module _ (join : Join) (none : RefusesNone) (hides : HidesEnd) (set : Settings) 
   module _ {K : Type 0} (state : K → LinkState) (r : Request) (handling : Handling) (sent : SentOn K) (d0 d1 : DialState) (m k : Recording)
       (w u : WorkState) (b : Begins (is_long_running w.facts.info) m w k u) (w0 w1 : Option (List ℕ)) (rose : Type 0) where
     -- memory ran out before the reply was complete
-    pub halts_write : RepliedPart state r u.facts.id handling sent d0 d1 w0 w1 → ReplyHalts state set r handling sent d0 d1 m w k u w0 w1 rose
+    pub halts_write : RepliedPart state r (tag_in r u) handling sent d0 d1 w0 w1 → ReplyHalts state set r handling sent d0 d1 m w k u w0 w1 rose
     halts_write t =
-        let part : RepliedPart state r w.facts.id handling sent d0 d1 w0 w1 =
-        subst (λ (s : WorkState). RepliedPart state r s.facts.id handling sent d0 d1 w0 w1) b.work_is t in
+        let part : RepliedPart state r (tag_in r w) handling sent d0 d1 w0 w1 =
+        subst (λ (s : WorkState). RepliedPart state r (tag_in r s) handling sent d0 d1 w0 w1) b.work_is t in
         record {
           came = part.came;
           comes = part.comes;
@@ -147,7 +147,7 @@ module _ (join : Join) (none : RefusesNone) (hides : HidesEnd) (set : Settings) 
         }
 
     module _ (show : Show) (show_is : show ≡ object_show w) (end : Relayed) (kept : Kept)
-        (t : RepliedTo state r u.facts.id handling show sent d0 d1 w0 w1 rose (record { end = end; kept = kept }))
+        (t : RepliedTo state r (tag_in r u) handling show sent d0 d1 w0 w1 rose (record { end = end; kept = kept }))
         (n : Recording) (x v : WorkState) (ex : x ≡ with_object kept u) where
       abbrev pub done : ℕ → Facts
       done complete = known_facts kept b.started complete w.facts
@@ -155,10 +155,10 @@ module _ (join : Join) (none : RefusesNone) (hides : HidesEnd) (set : Settings) 
       x_is : x ≡ record w { facts = with_kept kept (with_start b.started w.facts); notes = u.notes }
       x_is = ex ∙ ap (with_object kept) b.work_is
 
-      to_first : RepliedTo state r w.facts.id handling (object_show w) sent d0 d1 w0 w1 rose (record { end = end; kept = kept })
+      to_first : RepliedTo state r (tag_in r w) handling (object_show w) sent d0 d1 w0 w1 rose (record { end = end; kept = kept })
       to_first =
-          subst (λ (y : Show). RepliedTo state r w.facts.id handling y sent d0 d1 w0 w1 rose (record { end = end; kept = kept })) show_is
-          (subst (λ (s : WorkState). RepliedTo state r s.facts.id handling show sent d0 d1 w0 w1 rose (record { end = end; kept = kept })) b.work_is t)
+          subst (λ (y : Show). RepliedTo state r (tag_in r w) handling y sent d0 d1 w0 w1 rose (record { end = end; kept = kept })) show_is
+          (subst (λ (s : WorkState). RepliedTo state r (tag_in r s) handling show sent d0 d1 w0 w1 rose (record { end = end; kept = kept })) b.work_is t)
 
       pub replied : Completed set k x n v → Replied state set r handling sent d0 d1 m w n v w0 w1 rose end
       replied h =

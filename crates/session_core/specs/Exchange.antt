@@ -27,6 +27,7 @@ use Rattle.front_ports.specs.Cause.{Rose}
 use Rattle.front_ports.specs.Told.{Grows, Adds}
 use Rattle.http_edge.specs.declared.request.Request.{Request}
 use Rattle.session_core.specs.Bays.{BayState, next_id}
+use Rattle.session_core.specs.Closing.{tag_by}
 use Rattle.session_core.specs.declared.exchange.Exchange.{Exchange}
 use Rattle.stage_event.specs.Due.{reply_show}
 use Rattle.stage_event.specs.declared.facts.Kept.TheVariants.{NotAsked}
@@ -105,8 +106,8 @@ pub record ExchangedTo (set : Settings) (peer : List ℕ) (r : Request) (m : Bay
   pub answered : AnsweredBy set stamp r x.handling came end (answered_of x)
   -- each event that it owes was offered to each sink that is on
   pub offered : OffersAll (offers_due set (owed x.decision x.facts)) m.lanes x.offers n.lanes
-  -- the client's bytes
-  pub text_is : Replies r (next_id m) x.handling (Rose m.dial.link_faults n.dial.link_faults) came end text
+  -- the client's bytes, which say that the connection ends where the request asks so or the connection wished it
+  pub text_is : Replies r (tag_by r (next_id m) x.wished) x.handling (Rose m.dial.link_faults n.dial.link_faults) came end text
   -- the diary and the bay's own numbers
   pub noted : Adds m.notes n.notes (x ∷ [])
   pub number_is : n.number ≡ m.number + 1
@@ -160,6 +161,7 @@ pub record HasNoReply (m n : BayState) (w0 w : Option (List ℕ)) (stamp : Stamp
   pub status_is : x.facts.status ≡ 0
   pub reply_is : x.facts.reply ≡ NotAsked
   pub link_is : x.link ≡ note.NotUsed
+  pub wished_is : x.wished ≡ false
   pub timed : IsTimedSoFar false m n stamp
   pub written : w ≡ w0
 
@@ -191,14 +193,14 @@ pub record StopsBeforeEnd (set : Settings) (r : Request) (m n : BayState) (w0 w 
   pub written :
       ((due ≡ arrival_due set x) × (w ≡ w0))
       ⊎ ((due ≡ arrival_due set x ++ start_due set x)
-      × WritesPart r (next_id m) x.handling (Rose m.dial.link_faults n.dial.link_faults) came w0 w)
+      × WritesPart r (tag_by r (next_id m) x.wished) x.handling (Rose m.dial.link_faults n.dial.link_faults) came w0 w)
 
 -- its reply was complete and written by its end, and is known as that of any exchange. The event of its end alone was not offered
 pub record StopsAtEnd (set : Settings) (r : Request) (m n : BayState) (w0 w : Option (List ℕ)) (rose : Type 0) (stamp : Stamp)
     (due : List Due) (came : Came) (x : Exchange) : Type 0 where
   pub end : Relayed
   pub text : List ℕ
-  pub text_is : Replies r (next_id m) x.handling (Rose m.dial.link_faults n.dial.link_faults) came end text
+  pub text_is : Replies r (tag_by r (next_id m) x.wished) x.handling (Rose m.dial.link_faults n.dial.link_faults) came end text
   pub written : WritesTo w0 w text rose end
   pub answered : AnsweredBy set stamp r x.handling came end (answered_of x)
   pub timed : IsTimed (is_long r) m n stamp

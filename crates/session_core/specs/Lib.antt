@@ -1,4 +1,5 @@
 pub mod Bays
+pub mod Closing
 pub mod Connection
 pub mod Diaries
 pub mod Ends

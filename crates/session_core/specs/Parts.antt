@@ -24,12 +24,14 @@ use Rattle.front_base.specs.declared.stage.Stage.{Stage}
 use Rattle.front_base.specs.declared.stage.Stage.TheVariants as stage
 use Rattle.front_ports.specs.Cause.{Rose}
 use Rattle.front_ports.specs.Told.{Grows}
+use Rattle.front_ports.specs.Wishes.{GivesWish}
 use Rattle.front_ports.specs.Written.{AppendsFront}
 use Rattle.http_edge.specs.declared.request.Request.{Request}
 use Rattle.policy_rules.specs.declared.decision.Decision.{Decision}
 use Rattle.session_core.specs.Bays.{BayState, Recording}
+use Rattle.session_core.specs.Closing.{MayWish, closes, tag_by}
 use Rattle.session_core.specs.Exchange.{errand_after, Exchanged, ExchangedTo, Halted, Unbegun}
-use Rattle.session_core.specs.Steps.{WorkState, linked, with_end, with_kept, with_start}
+use Rattle.session_core.specs.Steps.{WorkState, linked, tag_in, with_end, with_kept, with_start}
 use Rattle.session_core.specs.declared.exchange.Exchange.{Exchange}
 use Rattle.session_core.specs.declared.session.Outcome.{Outcome}
 use Rattle.session_core.specs.declared.session.Outcome.TheVariants as outcome
@@ -147,7 +149,7 @@ object_show w = reply_show w.decision.level w.decision.omit_managed w.facts.info
 pub record Replied {K : Type 0} (state : K → LinkState) (set : Settings) (r : Request) (handling : Handling) (sent : SentOn K) (k l : DialState)
     (m : Recording) (w : WorkState) (n : Recording) (v : WorkState) (w0 w1 : Option (List ℕ)) (rose : Type 0) (end : Relayed) : Type 0 where
   pub kept : Kept
-  pub to : RepliedTo state r w.facts.id handling (object_show w) sent k l w0 w1 rose (record { end = end; kept = kept })
+  pub to : RepliedTo state r (tag_in r w) handling (object_show w) sent k l w0 w1 rose (record { end = end; kept = kept })
   pub started : ℕ
   pub complete : ℕ
   pub noted : Noted (start_due set w.decision (known_facts kept started complete w.facts)
@@ -166,7 +168,7 @@ pub record HaltsBeforeEnd (set : Settings) (r : Request) (handling : Handling) (
   pub written :
       ((due ≡ []) × (w1 ≡ w0))
       ⊎ ((due ≡ start_due set w.decision (with_start started w.facts))
-      × WritesPart r w.facts.id handling faulty came w0 w1)
+      × WritesPart r (tag_in r w) handling faulty came w0 w1)
   pub timed : IsStartedBy (is_long_running w.facts.info) m n w.facts.started started
   pub work_is : v ≡ record w { facts = with_start started w.facts; notes = v.notes }
 
@@ -175,7 +177,7 @@ pub record HaltsAtEnd (set : Settings) (r : Request) (handling : Handling) (came
     (n : Recording) (v : WorkState) (w0 w1 : Option (List ℕ)) (rose : Type 0) : Type 0 where
   pub end : Relayed
   pub text : List ℕ
-  pub replies : Replies r w.facts.id handling faulty came end text
+  pub replies : Replies r (tag_in r w) handling faulty came end text
   pub writes : WritesTo w0 w1 text rose end
   pub kept : Kept
   pub kept_is : IsKeptBy r handling (object_show w) came end kept
@@ -205,24 +207,25 @@ pub record ReplyHalts {K : Type 0} (state : K → LinkState) (set : Settings) (r
 abbrev pub sending : Request → Handling → WorkState → Option sent.Sent
 sending r handling w = sent_on r (effective_user w.facts) w.facts.id handling
 
--- it was sent on where it is to be, and the reply was written by that end
+-- it was sent on where it is to be, that was wished, and the reply was written by that end
 pub record AnsweredTo (set : Settings) (r : Request) (handling : Handling) (k l : DialState) (m : Recording) (w : WorkState) (n : Recording)
     (v : WorkState) (w0 w1 : Option (List ℕ)) (rose : Type 0) (end : Relayed) : Type 0 where
   pub came : Came
   pub comes : Comes (is_head r) (is_long_running w.facts.info) (sending r handling w) k l came
   pub text : List ℕ
-  pub replies : Replies r w.facts.id handling (Rose k.link_faults l.link_faults) came end text
+  pub wished : Bool
+  pub replies : Replies r (tag_by r w.facts.id wished) handling (Rose k.link_faults l.link_faults) came end text
   pub writes : WritesTo w0 w1 text rose end
   pub kept : Kept
   pub kept_is : IsKeptBy r handling (object_show w) came end kept
   pub started : ℕ
   pub complete : ℕ
-  pub noted : Noted (start_due set w.decision (known_facts kept started complete (linked handling (link_of came) w).facts)
-      ++ end_due set w.decision (known_facts kept started complete (linked handling (link_of came) w).facts)) m.lanes w.notes n.lanes v.notes
+  pub noted : Noted (start_due set w.decision (known_facts kept started complete (linked handling (link_of came) wished w).facts)
+      ++ end_due set w.decision (known_facts kept started complete (linked handling (link_of came) wished w).facts)) m.lanes w.notes n.lanes v.notes
   pub refuses : has_refused set v.notes ≡ has_refused set w.notes
   pub timed : IsTimedBy (is_long_running w.facts.info) m n w.facts.started started complete
-  pub work_is : v ≡ record (linked handling (link_of came) w) {
-    facts = known_facts kept started complete (linked handling (link_of came) w).facts;
+  pub work_is : v ≡ record (linked handling (link_of came) wished w) {
+    facts = known_facts kept started complete (linked handling (link_of came) wished w).facts;
     notes = v.notes;
   }
 
@@ -239,7 +242,8 @@ pub record AnswerHaltsAt (set : Settings) (r : Request) (handling : Handling) (k
     (v : WorkState) (w0 w1 : Option (List ℕ)) (rose : Type 0) : Type 0 where
   pub came : Came
   pub comes : Comes (is_head r) (is_long_running w.facts.info) (sending r handling w) k l came
-  pub halts : ReplyHaltsAt set r handling came (Rose k.link_faults l.link_faults) m (linked handling (link_of came) w) n v w0 w1 rose
+  pub wished : Bool
+  pub halts : ReplyHaltsAt set r handling came (Rose k.link_faults l.link_faults) m (linked handling (link_of came) wished w) n v w0 w1 rose
 
 abbrev pub AnswerHalts : Settings → Request → Handling → DialState → DialState → Recording → WorkState → Recording → WorkState
     → Option (List ℕ) → Option (List ℕ) → Type 0 → Type 0
@@ -248,22 +252,33 @@ AnswerHalts set r handling k l m w n v w0 w1 rose =
 
 -- ---- how it ends
 
-abbrev pub outcome_of : Result Relayed NoMemory → Outcome
-outcome_of (Ok relayed.Done) = outcome.Whole
-outcome_of (Ok relayed.WriteFault) = outcome.Cut
-outcome_of (Ok relayed.BackendCut) = outcome.BackendCut
-outcome_of (Ok relayed.StreamSpent) = outcome.StreamSpent
-outcome_of (Err fault) = outcome.NoMemory
+-- one that is served whole is the last of its connection, or it goes on
+abbrev pub outcome_of : Result Relayed NoMemory → Bool → Outcome
+outcome_of (Ok relayed.Done) true = outcome.Last
+outcome_of (Ok relayed.Done) false = outcome.Whole
+outcome_of (Ok relayed.WriteFault) closing = outcome.Cut
+outcome_of (Ok relayed.BackendCut) closing = outcome.BackendCut
+outcome_of (Ok relayed.StreamSpent) closing = outcome.StreamSpent
+outcome_of (Err fault) closing = outcome.NoMemory
 
-abbrev pub Outcomes : Settings → List ℕ → Request → BayState → BayState → Option (List ℕ) → Option (List ℕ) → Type 0 → Outcome
-    → Type 0
-Outcomes set peer r m n w0 w1 rose outcome.Whole =
-    (text : List ℕ) × (x : Exchange) × Exchanged set peer r m text n x × Appends w0 w1 text
-Outcomes set peer r m n w0 w1 rose outcome.Cut =
+-- `v0` and `v1` are what the connection will wish, before and after
+abbrev pub Outcomes : Settings → List ℕ → Request → BayState → BayState → Option (List ℕ) → Option (List ℕ) → Type 0
+    → Option (List Bool) → Option (List Bool) → Outcome → Type 0
+Outcomes set peer r m n w0 w1 rose v0 v1 outcome.Whole =
+    (text : List ℕ) × (x : Exchange) × Exchanged set peer r m text n x × Appends w0 w1 text × GivesWish v0 v1 x.wished
+    × (closes r x.wished ≡ false)
+Outcomes set peer r m n w0 w1 rose v0 v1 outcome.Last =
+    (text : List ℕ) × (x : Exchange) × Exchanged set peer r m text n x × Appends w0 w1 text × GivesWish v0 v1 x.wished
+    × (closes r x.wished ≡ true)
+Outcomes set peer r m n w0 w1 rose v0 v1 outcome.Cut =
     (text : List ℕ) × (x : Exchange) × ExchangedTo set peer r m text n relayed.WriteFault x × AppendsFront w0 w1 text × rose
-Outcomes set peer r m n w0 w1 rose outcome.BackendCut =
+    × GivesWish v0 v1 x.wished
+Outcomes set peer r m n w0 w1 rose v0 v1 outcome.BackendCut =
     (text : List ℕ) × (x : Exchange) × ExchangedTo set peer r m text n relayed.BackendCut x × Appends w0 w1 text
-Outcomes set peer r m n w0 w1 rose outcome.StreamSpent =
+    × GivesWish v0 v1 x.wished
+Outcomes set peer r m n w0 w1 rose v0 v1 outcome.StreamSpent =
     (text : List ℕ) × (x : Exchange) × ExchangedTo set peer r m text n relayed.StreamSpent x × Appends w0 w1 text
-Outcomes set peer r m n w0 w1 rose outcome.NoMemory =
-    Unbegun m n w0 w1 ⊎ ((x : Exchange) × Halted set peer r m n w0 w1 rose x)
+    × GivesWish v0 v1 x.wished
+Outcomes set peer r m n w0 w1 rose v0 v1 outcome.NoMemory =
+    (Unbegun m n w0 w1 × (v1 ≡ v0))
+    ⊎ ((x : Exchange) × Halted set peer r m n w0 w1 rose x × MayWish v0 v1 false x.wished)

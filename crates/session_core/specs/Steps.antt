@@ -1,5 +1,5 @@
 -- What is known of a request while it is served.
-use Rattle.std.specs.Prelude.{◌≡◌, ◌≤◌, ℕ, List, [], ◌∷◌}
+use Rattle.std.specs.Prelude.{◌≡◌, ◌≤◌, ℕ, Bool, false, List, [], ◌∷◌}
 use Rattle.audit_core.specs.Answer.{status_of}
 use Rattle.audit_core.specs.Errand.{errand_in, attributes_in}
 use Rattle.audit_core.specs.Exchange.{KeepsRequest, decision_in, facts_by}
@@ -10,10 +10,12 @@ use Rattle.audit_core.specs.declared.routed.Handling.{Handling}
 use Rattle.audit_core.specs.declared.routed.Routed.{Routed}
 use Rattle.audit_core.specs.declared.settings.Settings.{Settings}
 use Rattle.audit_core.specs.declared.stamp.Stamp.{Stamp}
+use Rattle.exchange_replies.specs.declared.reply_tag.ReplyTag.{ReplyTag}
 use Rattle.front_ports.specs.Told.{Grows}
 use Rattle.http_edge.specs.declared.request.Request.{Request}
 use Rattle.policy_rules.specs.declared.decision.Decision.{Decision}
 use Rattle.session_core.specs.Bays.{BayState, next_id}
+use Rattle.session_core.specs.Closing.{tag_by}
 use Rattle.session_core.specs.declared.begun.Begun.{Begun}
 use Rattle.session_core.specs.declared.exchange.Exchange.{Exchange}
 use Rattle.session_core.specs.declared.work.Work.{Work}
@@ -49,19 +51,20 @@ pub record Arrived (set : Settings) (peer : List ℕ) (r : Request) (begun : Beg
 
 -- ---- while it is served
 
--- how it is recorded, what is known of it, what became of its link, and its notes
+-- how it is recorded, what is known of it, what became of its link, its notes, and what the connection wished
 pub record WorkState : Type 0 where
   pub decision : Decision
   pub facts : Facts
   pub link : LinkNote
   pub notes : List OfferNote
+  pub wished : Bool
 
 abbrev pub work_state : Work → WorkState
-work_state w = record { decision = w.decision; facts = w.facts; link = w.link; notes = w.notes.items }
+work_state w = record { decision = w.decision; facts = w.facts; link = w.link; notes = w.notes.items; wished = w.wished }
 
--- nothing was sent on or offered
+-- nothing was sent on, offered or wished
 abbrev pub first_work : Decision → Facts → WorkState
-first_work decision facts = record { decision = decision; facts = facts; link = NotUsed; notes = [] }
+first_work decision facts = record { decision = decision; facts = facts; link = NotUsed; notes = []; wished = false }
 
 -- what is told of one that was handled so
 abbrev pub exchange_of : Request → Routed → WorkState → Exchange
@@ -73,6 +76,7 @@ exchange_of r routed w = record {
   facts = w.facts;
   link = w.link;
   offers = w.notes;
+  wished = w.wished;
 }
 
 -- ---- when its reply is known
@@ -89,9 +93,13 @@ with_start started facts = record facts { started = started }
 abbrev pub with_end : ℕ → Facts → Facts
 with_end complete facts = record facts { complete = complete }
 
--- how the link of one that was handled so is noted, and the status that its reply has then
-abbrev pub linked : Handling → LinkNote → WorkState → WorkState
-linked handling note w = record w { link = note; facts = with_status (status_of handling note) w.facts }
+-- how the link of one that was handled so is noted, the status that its reply has then, and what the connection wished
+abbrev pub linked : Handling → LinkNote → Bool → WorkState → WorkState
+linked handling note wished w = record w { link = note; facts = with_status (status_of handling note) w.facts; wished = wished }
+
+-- what the head of its reply says
+abbrev pub tag_in : Request → WorkState → ReplyTag
+tag_in r w = tag_by r w.facts.id w.wished
 
 -- what is kept of its reply's body
 abbrev pub with_object : Kept → WorkState → WorkState

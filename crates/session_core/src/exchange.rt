@@ -19,4 +19,6 @@ pub struct Exchange {
     pub link: LinkNote,
     /// What became of its events.
     pub offers: Offers,
+    /// Whether the connection wished to end after its reply. It is asked before the reply's head, and wishes nothing before.
+    pub wished: bool,
 }

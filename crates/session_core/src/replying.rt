@@ -6,16 +6,18 @@ ghost use Rattle.exchange_replies.specs.Statuses.{IsFinalHandling};
 ghost use Rattle.exchange_replies.specs.Streams.{Forwards, IsFinalSent, RepliedPart, RepliedTo};
 ghost use Rattle.front_base.specs.Info.{is_long_running};
 ghost use Rattle.front_ports.specs.Cause.{Rose};
+ghost use Rattle.front_ports.specs.Wishes.{GivesWish};
 ghost use Rattle.session_core.specs.Bays.{CanOffer, dial_state, link_state, recording};
+ghost use Rattle.session_core.specs.Closing.{IsAside, MayWish};
 ghost use Rattle.session_core.specs.Parts as spec;
-ghost use Rattle.session_core.specs.Steps.{work_state};
+ghost use Rattle.session_core.specs.Steps.{tag_in, work_state};
 
 use crate::work::Work;
 use audit_core::{Handling, Settings};
 use event_offers::{Lanes, lanes_stay, later_stages_refuse_nothing, offers_join};
 use exchange_replies::{ReplyEnd, SentOn, forward, give_back, reply_to};
 use front_base::{NoMemory, Stage};
-use front_ports::{ByteSink, Clock, Dial};
+use front_ports::{ByteSink, Clock, Conn, Dial};
 use http_edge::Request;
 use stage_event::{Show, reply_show, stages_hide};
 use std::alloc::Global;
@@ -98,11 +100,11 @@ fn write_reply<O: ByteSink, D: Dial, A: Lane, B: Lane>(
     requires started { spec.StartIsOffered settings.now (lanes_state A.Lane B.Lane lanes.now) (work_state work.now) }
     requires handling { IsFinalHandling handling.now }
     requires sent { IsFinalSent sent }
-    ensures ok { IfOk result (RepliedTo (λ link. link_state D.K.Source D.K.ByteSink D.K.Link.own link) request.now work.now.facts.id
-        handling.now show sent (dial_state D.Dial dial.old) (dial_state D.Dial dial.new)
+    ensures ok { IfOk result (RepliedTo (λ link. link_state D.K.Source D.K.ByteSink D.K.Link.own link) request.now
+        (tag_in request.now (work_state work.now)) handling.now show sent (dial_state D.Dial dial.old) (dial_state D.Dial dial.new)
         (O.written out.old) (O.written out.new) (Rose (O.write_faults out.old) (O.write_faults out.new))) }
-    ensures err { OnErr result (RepliedPart (λ link. link_state D.K.Source D.K.ByteSink D.K.Link.own link) request.now work.now.facts.id
-        handling.now sent (dial_state D.Dial dial.old) (dial_state D.Dial dial.new)
+    ensures err { OnErr result (RepliedPart (λ link. link_state D.K.Source D.K.ByteSink D.K.Link.own link) request.now
+        (tag_in request.now (work_state work.now)) handling.now sent (dial_state D.Dial dial.old) (dial_state D.Dial dial.new)
         (O.written out.old) (O.written out.new)) }
     ensures later { O.write_faults out.old ≤ O.write_faults out.new }
     ensures aside { O.inward out.new ≡ O.inward out.old }
@@ -112,7 +114,7 @@ fn write_reply<O: ByteSink, D: Dial, A: Lane, B: Lane>(
         dial,
         out,
         request,
-        work.facts.id,
+        work.tag(request),
         handling,
         sent,
         show,
@@ -172,14 +174,15 @@ fn reply<O: ByteSink, D: Dial, A: Lane, B: Lane, K: Clock>(
     Ok(replied.end)
 }
 
-/// Sends it on where it is to be sent on, and writes its reply between the events of its start and of its end.
-pub fn answer<O: ByteSink, D: Dial, A: Lane, B: Lane, K: Clock>(
+/// Sends it on where it is to be sent on, asks the connection whether it wishes to end, and writes the reply between the
+/// events of its start and of its end.
+pub fn answer<C: Conn, D: Dial, A: Lane, B: Lane, K: Clock>(
     alloc: Global,
     settings: &Settings,
     dial: &mut D,
     lanes: &mut Lanes<A, B>,
     clock: &mut K,
-    out: &mut O,
+    conn: &mut C,
     request: &Request,
     handling: &Handling,
     work: &mut Work,
@@ -190,20 +193,24 @@ pub fn answer<O: ByteSink, D: Dial, A: Lane, B: Lane, K: Clock>(
         (dial_state D.Dial dial.old) (dial_state D.Dial dial.new)
         (recording A.Lane B.Lane K.Clock lanes.old clock.old) (work_state work.old)
         (recording A.Lane B.Lane K.Clock lanes.new clock.new) (work_state work.new)
-        (O.written out.old) (O.written out.new) (Rose (O.write_faults out.old) (O.write_faults out.new))) }
+        (C.written conn.old) (C.written conn.new) (Rose (C.write_faults conn.old) (C.write_faults conn.new))) }
     ensures err { OnErr result (spec.AnswerHalts settings.now request.now handling.now
         (dial_state D.Dial dial.old) (dial_state D.Dial dial.new)
         (recording A.Lane B.Lane K.Clock lanes.old clock.old) (work_state work.old)
         (recording A.Lane B.Lane K.Clock lanes.new clock.new) (work_state work.new)
-        (O.written out.old) (O.written out.new) (Rose (O.write_faults out.old) (O.write_faults out.new))) }
-    ensures later { O.write_faults out.old ≤ O.write_faults out.new }
-    ensures aside { O.inward out.new ≡ O.inward out.old }
+        (C.written conn.old) (C.written conn.new) (Rose (C.write_faults conn.old) (C.write_faults conn.new))) }
+    ensures wish { OnOk result (GivesWish (C.wishes conn.old) (C.wishes conn.new) work.new.wished) }
+    ensures may_wish { OnErr result (MayWish (C.wishes conn.old) (C.wishes conn.new) work.old.wished work.new.wished) }
+    ensures later { C.write_faults conn.old ≤ C.write_faults conn.new }
+    ensures aside { IsAside (C.from conn.old) (C.from conn.new) (C.left conn.old) (C.left conn.new)
+        (C.read_faults conn.old) (C.read_faults conn.new) }
 {
     match send(alloc, dial, request, handling, work) {
         Ok(sent) => {
-            work.set_link(handling, sent.note());
+            let wished = conn.wishes_to_end();
+            work.set_link(handling, sent.note(), wished);
             reply(
-                alloc, settings, dial, lanes, clock, out, request, handling, sent, work,
+                alloc, settings, dial, lanes, clock, conn, request, handling, sent, work,
             )
         }
         Err(NoMemory) => Err(NoMemory),

@@ -4,6 +4,7 @@ ghost use Rattle.exchange_replies.specs.Own.{IsUnread};
 ghost use Rattle.front_base.specs.declared.audit_id.TheConstants.{MOST_REQUESTS};
 ghost use Rattle.front_ports.specs.Cause.{Rose};
 ghost use Rattle.session_core.specs.Bays.{bay_state, IsReady};
+ghost use Rattle.session_core.specs.Closing.{IsAside};
 ghost use Rattle.session_core.specs.Connection.{conn_state};
 ghost use Rattle.session_core.specs.Connection as spec;
 ghost use Rattle.session_core.specs.Ends as ends;
@@ -18,7 +19,7 @@ use audit_core::Settings;
 use exchange_replies::{put_text, refusal_text};
 use front_base::MOST_REQUESTS;
 use front_ports::{ByteSink, Clock, Conn, Dial};
-use http_edge::{Edge, End, Request, Stop, asks, requests_stay};
+use http_edge::{Edge, End, Request, Stop, requests_stay};
 use local_replies::LocalPaths;
 use std::alloc::Global;
 use truncate_backend::Lane;
@@ -67,17 +68,12 @@ fn stopped<O: ByteSink>(out: &mut O, stop: Stop) -> ConnEnd
 }
 
 // How a connection ends after a request that was served so, or that it goes on.
-fn end_after(outcome: Outcome, last: bool) -> Option<ConnEnd>
-    ensures { result ≡ ends.end_after outcome last }
+fn end_after(outcome: Outcome) -> Option<ConnEnd>
+    ensures { result ≡ ends.end_after outcome }
 {
     match outcome {
-        Outcome::Whole => {
-            if last {
-                Some(ConnEnd::Stopped(End::Asked))
-            } else {
-                None
-            }
-        }
+        Outcome::Whole => None,
+        Outcome::Last => Some(ConnEnd::Stopped(End::Asked)),
         Outcome::Cut => Some(ConnEnd::WriteFault),
         Outcome::BackendCut => Some(ConnEnd::BackendCut),
         Outcome::StreamSpent => Some(ConnEnd::StreamSpent),
@@ -97,18 +93,18 @@ fn serve_numbered<C: Conn, R: Routes, D: Dial, A: Lane, B: Lane, K: Clock, Y: Di
     requires ready { IsReady settings.now (bay_state R.Routes D.Dial A.Lane B.Lane K.Clock Y.Diary bay.old) }
     ensures serves { ends.ServesOne settings.now (C.from conn.old) request
         (bay_state R.Routes D.Dial A.Lane B.Lane K.Clock Y.Diary bay.old) (bay_state R.Routes D.Dial A.Lane B.Lane K.Clock Y.Diary bay.new)
-        (C.written conn.old) (C.written conn.new) (Rose (C.write_faults conn.old) (C.write_faults conn.new)) result }
+        (C.written conn.old) (C.written conn.new) (Rose (C.write_faults conn.old) (C.write_faults conn.new))
+        (C.wishes conn.old) (C.wishes conn.new) result }
     ensures ready { IsReady settings.now (bay_state R.Routes D.Dial A.Lane B.Lane K.Clock Y.Diary bay.new) }
     ensures later { C.write_faults conn.old ≤ C.write_faults conn.new }
-    ensures aside { C.inward conn.new ≡ C.inward conn.old }
+    ensures aside { IsAside (C.from conn.old) (C.from conn.new) (C.left conn.old) (C.left conn.new)
+        (C.read_faults conn.old) (C.read_faults conn.new) }
 {
     if bay.number == MOST_REQUESTS {
         drop(request);
         return Some(ConnEnd::NumbersSpent);
     }
-    let last = asks(&request);
-    let outcome = serve_request(alloc, settings, paths, bay, conn, request);
-    end_after(outcome, last)
+    end_after(serve_request(alloc, settings, paths, bay, conn, request))
 }
 
 // Serves what a connection has next. Nothing is answered where it goes on.
@@ -123,7 +119,7 @@ fn serve_next<C: Conn, R: Routes, D: Dial, A: Lane, B: Lane, K: Clock, Y: Diary>
     requires ready { IsReady settings.now (bay_state R.Routes D.Dial A.Lane B.Lane K.Clock Y.Diary bay.old) }
     ensures serves { ends.ServesNext settings.now (C.from conn.old)
         (bay_state R.Routes D.Dial A.Lane B.Lane K.Clock Y.Diary bay.old) (bay_state R.Routes D.Dial A.Lane B.Lane K.Clock Y.Diary bay.new)
-        edge.old edge.new (conn_state C.Source C.ByteSink conn.old) (conn_state C.Source C.ByteSink conn.new) result }
+        edge.old edge.new (conn_state C.Source C.ByteSink C.Conn.own conn.old) (conn_state C.Source C.ByteSink C.Conn.own conn.new) result }
     ensures ready { IsReady settings.now (bay_state R.Routes D.Dial A.Lane B.Lane K.Clock Y.Diary bay.new) }
     ensures peer { C.from conn.new ≡ C.from conn.old }
     ensures read_later { C.read_faults conn.old ≤ C.read_faults conn.new }
@@ -138,7 +134,8 @@ fn serve_next<C: Conn, R: Routes, D: Dial, A: Lane, B: Lane, K: Clock, Y: Diary>
 /// Serves a connection until it ends: each request of its input in order, as `Exchanged` says, and what is no request after
 /// them with its refusal. `xs` are all exchanges that it had, in order.
 ///
-/// `Stopped` tells why the input has no more requests, also where its refusal could not be written whole. `ReadFault` and `WriteFault` come only where a count of faults rose:
+/// `Stopped` tells why the input has no more requests, also where its refusal could not be written whole. It is `Asked` too
+/// where the connection wished to end after the last reply: then the rest of its input is left. `ReadFault` and `WriteFault` come only where a count of faults rose:
 /// then the requests that stand whole in what was read were served, or those up to the one whose reply was cut. After
 /// `BackendCut` and `StreamSpent` the reply to the last one, which was handed on as it came, has all of its body that came
 /// from the backend. After `NumbersSpent` the bay has no number for the request that stands next. After `NoMemory` the connection is given up; the
@@ -154,7 +151,7 @@ pub fn serve_connection<C: Conn, R: Routes, D: Dial, A: Lane, B: Lane, K: Clock,
 ) -> ConnEnd
     requires ready { IsReady settings.now (bay_state R.Routes D.Dial A.Lane B.Lane K.Clock Y.Diary bay.old) }
     ensures serves { (xs : List Exchange) × spec.Serves settings.now (C.from conn.old) (bay_state R.Routes D.Dial A.Lane B.Lane K.Clock Y.Diary bay.old) (bay_state R.Routes D.Dial A.Lane B.Lane K.Clock Y.Diary bay.new)
-        (conn_state C.Source C.ByteSink conn.old) (conn_state C.Source C.ByteSink conn.new) result xs }
+        (conn_state C.Source C.ByteSink C.Conn.own conn.old) (conn_state C.Source C.ByteSink C.Conn.own conn.new) result xs }
     ensures ready { IsReady settings.now (bay_state R.Routes D.Dial A.Lane B.Lane K.Clock Y.Diary bay.new) }
     ensures peer { C.from conn.new ≡ C.from conn.old }
     ensures read_later { C.read_faults conn.old ≤ C.read_faults conn.new }

@@ -5,6 +5,7 @@ ghost use Rattle.exchange_replies.specs.Statuses.{IsFinalErrand};
 ghost use Rattle.front_base.specs.declared.audit_id.TheConstants.{MOST_REQUESTS};
 ghost use Rattle.front_ports.specs.Cause.{Rose};
 ghost use Rattle.session_core.specs.Bays.{bay_state, BayState, CanOffer, IsReady};
+ghost use Rattle.session_core.specs.Closing.{IsAside};
 ghost use Rattle.session_core.specs.Parts as spec;
 ghost use Rattle.session_core.specs.Steps as steps;
 
@@ -30,7 +31,10 @@ use truncate_backend::Lane;
 /// How a request was served.
 #[derive(Clone, Copy, Debug, PartialEq, Eq)]
 pub enum Outcome {
+    /// Its reply was written whole, and the connection goes on.
     Whole,
+    /// Its reply was written whole, and says that the connection ends.
+    Last,
     /// A prefix of its reply was written, since a write failed.
     Cut,
     /// The body of its reply was cut by the backend.
@@ -40,11 +44,17 @@ pub enum Outcome {
     NoMemory,
 }
 
-fn outcome_of(served: Result<Relayed, NoMemory>) -> Outcome
-    ensures { result ≡ spec.outcome_of served }
+fn outcome_of(served: Result<Relayed, NoMemory>, closing: bool) -> Outcome
+    ensures { result ≡ spec.outcome_of served closing }
 {
     match served {
-        Ok(Relayed::Done) => Outcome::Whole,
+        Ok(Relayed::Done) => {
+            if closing {
+                Outcome::Last
+            } else {
+                Outcome::Whole
+            }
+        }
         Ok(Relayed::WriteFault) => Outcome::Cut,
         Ok(Relayed::BackendCut) => Outcome::BackendCut,
         Ok(Relayed::StreamSpent) => Outcome::StreamSpent,
@@ -68,9 +78,11 @@ fn serve_begun<C: Conn, R: Routes, D: Dial, A: Lane, B: Lane, K: Clock, Y: Diary
     ensures outcome { (peer : List ℕ) (m : BayState)
         → steps.Arrived settings.now peer request begun m (bay_state R.Routes D.Dial A.Lane B.Lane K.Clock Y.Diary bay.old)
         → spec.Outcomes settings.now peer request m (bay_state R.Routes D.Dial A.Lane B.Lane K.Clock Y.Diary bay.new)
-        (C.written conn.old) (C.written conn.new) (Rose (C.write_faults conn.old) (C.write_faults conn.new)) result }
+        (C.written conn.old) (C.written conn.new) (Rose (C.write_faults conn.old) (C.write_faults conn.new))
+        (C.wishes conn.old) (C.wishes conn.new) result }
     ensures later { C.write_faults conn.old ≤ C.write_faults conn.new }
-    ensures aside { C.inward conn.new ≡ C.inward conn.old }
+    ensures aside { IsAside (C.from conn.old) (C.from conn.new) (C.left conn.old) (C.left conn.new)
+        (C.read_faults conn.old) (C.read_faults conn.new) }
 {
     stages_hide();
     stages_make_up_what_is_owed();
@@ -98,8 +110,9 @@ fn serve_begun<C: Conn, R: Routes, D: Dial, A: Lane, B: Lane, K: Clock, Y: Diary
                 &routed.handling,
                 &mut work,
             );
+            let closing = work.closes(&request);
             bay.diary.note(work.into_exchange(request, routed));
-            outcome_of(served)
+            outcome_of(served, closing)
         }
         Err(NoMemory) => {
             bay.diary.note(work.into_exchange(request, not_routed()));
@@ -121,10 +134,11 @@ pub fn serve_request<C: Conn, R: Routes, D: Dial, A: Lane, B: Lane, K: Clock, Y:
     requires number { bay.old.number < MOST_REQUESTS }
     ensures outcome { spec.Outcomes settings.now (C.from conn.old) request (bay_state R.Routes D.Dial A.Lane B.Lane K.Clock Y.Diary bay.old)
         (bay_state R.Routes D.Dial A.Lane B.Lane K.Clock Y.Diary bay.new) (C.written conn.old) (C.written conn.new)
-        (Rose (C.write_faults conn.old) (C.write_faults conn.new)) result }
+        (Rose (C.write_faults conn.old) (C.write_faults conn.new)) (C.wishes conn.old) (C.wishes conn.new) result }
     ensures ready { IsReady settings.now (bay_state R.Routes D.Dial A.Lane B.Lane K.Clock Y.Diary bay.new) }
     ensures later { C.write_faults conn.old ≤ C.write_faults conn.new }
-    ensures aside { C.inward conn.new ≡ C.inward conn.old }
+    ensures aside { IsAside (C.from conn.old) (C.from conn.new) (C.left conn.old) (C.left conn.new)
+        (C.read_faults conn.old) (C.read_faults conn.new) }
 {
     statuses_are_final();
     stages_make_up_what_is_owed();

@@ -2,6 +2,7 @@
 ghost use Rattle.std.specs.Prelude.{◌≡◌, ◌≢◌, [], OnOk, OnErr};
 ghost use Rattle.event_offers.specs.Lanes.{lanes_state};
 ghost use Rattle.session_core.specs.Bays.{CanOffer};
+ghost use Rattle.session_core.specs.Closing.{closes};
 ghost use Rattle.session_core.specs.Exchange.{errand_after, unrouted};
 ghost use Rattle.session_core.specs.Parts.{StageOffered};
 ghost use Rattle.session_core.specs.Steps as spec;
@@ -11,8 +12,9 @@ use audit_core::{
     Errand, Handling, LinkNote, OfferNote, Offers, Routed, Settings, has_refused, status_of,
 };
 use event_offers::{Lanes, offer_stage};
+use exchange_replies::ReplyTag;
 use front_base::{NoMemory, Stage};
-use http_edge::Request;
+use http_edge::{Request, asks};
 use policy_rules::Decision;
 use stage_event::{Facts, Kept};
 use std::alloc::Global;
@@ -25,6 +27,8 @@ pub struct Work {
     pub facts: Facts,
     pub link: LinkNote,
     pub notes: Vec<OfferNote>,
+    /// Whether the connection wished to end after its reply.
+    pub wished: bool,
 }
 
 impl Work {
@@ -37,6 +41,7 @@ impl Work {
             facts,
             link: LinkNote::NotUsed,
             notes: Vec::new(alloc),
+            wished: false,
         }
     }
 
@@ -66,12 +71,30 @@ impl Work {
         )
     }
 
-    /// How the link of a request that was handled so is noted, and the status of its reply then.
-    pub fn set_link(&mut self, handling: &Handling, note: LinkNote)
-        ensures { spec.work_state self.new ≡ spec.linked handling.now note (spec.work_state self.old) }
+    /// How the link of a request that was handled so is noted, the status of its reply then, and what the connection wished.
+    pub fn set_link(&mut self, handling: &Handling, note: LinkNote, wished: bool)
+        ensures { spec.work_state self.new ≡ spec.linked handling.now note wished (spec.work_state self.old) }
     {
         self.link = note;
+        self.wished = wished;
         self.facts.status = status_of(handling, note);
+    }
+
+    /// Whether the connection ends after its reply: it asks so, or the connection wished it.
+    pub fn closes(&self, request: &Request) -> bool
+        ensures { result ≡ closes request.now self.now.wished }
+    {
+        self.wished || asks(request)
+    }
+
+    /// What the head of its reply says.
+    pub fn tag(&self, request: &Request) -> ReplyTag
+        ensures { result ≡ spec.tag_in request.now (spec.work_state self.now) }
+    {
+        ReplyTag {
+            id: self.facts.id,
+            closing: self.closes(request),
+        }
     }
 
     /// What is kept of its reply's body.
@@ -93,6 +116,7 @@ impl Work {
             facts: self.facts,
             link: self.link,
             offers: Offers::new(self.notes),
+            wished: self.wished,
         }
     }
 }

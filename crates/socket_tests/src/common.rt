@@ -9,6 +9,7 @@ use tcp_ports::{DEFAULT_LIMITS, SharedListener, TcpLimits};
 // Times that are short enough for a test, and far from each other.
 pub(crate) const SHORT: TcpLimits = TcpLimits {
     idle_timeout: 2_000,
+    idle_grace: 120,
     fresh_grace: 60,
     read_header_timeout: 150,
     min_rate: 1_000,

@@ -177,11 +177,54 @@ fn an_idle_connection_makes_room(rt: HostRuntime) -> Result<(), Fail> {
     for (how, least, most) in [
         ("fresh", 1_990, 20_000),
         ("fresh, other waits", 59, 1_900),
-        ("answered, other waits", 19, 1_900),
+        ("answered, other waits", 119, 1_900),
     ] {
         let spent = idle_time(&rt, &mut door, listener.address(), how).unwrap_or(0);
         assert!(rt; least <= spent && spent <= most, "{how}: {spent} ms");
     }
+    Ok(())
+}
+
+// What a connection wishes alone, while another one waits, and once the listener was closed.
+fn wishes_beside<C: Conn>(
+    rt: &HostRuntime,
+    listener: &SharedListener,
+    conn: &mut C,
+) -> Option<[bool; 3]> {
+    let alone = conn.wishes_to_end();
+    let Ok(_other) = connect(rt, listener.address()) else {
+        return None;
+    };
+    let beside = conn.wishes_to_end();
+    listener.close();
+    Some([alone, beside, conn.wishes_to_end()])
+}
+
+fn wishes_of_next(
+    rt: &HostRuntime,
+    listener: &SharedListener,
+    door: &mut TcpDoor<'_, HostRuntime>,
+) -> Option<[bool; 3]> {
+    let Ok(_client) = connect(rt, listener.address()) else {
+        return None;
+    };
+    let Ok(Some(mut conn)) = door.next() else {
+        return None;
+    };
+    let wishes = wishes_beside(rt, listener, &mut conn);
+    door.done(conn);
+    wishes
+}
+
+#[test]
+fn a_connection_wishes_to_end_where_another_waits(rt: HostRuntime) -> Result<(), Fail> {
+    let listener = listen(&rt, SHORT)?;
+    let client = ServedClient::new();
+    let mut door = TcpDoor::new(&rt, &listener, &client, 0);
+    assert_eq!(rt;
+        wishes_of_next(&rt, &listener, &mut door),
+        Some([false, true, true])
+    );
     Ok(())
 }
 

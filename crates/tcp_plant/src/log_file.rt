@@ -114,7 +114,7 @@ impl<'b, R: Print + Wait> ByteSink for LogFile<'b, R> {
 
     ghost write_faults = { file_faults };
 
-    ghost inward = { λ _. record { told = None; faults = 0; mark = [] } };
+    ghost inward = { λ _. record { told = None; faults = 0; mark = []; wishes = None } };
 
     fn write(&mut self, piece: &[u8]) -> Result<usize, PortFault> {
         match self.take(piece) {

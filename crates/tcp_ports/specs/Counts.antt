@@ -1,5 +1,5 @@
 -- How often the calls on a port failed, and its sides, which tell no bytes.
-use Rattle.std.specs.Prelude.{ℕ, List, [], ◌∷◌, Option, None, ◌==◌, ◌-◌, ◌^◌, if◌then◌else◌}
+use Rattle.std.specs.Prelude.{ℕ, Bool, List, [], ◌∷◌, Option, None, ◌==◌, ◌-◌, ◌^◌, if◌then◌else◌}
 use Rattle.front_ports.specs.Side.{Side}
 use Rattle.front_ports.specs.declared.door.Visit.{Visit}
 use Rattle.tcp_ports.specs.declared.conn.TcpConn.{TcpConn}
@@ -18,12 +18,16 @@ conn_write_faults conn = conn.write_faults
 abbrev pub conn_from : {R : Type 0} → TcpConn R → List ℕ
 conn_from conn = conn.peer
 
+-- whether it will wish to end: it doesn't tell
+abbrev pub conn_wishes : {R : Type 0} → TcpConn R → Option (List Bool)
+conn_wishes conn = None
+
 -- its input and its output, each of which a call on the other leaves
 abbrev pub conn_input : {R : Type 0} → TcpConn R → Side
-conn_input conn = record { told = None; faults = conn.read_faults; mark = conn.peer }
+conn_input conn = record { told = None; faults = conn.read_faults; mark = conn.peer; wishes = None }
 
 abbrev pub conn_output : {R : Type 0} → TcpConn R → Side
-conn_output conn = record { told = None; faults = conn.write_faults; mark = conn.peer }
+conn_output conn = record { told = None; faults = conn.write_faults; mark = conn.peer; wishes = None }
 
 -- how many reads and writes of a link failed
 abbrev pub link_read_faults : {R : Type 0} → TcpLink R → ℕ
@@ -34,10 +38,10 @@ link_write_faults link = link.write_faults
 
 -- its input and its output; since its dial notes no calls, each link has the number 0
 abbrev pub link_input : {R : Type 0} → TcpLink R → Side
-link_input link = record { told = None; faults = link.read_faults; mark = 0 ∷ [] }
+link_input link = record { told = None; faults = link.read_faults; mark = 0 ∷ []; wishes = None }
 
 abbrev pub link_output : {R : Type 0} → TcpLink R → Side
-link_output link = record { told = None; faults = link.write_faults; mark = 0 ∷ [] }
+link_output link = record { told = None; faults = link.write_faults; mark = 0 ∷ []; wishes = None }
 
 -- how many dials failed, and how many links were handed back on which a call had failed
 abbrev pub dial_faults : {R : Type 0} → TcpDial R → ℕ

@@ -2,11 +2,12 @@ ghost use Rattle.std.specs.Prelude.{◌≡◌, ◌<◌, None, IfOk, length, refl
 ghost use Rattle.std.specs.Io.{ReadsAtMost, WritesAtMost};
 ghost use Rattle.std.specs.Io.KnownBytes.{ReadConsumes, WriteAppends};
 ghost use Rattle.front_ports.specs.Cause.{HasCause};
-ghost use Rattle.tcp_ports.specs.Counts.{conn_read_faults, conn_write_faults, conn_input, conn_output, conn_from};
+ghost use Rattle.tcp_ports.specs.Counts.{conn_read_faults, conn_write_faults, conn_input, conn_output, conn_from, conn_wishes};
 
 use crate::clock::{millis_now, timeout_of};
 use crate::expect::answer_expect;
 use crate::idle::request_begins;
+use crate::limits::TcpLimits;
 use crate::linger::linger;
 use crate::listener::SharedListener;
 use crate::poll::{INPUT, MOST_TURNS, read_some, wait_for};
@@ -37,6 +38,13 @@ pub struct TcpConn<'b, R> {
     ended: bool,
     read_faults: u64,
     write_faults: u64,
+}
+
+// How long the first try to read a request lasts, in milliseconds: no longer than any grace.
+const FIRST_WAIT: u64 = 20;
+
+fn first_wait(limits: &TcpLimits) -> u64 {
+    FIRST_WAIT.min(limits.idle_grace).min(limits.fresh_grace)
 }
 
 // Reads bytes of a request that has begun.
@@ -103,13 +111,14 @@ fn read_first(
         requests.is_late(&buf[..count], 0, limits);
         return Ok(count);
     }
-    // That try has waited for `idle_grace`.
     let grace = if answered {
-        0
+        limits.idle_grace
     } else {
-        limits.fresh_grace.saturating_sub(limits.idle_grace)
+        limits.fresh_grace
     };
-    if !request_begins(rt, listener, stream.as_raw_fd(), grace) {
+    // That try has waited for a part of it.
+    let rest = grace.saturating_sub(first_wait(limits));
+    if !request_begins(rt, listener, stream.as_raw_fd(), rest) {
         return Ok(0);
     }
     read_request(rt, listener, stream, requests, buf)
@@ -122,9 +131,8 @@ impl<'b, R: rt::Clock> TcpConn<'b, R> {
         stream: TcpStream,
         peer: [u8; 4],
     ) -> io::Result<TcpConn<'b, R>> {
-        // So the first try to read a request lasts as long as the grace of an idle connection, and a request that comes
-        // within it costs no wait of its own.
-        stream.set_read_timeout(Some(timeout_of(listener.limits().idle_grace)))?;
+        // So a request that comes at once costs no wait of its own.
+        stream.set_read_timeout(Some(timeout_of(first_wait(listener.limits()))))?;
         Ok(TcpConn {
             rt,
             listener,
@@ -240,11 +248,18 @@ impl<'b, R: rt::Clock> ByteSink for TcpConn<'b, R> {
 impl<'b, R: rt::Clock> Conn for TcpConn<'b, R> {
     ghost from = { conn_from };
 
+    ghost wishes = { conn_wishes };
+
     ghost outward_is = { λ c. refl };
 
     ghost inward_is = { λ c. refl };
 
     fn peer(&self) -> [u8; 4] {
         self.peer
+    }
+
+    // So that the next client gets the bay, and this one knows that its next request needs another connection.
+    fn wishes_to_end(&mut self) -> bool {
+        self.listener.is_closed() || self.listener.is_crowded()
     }
 }

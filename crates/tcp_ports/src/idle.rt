@@ -7,6 +7,17 @@ use std::rt;
 // How long an idle connection leaves one that waits to a bay that is free or makes room already, in milliseconds.
 const HANDOVER: u64 = 5;
 
+// Whether the first byte of a request comes within the grace, and before the listener is closed.
+fn begins_within(listener: &SharedListener, client: RawFd, grace: u64) -> bool {
+    let events = [
+        (client, INPUT),
+        (listener.raw_fd(), BREAK),
+        (NO_SOCKET, BREAK),
+    ];
+    let [begins, _, _] = wait_for_any(events, grace);
+    begins
+}
+
 /// Waits for the first byte of a request. Whether it comes before the connection counts as ended: after the grace where
 /// another one waits or the listener is closed, and else after its idle time.
 pub(crate) fn request_begins(
@@ -15,7 +26,7 @@ pub(crate) fn request_begins(
     client: RawFd,
     grace: u64,
 ) -> bool {
-    if grace > 0 && wait_for(client, INPUT, grace) {
+    if grace > 0 && begins_within(listener, client, grace) {
         return true;
     }
     let limits = listener.limits();

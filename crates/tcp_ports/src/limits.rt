@@ -3,9 +3,10 @@
 pub struct TcpLimits {
     /// How long a connection may be idle while no other one waits to be accepted.
     pub idle_timeout: u64,
-    /// After how much idle time a connection that was answered before ends while another one waits.
+    /// After how much idle time a connection ends while another one waits, if it was answered before and that reply didn't say
+    /// that it ends.
     pub idle_grace: u64,
-    /// The same of a connection before its first request. It is taken as no less than `idle_grace`.
+    /// The same of a connection before its first request.
     pub fresh_grace: u64,
     /// How long reads may wait for one head of a request in all.
     pub read_header_timeout: u64,
@@ -33,7 +34,8 @@ pub struct TcpLimits {
 pub const DEFAULT_LIMITS: TcpLimits = TcpLimits {
     // `IdleTimeout` of net/http's server. kube-apiserver has 90 s, but a bay is scarcer than a goroutine.
     idle_timeout: 60_000,
-    idle_grace: 20,
+    // A client that sends more often than that isn't cut off as it sends.
+    idle_grace: 1_000,
     fresh_grace: 200,
     // `ReadHeaderTimeout` of net/http. kube-apiserver has 32 s, but a bay is scarcer than a goroutine.
     read_header_timeout: 10_000,

@@ -184,6 +184,11 @@ impl SharedListener {
         accepted
     }
 
+    /// Whether a connection waits that no free bay will take.
+    pub(crate) fn is_crowded(&self) -> bool {
+        self.free_bays.load(Ordering::SeqCst) == 0 && wait_for(self.raw_fd(), INPUT, 0)
+    }
+
     /// Whether a connection waits that no free bay will take, and the caller is the one that makes room for it.
     pub(crate) fn needs_room(&self) -> bool {
         if self.free_bays.load(Ordering::SeqCst) > 0

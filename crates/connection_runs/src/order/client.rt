@@ -27,7 +27,7 @@ impl<'t, W: Write> Source for TellingConn<'t, W> {
 
     ghost read_faults = { λ _. 0 };
 
-    ghost outward = { λ _. record { told = None; faults = 0; mark = 127 ∷ 0 ∷ 0 ∷ 1 ∷ [] } };
+    ghost outward = { λ _. record { told = None; faults = 0; mark = 127 ∷ 0 ∷ 0 ∷ 1 ∷ []; wishes = None } };
 
     fn read(&mut self, buf: &mut [u8]) -> Result<usize, PortFault> {
         let rest = self.text.get(self.given..).unwrap_or(b"");
@@ -45,7 +45,7 @@ impl<'t, W: Write> ByteSink for TellingConn<'t, W> {
 
     ghost write_faults = { λ _. 0 };
 
-    ghost inward = { λ _. record { told = None; faults = 0; mark = 127 ∷ 0 ∷ 0 ∷ 1 ∷ [] } };
+    ghost inward = { λ _. record { told = None; faults = 0; mark = 127 ∷ 0 ∷ 0 ∷ 1 ∷ []; wishes = None } };
 
     fn write(&mut self, piece: &[u8]) -> Result<usize, PortFault> {
         let _ = self.out.write_all(b"the client is written to\n");
@@ -54,9 +54,11 @@ impl<'t, W: Write> ByteSink for TellingConn<'t, W> {
 }
 
 impl<'t, W: Write> Conn for TellingConn<'t, W> {
-    ghost use Rattle.std.specs.Prelude.{refl, [], ◌∷◌};
+    ghost use Rattle.std.specs.Prelude.{refl, None, [], ◌∷◌};
 
     ghost from = { λ _. 127 ∷ 0 ∷ 0 ∷ 1 ∷ [] };
+
+    ghost wishes = { λ _. None };
 
     ghost outward_is = { λ c. refl };
 
@@ -64,5 +66,9 @@ impl<'t, W: Write> Conn for TellingConn<'t, W> {
 
     fn peer(&self) -> [u8; 4] {
         [127, 0, 0, 1]
+    }
+
+    fn wishes_to_end(&mut self) -> bool {
+        false
     }
 }

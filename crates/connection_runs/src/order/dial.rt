@@ -26,7 +26,7 @@ impl<W: Write> Source for TellingLink<W> {
 
     ghost read_faults = { λ _. 0 };
 
-    ghost outward = { λ _. record { told = None; faults = 0; mark = 0 ∷ [] } };
+    ghost outward = { λ _. record { told = None; faults = 0; mark = 0 ∷ []; wishes = None } };
 
     fn read(&mut self, buf: &mut [u8]) -> Result<usize, PortFault> {
         tell(&mut self.out, b"the link is read\n");
@@ -45,7 +45,7 @@ impl<W: Write> ByteSink for TellingLink<W> {
 
     ghost write_faults = { λ _. 0 };
 
-    ghost inward = { λ _. record { told = None; faults = 0; mark = 0 ∷ [] } };
+    ghost inward = { λ _. record { told = None; faults = 0; mark = 0 ∷ []; wishes = None } };
 
     fn write(&mut self, piece: &[u8]) -> Result<usize, PortFault> {
         tell(&mut self.out, b"the link is written to\n");

@@ -10,8 +10,8 @@ pub returns-in-Some-clause-serves : goal.returns-in-Some-clause-serves
 returns-in-Some-clause-serves g c =
     let i = c.serving.invariant in
     goes c.requests_stay.ensures.starts c.requests_stay.ensures.refused c.args.settings.now (g.C.Conn.from c.args.conn.now) _ _ _
-    (conn_state g.C.Source g.C.ByteSink c.args.conn.now) (conn_state g.C.Source g.C.ByteSink c.serving.conn)
-    (conn_state g.C.Source g.C.ByteSink c.serve_next.new.conn) _ _ i.so_far
+    (conn_state g.C.Source g.C.ByteSink g.C.Conn c.args.conn.now) (conn_state g.C.Source g.C.ByteSink g.C.Conn c.serving.conn)
+    (conn_state g.C.Source g.C.ByteSink g.C.Conn c.serve_next.new.conn) _ _ i.so_far
     (Some c.in-Some.end) (g.C.Conn.from c.serving.conn) i.peer i.read_later i.write_later c.in-Some.ensures.serves
 
 pub serving-preserved : goal.serving-preserved
@@ -20,8 +20,8 @@ serving-preserved g c =
     let e = c.in_default-serve_next.ensures in
     record {
       so_far = goes c.requests_stay.ensures.starts c.requests_stay.ensures.refused c.args.settings.now (g.C.Conn.from c.args.conn.now) _ _ _
-          (conn_state g.C.Source g.C.ByteSink c.args.conn.now) (conn_state g.C.Source g.C.ByteSink c.serving.conn)
-          (conn_state g.C.Source g.C.ByteSink c.serve_next.new.conn) _ _ i.so_far
+          (conn_state g.C.Source g.C.ByteSink g.C.Conn c.args.conn.now) (conn_state g.C.Source g.C.ByteSink g.C.Conn c.serving.conn)
+          (conn_state g.C.Source g.C.ByteSink g.C.Conn c.serve_next.new.conn) _ _ i.so_far
           None (g.C.Conn.from c.serving.conn) i.peer i.read_later i.write_later e.serves;
       ready = e.ready;
       peer = e.peer ∙ i.peer;

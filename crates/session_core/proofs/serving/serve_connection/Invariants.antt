@@ -10,7 +10,8 @@ invariant-serving g l = record {
       (bay_state g.R.Routes g.D.Dial g.A.Lane g.B.Lane g.K.Clock g.Y.Diary l.fn.bay)
       (bay_state g.R.Routes g.D.Dial g.A.Lane g.B.Lane g.K.Clock g.Y.Diary l.bay)
       (g.C.Source.left l.fn.conn) (g.C.Source.left l.conn) l.edge
-      (g.C.ByteSink.written l.fn.conn) (g.C.ByteSink.written l.conn);
+      (g.C.ByteSink.written l.fn.conn) (g.C.ByteSink.written l.conn)
+      (g.C.Conn.wishes l.fn.conn) (g.C.Conn.wishes l.conn);
   ready : IsReady l.settings (bay_state g.R.Routes g.D.Dial g.A.Lane g.B.Lane g.K.Clock g.Y.Diary l.bay);
   peer : g.C.Conn.from l.conn ≡ g.C.Conn.from l.fn.conn;
   read_later : g.C.Source.read_faults l.fn.conn ≤ g.C.Source.read_faults l.conn;

@@ -19,8 +19,10 @@ returns-in-Ok-clause-outcome g c = λ peer m arrived.
     subst (λ (x : Exchange). Adds (g.Y.Diary.notes c.args.bay.now.diary) (g.Y.Diary.notes c.note.new.self) (x ∷ [])) c.into_exchange.ensures c.note.ensures in
     answered_outcomes c.offers_join.ensures c.stages_hide.ensures.received c.stages_make_up_what_is_owed.ensures.owed c.stages_make_up_what_is_owed.ensures.due
     c.args.settings.now peer c.args.request c.args.begun m _ arrived _ _ _ _ _ c.in-Ok.ensures.fixed _ c.begun-work.ensures
-    c.in-Ok.routed _ _ c.in-Ok.ensures.ok _ _ _ _ _ adds c.answer-served.result c.outcome_of.result c.outcome_of.ensures
-    c.answer-served.ensures.ok c.answer-served.ensures.err
+    c.in-Ok.routed _ _ c.in-Ok.ensures.ok _ _ _ _ _ (g.C.Conn.wishes c.args.conn.now) (g.C.Conn.wishes c.answer-served.new.conn)
+    adds c.answer-served.result c.closes-closing.result c.outcome_of.result c.outcome_of.ensures
+    c.closes-closing.ensures
+    c.answer-served.ensures.ok c.answer-served.ensures.err c.answer-served.ensures.wish c.answer-served.ensures.may_wish
 
 pub returns-in-Err-clause-outcome : goal.returns-in-Err-clause-outcome
 returns-in-Err-clause-outcome g c = λ peer m arrived.
@@ -30,4 +32,4 @@ returns-in-Err-clause-outcome g c = λ peer m arrived.
     (c.into_exchange-in-Err.ensures ∙ ap (λ y. exchange_of c.args.request y (work_state c.handle.new.work)) c.not_routed.ensures) c.note-in-Err.ensures in
     undecided_outcome c.offers_join.ensures c.stages_hide.ensures.received c.stages_make_up_what_is_owed.ensures.owed c.stages_make_up_what_is_owed.ensures.due
     c.args.settings.now peer c.args.request c.args.begun m _ arrived _ _ _ _ _ c.in-Err.ensures.fixed _ c.begun-work.ensures
-    _ _ _ c.in-Err.ensures.err adds
+    _ _ _ (g.C.Conn.wishes c.args.conn.now) c.in-Err.ensures.err adds

@@ -12,5 +12,5 @@ returns-in-Ok-clause-outcome g c =
 pub returns-in-Ok-clause-ready : goal.returns-in-Ok-clause-ready
 returns-in-Ok-clause-ready g c =
     ready_by c.lanes_stay.ensures.lanes c.lanes_stay.ensures.log c.lanes_stay.ensures.hook c.stages_make_up_what_is_owed.ensures.owed
-    c.args.settings.now (g.C.Conn.from c.args.conn.now) c.args.request _ _ _ _ _ c.serve_begun.result c.requires.ready c.requires.number
+    c.args.settings.now (g.C.Conn.from c.args.conn.now) c.args.request _ _ _ _ _ _ _ c.serve_begun.result c.requires.ready c.requires.number
     (returns-in-Ok-clause-outcome g c)
