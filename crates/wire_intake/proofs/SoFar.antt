@@ -3,7 +3,6 @@ use Rattle.std.proofs.Common.{◌≡◌, ℕ, ◌≤◌, ◌⊎◌, ◌++◌, �
 use Rattle.std.proofs.Common.{true, false, refl, sym, ap, ◌∙◌, subst, arith, append_assoc, append-nil, inl, inr}
 use Rattle.std.proofs.lemmas.List.{take-append-drop}
 use Rattle.std.proofs.KnownBytes.{Consumes-nil, Consumes-trans}
-use Rattle.std.specs.Io.KnownBytes.{Consumes, IsAtEnd}
 use Rattle.front_ports.specs.Cause.{Rose}
 use Rattle.http_head.specs.Answer.{AwaitsBlock, IsBlockAnswer}
 use Rattle.http_head.specs.Block.{IsSearched}
@@ -14,7 +13,7 @@ use Rattle.body_frames.specs.declared.frame.Frame.{Frame}
 use Rattle.body_frames.specs.declared.frame.Frame.TheVariants.{NoBody, Length, Chunked, Close}
 use Rattle.body_frames.specs.declared.place.Place.{Place}
 use Rattle.body_frames.specs.Body.{IsBody, IsPart, IsRefused, ends_itself}
-use Rattle.body_frames.specs.Decoded.{Decoded, Feeds, Refuses}
+use Rattle.body_frames.specs.Decoded.{Decoded, Feeds}
 use Rattle.body_frames.specs.Progress.{is_done, is_open, ends_here, fault_of}
 use Rattle.wire_intake.specs.declared.block.BlockStop.TheVariants as block_stop
 use Rattle.wire_intake.specs.declared.body.BodyStop.{BodyStop}

@@ -36,7 +36,7 @@ fn feed_into(decoder: &mut Decoder, intake: &mut Intake, body: &mut Vec<u8>) -> 
     Ok(())
 }
 
-// Reads where nothing is held.
+// Reads where nothing is held, with more room where the last read was too short.
 fn fill<C: Source>(conn: &mut C, intake: &mut Intake) -> Result<(), ReadStop>
     ensures ok { OnOk result (
         spec.Seen (C.left conn.old) (C.left conn.new) intake.old intake.new) }
@@ -52,6 +52,7 @@ fn fill<C: Source>(conn: &mut C, intake: &mut Intake) -> Result<(), ReadStop>
     if 0 < intake.as_slice().len() {
         return Ok(());
     }
+    intake.widen();
     intake.refill(conn)
 }
 

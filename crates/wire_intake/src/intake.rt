@@ -1,16 +1,20 @@
 // The bytes that were read and not yet used.
-ghost use Rattle.std.specs.Prelude.{◌≡◌, ◌<◌, ◌≤◌, ◌+◌, [], IfOk, IfErr, OnOk, length, drop, vec_len};
+ghost use Rattle.std.specs.Prelude.{◌≡◌, ◌<◌, ◌≤◌, [], IfOk, IfErr, OnOk, length, drop};
 ghost use Rattle.front_ports.specs.Cause.{Rose};
 ghost use Rattle.wire_intake.specs.Seen as spec;
 
+use crate::room::{lengthen, move_first, read_after};
 use front_base::NoMemory;
 use front_ports::Source;
 use http_head::MOST_HEAD_BYTES;
 use std::alloc::Global;
 use std::marker::Model;
 
-/// The most bytes that one read takes.
+/// The room for reads, in bytes, that is taken first, and each time that a head fills it.
 pub const MOST_READ_BYTES: usize = 4096;
+
+/// The most room, in bytes, that bodies have taken. It is kept then.
+pub const MOST_BODY_READ_BYTES: usize = 65536;
 
 /// The most bytes that are held: as many as a head may have, and those of one read.
 pub const MOST_HELD_BYTES: usize = 69632;
@@ -26,59 +30,23 @@ pub enum ReadStop {
 /// The bytes that were read and not yet used, which contracts see as a list. Using some moves none of the others.
 #[derive(Debug, Drop)]
 pub struct Intake {
-    bytes: Vec<u8>,
+    // All of it is room for reads: what is held stands from `at` up to `end`.
+    room: Vec<u8>,
     at: usize,
+    end: usize,
     used: u64,
 }
 
 impl Model for Intake {
-    ghost use Rattle.std.specs.Prelude.{ℕ, List, ◌≤◌, ◌+◌, drop, vec_len};
+    ghost use Rattle.std.specs.Prelude.{ℕ, List, ◌<◌, ◌≤◌, drop, take, vec_len};
     ghost use Rattle.wire_intake.specs.declared.intake.TheConstants.{MOST_HELD_BYTES};
 
     ghost Value = { List ℕ };
 
-    ghost view = { λ i. drop i.at i.bytes.items };
+    ghost view = { λ i. drop i.at (take i.end i.room.items) };
 
-    ghost invariant = { λ i. (i.at ≤ vec_len i.bytes) × (vec_len i.bytes ≤ i.at + MOST_HELD_BYTES) };
-}
-
-// Takes the first bytes off.
-fn drop_first(bytes: &mut Vec<u8>, count: usize)
-    requires { count ≤ vec_len bytes.old }
-    ensures { bytes.new.items ≡ drop count bytes.old.items }
-{
-    let rest = bytes.len() - count;
-    if 0 < count {
-        bytes.rotate_left(count);
-    }
-    bytes.truncate(rest);
-}
-
-// Reads once, and holds what came after what was held.
-fn read_after<C: Source>(conn: &mut C, bytes: &mut Vec<u8>) -> Result<(), ReadStop>
-    requires { vec_len bytes.old < MOST_HEAD_BYTES }
-    ensures ok { OnOk result (
-        spec.Refilled (C.left conn.old) (C.left conn.new) bytes.old.items bytes.new.items) }
-    ensures err { IfErr result (λ stop.
-        spec.NotRead (C.left conn.old) (C.left conn.new) bytes.old.items bytes.new.items
-        (Rose (C.read_faults conn.old) (C.read_faults conn.new)) stop) }
-    ensures later { C.read_faults conn.old ≤ C.read_faults conn.new }
-    ensures calm { OnOk result (C.read_faults conn.new ≡ C.read_faults conn.old) }
-    ensures told { IfErr result (spec.KeepsCount (C.read_faults conn.old) (C.read_faults conn.new)) }
-    ensures aside { C.outward conn.new ≡ C.outward conn.old }
-    ensures bounded { vec_len bytes.new ≤ MOST_HELD_BYTES }
-{
-    let mut buf = [0u8; MOST_READ_BYTES];
-    let Ok(count) = conn.read(&mut buf) else {
-        return Err(ReadStop::ReadFault);
-    };
-    if count == 0 {
-        return Err(ReadStop::AtEnd);
-    }
-    let Ok(()) = bytes.extend_from_slice(&buf[..count]) else {
-        return Err(ReadStop::NoMemory);
-    };
-    Ok(())
+    ghost invariant = { λ i. (i.at ≤ i.end) × (i.end ≤ vec_len i.room) × (0 < vec_len i.room)
+        × (vec_len i.room ≤ MOST_HELD_BYTES) };
 }
 
 impl Intake {
@@ -87,8 +55,9 @@ impl Intake {
         ensures { IfOk result (λ intake. intake ≡ []) }
     {
         Ok(Intake {
-            bytes: Vec::with_capacity(alloc, MOST_READ_BYTES)?,
+            room: vec![in alloc; 0u8; MOST_READ_BYTES]?,
             at: 0,
+            end: 0,
             used: 0,
         })
     }
@@ -98,7 +67,7 @@ impl Intake {
         ensures value { result.now ≡ self.now }
         ensures most { length result.now ≤ MOST_HELD_BYTES }
     {
-        &self.bytes[self.at..]
+        &self.room[self.at..self.end]
     }
 
     /// How many bytes were used, for messages: no clause says so.
@@ -115,7 +84,18 @@ impl Intake {
         self.used = self.used.saturating_add(count as u64);
     }
 
-    /// Reads once, and holds what came after what was held.
+    /// Takes four times the room for the reads to come where the last one filled it, up to `MOST_BODY_READ_BYTES`. Where
+    /// memory is short, they have the room that there is.
+    pub fn widen(&mut self)
+        ensures { self.new ≡ self.old }
+    {
+        let len = self.room.len();
+        if self.end == len && len < MOST_BODY_READ_BYTES {
+            let _ = lengthen(&mut self.room, MOST_BODY_READ_BYTES.min(len * 4));
+        }
+    }
+
+    /// Reads once, into all of the room, and holds what came after what was held.
     pub fn refill<C: Source>(&mut self, conn: &mut C) -> Result<(), ReadStop>
         requires { length self.old < MOST_HEAD_BYTES }
         ensures ok { OnOk result (
@@ -128,8 +108,21 @@ impl Intake {
         ensures told { IfErr result (spec.KeepsCount (C.read_faults conn.old) (C.read_faults conn.new)) }
         ensures aside { C.outward conn.new ≡ C.outward conn.old }
     {
-        drop_first(&mut self.bytes, self.at);
+        move_first(&mut self.room, self.at, self.end);
+        self.end -= self.at;
         self.at = 0;
-        read_after(conn, &mut self.bytes)
+        let len = self.room.len();
+        if self.end == len {
+            let Ok(()) = lengthen(&mut self.room, len + MOST_READ_BYTES) else {
+                return Err(ReadStop::NoMemory);
+            };
+        }
+        match read_after(conn, &mut self.room, self.end) {
+            Ok(end) => {
+                self.end = end;
+                Ok(())
+            }
+            Err(stop) => Err(stop),
+        }
     }
 }
