@@ -7,7 +7,7 @@ use Rattle.front_ports.specs.declared.mem_bytes.MemBytes.{MemBytes}
 use Rattle.front_ports.specs.declared.mem_dial.MemDial.{MemDial}
 use Rattle.front_ports.specs.declared.mem_door.MemDoor.{MemDoor}
 use Rattle.truncate_backend.specs.Notes as notes
-use Rattle.front_plants.specs.Plants.{PlantTells}
+use Rattle.front_plants.specs.Plants.{PlantTells, PlantFaults}
 use Rattle.front_plants.specs.Rooms.{notes_room}
 use Rattle.front_plants.specs.declared.call.PlantCall.{PlantCall}
 use Rattle.front_plants.specs.declared.call_notes.CallNotes.{CallNotes}
@@ -25,15 +25,15 @@ use Rattle.front_plants.specs.declared.unused.UnusedSinks.{UnusedSinks}
 abbrev pub noted_calls : CallNotes → Option (List PlantCall)
 noted_calls notes = if notes.lost then None else Some notes.calls.items
 
--- the numbers of the calls that fail, how many calls there were, and how many failed
+-- the numbers of the calls that fail, how many calls there were, and which failed
 abbrev pub listed_fails : Failures → List ℕ
 listed_fails failures = failures.fails.items
 
 abbrev pub counted_calls : Failures → ℕ
 counted_calls failures = failures.calls
 
-abbrev pub counted_faults : Failures → ℕ
-counted_faults failures = failures.faults
+abbrev pub counted_faults : Failures → PlantFaults
+counted_faults failures = record { count = failures.faults; last = failures.last }
 
 -- the doors that were not handed out, by their bays
 abbrev pub slot_door : Option UnusedDoor → Option MemDoor
@@ -80,7 +80,7 @@ module _ {R : Type 0} where
   abbrev pub plant_due : MemPlant R → ℕ → Option (List (MemConn))
   plant_due plant bay = option_map door_left (plant_door plant bay)
 
-  abbrev pub plant_faults : MemPlant R → ℕ
+  abbrev pub plant_faults : MemPlant R → PlantFaults
   plant_faults plant = counted_faults plant.failures
 
   abbrev pub plant_tells : MemPlant R → PlantTells (MemConn)

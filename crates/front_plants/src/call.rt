@@ -11,7 +11,8 @@ pub enum PlantCall {
     Allot(u16, u64),
     /// Where to listen, the bay, and how many connections the door may give.
     Door(Address, u16, u64),
-    Dial,
+    /// The bay.
+    Dial(u16),
     Clock,
     Diary,
     /// The path of the log.
@@ -20,11 +21,28 @@ pub enum PlantCall {
     Hook(Text),
 }
 
+/// Which handle could not be made.
+#[derive(Clone, Copy, Debug, PartialEq, Eq)]
+pub enum PlantPort {
+    Door,
+    Dial,
+    Log,
+    Hook,
+}
+
+/// A call of a plant that failed for its port.
+#[derive(Clone, Copy, Debug, PartialEq, Eq)]
+pub struct PlantFault {
+    pub port: PlantPort,
+    /// The system's number of the error, as `errno` has it.
+    pub errno: i32,
+}
+
 /// Why a plant made no handle.
 #[derive(Clone, Copy, Debug, PartialEq, Eq)]
 pub enum PlantFail {
     /// A call on the outside failed. The plant counts it.
-    Port,
+    Port(PlantFault),
     NoMemory,
 }
 

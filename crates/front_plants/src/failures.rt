@@ -1,16 +1,21 @@
 ghost use Rattle.std.specs.Prelude.{◌≡◌};
 ghost use Rattle.front_ports.specs.Scripts.{next_count, next_is_listed};
-ghost use Rattle.truncate_backend.specs.Told.{Rises};
+ghost use Rattle.front_plants.specs.Plants.{Failed, no_faults};
 ghost use Rattle.front_plants.specs.declared.call.PlantFail.TheVariants.{Port};
+ghost use Rattle.front_plants.specs.declared.failures.TheConstants.{LISTED_ERRNO};
 
-use crate::call::PlantFail;
+use crate::call::{PlantFail, PlantFault, PlantPort};
 
-// Which calls of a plant fail, how many there were, and how many failed.
+/// The reason of each call of a plant in memory that fails: an input or output error, EIO of Linux.
+pub const LISTED_ERRNO: i32 = 5;
+
+// Which calls of a plant fail, how many there were, how many failed, and which was the last of these.
 #[derive(Drop)]
 pub(crate) struct Failures {
     fails: Vec<u64>,
     calls: u64,
     faults: u64,
+    last: Option<PlantFault>,
 }
 
 impl Failures {
@@ -18,12 +23,13 @@ impl Failures {
 
     pub(crate) fn new(fails: Vec<u64>) -> Failures
         ensures fails { listed_fails result ≡ fails.items }
-        ensures fresh { (counted_calls result ≡ 0) × (counted_faults result ≡ 0) }
+        ensures fresh { (counted_calls result ≡ 0) × (counted_faults result ≡ no_faults) }
     {
         Failures {
             fails,
             calls: 0,
             faults: 0,
+            last: None,
         }
     }
 
@@ -38,14 +44,19 @@ impl Failures {
         self.fails.contains(&self.calls)
     }
 
-    // Counts a call that failed for its port.
-    pub(crate) fn fault(&mut self) -> PlantFail
-        ensures port { result ≡ Port }
+    // Counts a call that failed for this port.
+    pub(crate) fn fault(&mut self, port: PlantPort) -> PlantFail
+        ensures port { result ≡ Port (record { port = port; errno = LISTED_ERRNO }) }
         ensures fails { listed_fails self.new ≡ listed_fails self.old }
         ensures calls { counted_calls self.new ≡ counted_calls self.old }
-        ensures faults { Rises (counted_faults self.old) (counted_faults self.new) }
+        ensures faults { Failed (counted_faults self.old) (record { port = port; errno = LISTED_ERRNO }) (counted_faults self.new) }
     {
+        let fault = PlantFault {
+            port,
+            errno: LISTED_ERRNO,
+        };
         self.faults = self.faults.saturating_add(1);
-        PlantFail::Port
+        self.last = Some(fault);
+        PlantFail::Port(fault)
     }
 }

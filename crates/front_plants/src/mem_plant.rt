@@ -2,7 +2,7 @@ ghost use Rattle.std.specs.Prelude.{◌≡◌, [], ℕ, Some, IfOk, option_map, 
 ghost use Rattle.std.specs.List.{All};
 ghost use Rattle.front_plants.specs.Unused.{IsUnusedDoor, IsUnusedDial, IsUnusedSink};
 
-use crate::call::{PlantCall, PlantFail};
+use crate::call::{PlantCall, PlantFail, PlantPort};
 use crate::call_notes::CallNotes;
 use crate::failures::Failures;
 use crate::parts::{MemParts, NotesRoom};
@@ -42,6 +42,7 @@ impl<R> MemPlant<R> {
     ghost use Rattle.front_plants.specs.MemoryPlant.{plant_tells, plant_door, plant_boot, plant_allots};
     ghost use Rattle.front_plants.specs.MemoryPlant.{plant_dials, plant_logs, plant_hooks, plant_start, plant_step};
     ghost use Rattle.front_plants.specs.MemoryPlant.{plant_room, plant_fails, plant_calls};
+    ghost use Rattle.front_plants.specs.Plants.{no_faults};
     ghost use Rattle.front_plants.specs.Rooms.{notes_room};
 
     /// A plant that makes its handles of these parts. The handle says in which threads a run over it goes.
@@ -51,7 +52,7 @@ impl<R> MemPlant<R> {
         requires logs { All IsUnusedSink parts.logs.items }
         requires hooks { All IsUnusedDial parts.hooks.items }
         ensures made { IfOk result (λ plant. (plant_tells plant).made ≡ Some []) }
-        ensures faults { IfOk result (λ plant. (plant_tells plant).faults ≡ 0) }
+        ensures faults { IfOk result (λ plant. (plant_tells plant).faults ≡ no_faults) }
         ensures doors { IfOk result (λ plant. (bay : ℕ) → plant_door plant bay ≡ slice_get parts.doors.items bay) }
         ensures due { IfOk result (λ plant. (bay : ℕ) →
             (plant_tells plant).due bay ≡ option_map door_left (slice_get parts.doors.items bay)) }
@@ -91,7 +92,7 @@ impl<R> MemPlant<R> {
 }
 
 impl<R: Threads + Wait + Copy + Drop> Plant for MemPlant<R> {
-    ghost use Rattle.std.specs.Prelude.{◌≡◌, ◌≢◌, ◌≤◌, ◌⊎◌, [], ◌∷◌, ℕ, None, Some, Err, IfOk, IfSome, IsErrOf, OnErr, OnOk, IsFalse, IsTrue, drop};
+    ghost use Rattle.std.specs.Prelude.{◌≡◌, ◌≢◌, ◌≤◌, ◌⊎◌, [], ◌∷◌, ℕ, None, Some, Err, IfOk, IfSome, OnErr, OnOk, IsFalse, IsTrue, drop};
     ghost use Rattle.front_ports.specs.Memory.{bytes_written};
     ghost use Rattle.front_ports.specs.MemoryClock.{clock_start, clock_step, clock_calls, clock_given, clock_last};
     ghost use Rattle.front_ports.specs.MemoryDial.{dial_calls, dial_faults, dial_link_faults};
@@ -110,8 +111,10 @@ impl<R: Threads + Wait + Copy + Drop> Plant for MemPlant<R> {
     ghost use Rattle.front_plants.specs.MemoryPlant.{OnlyNotes, OnlyDoors, OnlyDials, OnlyLogs, OnlyHooks};
     ghost use Rattle.front_plants.specs.MemorySinks.{mem_log_tells, mem_hook_tells, told_openings};
     ghost use Rattle.front_plants.specs.Noted.{LosesPast};
-    ghost use Rattle.front_plants.specs.Plants.{Called, Opened, HasCause};
+    ghost use Rattle.front_plants.specs.Plants.{Called, Opened, HasCause, IfPort};
+    ghost use Rattle.front_plants.specs.declared.failures.TheConstants.{LISTED_ERRNO};
     ghost use Rattle.front_plants.specs.declared.call.PlantCall.TheVariants as calls;
+    ghost use Rattle.front_plants.specs.declared.call.PlantPort.TheVariants as ports;
     ghost use Rattle.front_plants.specs.declared.plant.TheConstants.{MOST_ALLOTTED};
 
     type Rt = R;
@@ -174,6 +177,7 @@ impl<R: Threads + Wait + Copy + Drop> Plant for MemPlant<R> {
     ) -> Result<MemDoor, PlantFail>
         ensures called { Opened (plant_tells self.old) bay (calls.Door listen bay connections ∷ []) (plant_tells self.new) }
         ensures cause { HasCause (plant_tells self.old).faults result (plant_tells self.new).faults }
+        ensures at { IfPort result (λ fault. fault.port ≡ ports.Door) }
         ensures fresh { IfOk result (λ door.
             IsNewDoor (Some (door_given door)) (door_closes door) (door_faults door)) }
         ensures due { IfOk result (λ door. Some (door_left door) ≡ (plant_tells self.old).due bay) }
@@ -187,6 +191,7 @@ impl<R: Threads + Wait + Copy + Drop> Plant for MemPlant<R> {
         // Which calls fail, and how long they are told.
         ensures fails { OnErr result (IsTrue (plant_will_fail self.old) ⊎ (plant_door self.old bay ≡ None)) }
         ensures no_memory { result ≢ Err PlantFail.NoMemory }
+        ensures reason { IfPort result (λ fault. fault.errno ≡ LISTED_ERRNO) }
         ensures opens { OnOk result (IsFalse (plant_will_fail self.old)) }
         ensures counted { plant_calls self.new ≡ next_count (plant_calls self.old) }
         ensures setting { plant_fails self.new ≡ plant_fails self.old }
@@ -195,17 +200,18 @@ impl<R: Threads + Wait + Copy + Drop> Plant for MemPlant<R> {
     {
         self.noted.note(PlantCall::Door(listen, bay, connections));
         if self.failures.count_call() {
-            return Err(self.failures.fault());
+            return Err(self.failures.fault(PlantPort::Door));
         }
         match self.doors.take(bay) {
             Some(door) => Ok(door),
-            None => Err(self.failures.fault()),
+            None => Err(self.failures.fault(PlantPort::Door)),
         }
     }
 
-    fn dial(&mut self, _alloc: Global) -> Result<MemDial, PlantFail>
-        ensures called { Called (plant_tells self.old) (calls.Dial ∷ []) (plant_tells self.new) }
+    fn dial(&mut self, _alloc: Global, bay: u16) -> Result<MemDial, PlantFail>
+        ensures called { Called (plant_tells self.old) (calls.Dial bay ∷ []) (plant_tells self.new) }
         ensures cause { HasCause (plant_tells self.old).faults result (plant_tells self.new).faults }
+        ensures at { IfPort result (λ fault. fault.port ≡ ports.Dial) }
         ensures fresh { IfOk result (λ dial.
             IsNewDial (dial_calls dial) (dial_faults dial) (dial_link_faults dial)) }
 
@@ -214,19 +220,20 @@ impl<R: Threads + Wait + Copy + Drop> Plant for MemPlant<R> {
         ensures kept { OnErr result (plant_dials self.new ≡ plant_dials self.old) }
         ensures fails { OnErr result (IsTrue (plant_will_fail self.old) ⊎ (plant_dials self.old ≡ [])) }
         ensures no_memory { result ≢ Err PlantFail.NoMemory }
+        ensures reason { IfPort result (λ fault. fault.errno ≡ LISTED_ERRNO) }
         ensures opens { OnOk result (IsFalse (plant_will_fail self.old)) }
         ensures counted { plant_calls self.new ≡ next_count (plant_calls self.old) }
         ensures setting { plant_fails self.new ≡ plant_fails self.old }
         ensures told { LosesPast (plant_tells self.old).made (plant_tells self.new).made }
         ensures rest { OnlyDials self.old self.new }
     {
-        self.noted.note(PlantCall::Dial);
+        self.noted.note(PlantCall::Dial(bay));
         if self.failures.count_call() {
-            return Err(self.failures.fault());
+            return Err(self.failures.fault(PlantPort::Dial));
         }
         match self.dials.next() {
             Some(dial) => Ok(dial),
-            None => Err(self.failures.fault()),
+            None => Err(self.failures.fault(PlantPort::Dial)),
         }
     }
 
@@ -259,6 +266,7 @@ impl<R: Threads + Wait + Copy + Drop> Plant for MemPlant<R> {
     fn log(&mut self, alloc: Global, path: &str) -> Result<LogSink<MemBytes, MemNotes>, PlantFail>
         ensures called { Called (plant_tells self.old) (calls.Log path.now ∷ []) (plant_tells self.new) }
         ensures cause { HasCause (plant_tells self.old).faults result (plant_tells self.new).faults }
+        ensures at { IfPort result (λ fault. fault.port ≡ ports.Log) }
         ensures fresh { IfOk result (λ log. IsNewSink (log_opens told_openings) (mem_log_tells log)) }
 
         // It writes to the next of the sinks, and tells its tries while there is room for their notes.
@@ -266,8 +274,8 @@ impl<R: Threads + Wait + Copy + Drop> Plant for MemPlant<R> {
         ensures unwritten { IfOk result (λ log. bytes_written (log_out log) ≡ []) }
         ensures observed { IfOk result (λ log. (mem_log_tells log).tries ≡ Some []) }
         ensures room { IfOk result (λ log. noted_room (log_notes log) ≡ plant_room self.old) }
-        ensures fails { IsErrOf result PlantFail.Port
-            → IsTrue (plant_will_fail self.old) ⊎ (plant_logs self.old ≡ []) }
+        ensures fails { IfPort result (λ _. IsTrue (plant_will_fail self.old) ⊎ (plant_logs self.old ≡ [])) }
+        ensures reason { IfPort result (λ fault. fault.errno ≡ LISTED_ERRNO) }
         ensures opens { OnOk result (IsFalse (plant_will_fail self.old)) }
         ensures counted { plant_calls self.new ≡ next_count (plant_calls self.old) }
         ensures setting { plant_fails self.new ≡ plant_fails self.old }
@@ -282,10 +290,10 @@ impl<R: Threads + Wait + Copy + Drop> Plant for MemPlant<R> {
         };
         self.noted.note(PlantCall::Log(path));
         if listed {
-            return Err(self.failures.fault());
+            return Err(self.failures.fault(PlantPort::Log));
         }
         let Some(out) = self.logs.next() else {
-            return Err(self.failures.fault());
+            return Err(self.failures.fault(PlantPort::Log));
         };
         let Ok(notes) = self.room.notes(alloc) else {
             return Err(PlantFail::NoMemory);
@@ -303,6 +311,7 @@ impl<R: Threads + Wait + Copy + Drop> Plant for MemPlant<R> {
     ) -> Result<WebhookSink<MemDial, MemNotes>, PlantFail>
         ensures called { Called (plant_tells self.old) (calls.Hook url.now ∷ []) (plant_tells self.new) }
         ensures cause { HasCause (plant_tells self.old).faults result (plant_tells self.new).faults }
+        ensures at { IfPort result (λ fault. fault.port ≡ ports.Hook) }
         ensures fresh { IfOk result (λ hook. IsNewSink (hook_opens told_openings url.now) (mem_hook_tells hook)) }
 
         // It dials with the next of the dials, posts to this URL, and tells its tries while there is room for their notes.
@@ -311,8 +320,9 @@ impl<R: Threads + Wait + Copy + Drop> Plant for MemPlant<R> {
         ensures url { IfOk result (λ hook. hook_named url.now ≡ Some (hook_url hook)) }
         ensures observed { IfOk result (λ hook. (mem_hook_tells hook).tries ≡ Some []) }
         ensures room { IfOk result (λ hook. noted_room (hook_notes hook) ≡ plant_room self.old) }
-        ensures fails { IsErrOf result PlantFail.Port
-            → IsTrue (plant_will_fail self.old) ⊎ ((plant_hooks self.old ≡ []) ⊎ (hook_named url.now ≡ None)) }
+        ensures fails { IfPort result (λ _.
+            IsTrue (plant_will_fail self.old) ⊎ ((plant_hooks self.old ≡ []) ⊎ (hook_named url.now ≡ None))) }
+        ensures reason { IfPort result (λ fault. fault.errno ≡ LISTED_ERRNO) }
         ensures opens { OnOk result (IsFalse (plant_will_fail self.old)) }
         ensures counted { plant_calls self.new ≡ next_count (plant_calls self.old) }
         ensures setting { plant_fails self.new ≡ plant_fails self.old }
@@ -327,17 +337,17 @@ impl<R: Threads + Wait + Copy + Drop> Plant for MemPlant<R> {
         };
         self.noted.note(PlantCall::Hook(text));
         if listed {
-            return Err(self.failures.fault());
+            return Err(self.failures.fault(PlantPort::Hook));
         }
         let Some(dial) = self.hooks.next() else {
-            return Err(self.failures.fault());
+            return Err(self.failures.fault(PlantPort::Hook));
         };
         let Ok(notes) = self.room.notes(alloc) else {
             return Err(PlantFail::NoMemory);
         };
         match WebhookSink::start(alloc, url, dial, notes) {
             Ok(hook) => Ok(hook),
-            Err(HookFault::BadUrl) => Err(self.failures.fault()),
+            Err(HookFault::BadUrl) => Err(self.failures.fault(PlantPort::Hook)),
             Err(HookFault::NoMemory) => Err(PlantFail::NoMemory),
         }
     }

@@ -1,7 +1,8 @@
 ghost use Rattle.std.specs.Prelude.{◌≡◌, ◌≤◌, [], ◌∷◌, ℕ, IfOk, IfSome};
 ghost use Rattle.front_plants.specs.Fresh.{IsNewDoor, IsNewDial, IsNewSink, IsNewClock, Openings, log_opens, hook_opens};
-ghost use Rattle.front_plants.specs.Plants.{PlantTells, Called, Opened, HasCause};
+ghost use Rattle.front_plants.specs.Plants.{PlantTells, Called, Opened, HasCause, IfPort};
 ghost use Rattle.front_plants.specs.declared.call.PlantCall.TheVariants as calls;
+ghost use Rattle.front_plants.specs.declared.call.PlantPort.TheVariants as ports;
 ghost use Rattle.front_plants.specs.declared.plant.TheConstants.{MOST_ALLOTTED};
 
 use crate::call::PlantFail;
@@ -33,7 +34,7 @@ pub trait Plant {
     /// The audit webhook.
     type H: BatchSink + Drop;
 
-    /// Its calls, the connections that the doors to come will give, and how often a call failed.
+    /// Its calls, the connections that the doors to come will give, how often a call failed, and which one failed last.
     ghost tells: { Self → PlantTells Self.D.C };
 
     /// What its new logs and webhooks tell of the bytes that their ports were given.
@@ -61,13 +62,16 @@ pub trait Plant {
     ) -> Result<Self::D, PlantFail>
         ensures called { Opened (tells self.old) bay (calls.Door listen bay connections ∷ []) (tells self.new) }
         ensures cause { HasCause (tells self.old).faults result (tells self.new).faults }
+        ensures at { IfPort result (λ fault. fault.port ≡ ports.Door) }
         ensures fresh { IfOk result (λ door.
             IsNewDoor (Self.D.given door) (Self.D.closes door) (Self.D.faults door)) }
         ensures due { IfOk result (λ door. Self.D.left door ≡ (tells self.old).due bay) };
 
-    fn dial(&mut self, alloc: Global) -> Result<Self::L, PlantFail>
-        ensures called { Called (tells self.old) (calls.Dial ∷ []) (tells self.new) }
+    /// What this bay opens its links with.
+    fn dial(&mut self, alloc: Global, bay: u16) -> Result<Self::L, PlantFail>
+        ensures called { Called (tells self.old) (calls.Dial bay ∷ []) (tells self.new) }
         ensures cause { HasCause (tells self.old).faults result (tells self.new).faults }
+        ensures at { IfPort result (λ fault. fault.port ≡ ports.Dial) }
         ensures fresh { IfOk result (λ dial.
             IsNewDial (Self.L.calls dial) (Self.L.faults dial) (Self.L.link_faults dial)) };
 
@@ -85,11 +89,13 @@ pub trait Plant {
     fn log(&mut self, alloc: Global, path: &str) -> Result<Self::W, PlantFail>
         ensures called { Called (tells self.old) (calls.Log path.now ∷ []) (tells self.new) }
         ensures cause { HasCause (tells self.old).faults result (tells self.new).faults }
+        ensures at { IfPort result (λ fault. fault.port ≡ ports.Log) }
         ensures fresh { IfOk result (λ log. IsNewSink (log_opens opens) (Self.W.tells log)) };
 
     /// The webhook at this URL. One that no webhook can have is a failed call.
     fn hook(&mut self, alloc: Global, url: &str) -> Result<Self::H, PlantFail>
         ensures called { Called (tells self.old) (calls.Hook url.now ∷ []) (tells self.new) }
         ensures cause { HasCause (tells self.old).faults result (tells self.new).faults }
+        ensures at { IfPort result (λ fault. fault.port ≡ ports.Hook) }
         ensures fresh { IfOk result (λ hook. IsNewSink (hook_opens opens url.now) (Self.H.tells hook)) };
 }

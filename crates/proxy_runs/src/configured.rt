@@ -32,7 +32,7 @@ pub fn can_run(words: &ServeWords) -> bool
 
 /// Runs what words ask for, by these settings, over a plant whose doors listen at this address, with these routes, one for each bay.
 ///
-/// It ends once every bay has stopped, and all that was accepted is put before it ends. After `PortFault` and `NoMemory` without bays
+/// It ends once every bay has stopped, and all that was accepted is put before it ends. After `Unopened` and `NoMemory`
 /// nothing ran.
 pub fn run_configured<P: Plant + Send, R: Routes + Drop + Send>(
     rt: &P::Rt,

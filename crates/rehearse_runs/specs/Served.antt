@@ -2,7 +2,7 @@
 use Rattle.std.specs.Prelude.{◌≡◌, ℕ, List, [], All, Some, IfSome, slice_get}
 use Rattle.apiservice_table.specs.declared.table_routes.TableRoutes.{TableRoutes}
 use Rattle.front_plants.specs.MemorySinks.{told_openings}
-use Rattle.front_plants.specs.Plants.{PlantTells}
+use Rattle.front_plants.specs.Plants.{PlantTells, no_faults}
 use Rattle.front_ports.specs.declared.mem_bytes.MemBytes.{MemBytes}
 use Rattle.front_ports.specs.declared.mem_clock.MemClock.{MemClock}
 use Rattle.front_ports.specs.declared.mem_dial.MemDial.{MemDial}
@@ -36,7 +36,7 @@ pub record WasServed (T : Type 0) (bays : ℕ) (plan : Asked) (ended : MemEnded)
   pub opens : All (Opens (words_of plan.count bays)) tables
   pub before : PlantTells MemConn
   pub after : PlantTells MemConn
-  pub unused : (before.made ≡ Some []) × (before.faults ≡ 0)
+  pub unused : (before.made ≡ Some []) × (before.faults ≡ no_faults)
   pub sent : IsDue plan.start plan.count bays before.due
   pub run : RunServed mem_handles T (settings_of config.words config.loaded) (options_of config.words config.words.listen) told_openings
       before after tables ended

@@ -1,6 +1,7 @@
 // The plant of a rehearsal: what clients send, what the delegate replies, and how the webhook's peer answers.
 ghost use Rattle.std.specs.Prelude.{◌≡◌, ◌≤◌, ◌<◌, ◌+◌, ◌*◌, [], ◌∷◌, Some, IfOk, OnOk, length, All, slice_get, option_map};
 ghost use Rattle.front_plants.specs.MemoryPlant.{plant_tells};
+ghost use Rattle.front_plants.specs.Plants.{no_faults};
 ghost use Rattle.front_plants.specs.Unused.{IsUnusedDoor, IsUnusedDial};
 ghost use Rattle.front_ports.specs.Memory.{IsUnused, duplex_left};
 ghost use Rattle.front_ports.specs.MemoryDoor.{door_left};
@@ -162,7 +163,7 @@ fn room(plan: Rehearsal) -> NotesRoom {
 /// All moments are the first one.
 pub fn rehearsal_plant<R>(rt: &R, alloc: Global, plan: Rehearsal) -> Result<MemPlant<R>, NoMemory>
     ensures sent { IfOk result (λ plant. spec.IsDue plan.start plan.count plan.bays (plant_tells plant).due) }
-    ensures unused { IfOk result (λ plant. ((plant_tells plant).made ≡ Some []) × ((plant_tells plant).faults ≡ 0)) }
+    ensures unused { IfOk result (λ plant. ((plant_tells plant).made ≡ Some []) × ((plant_tells plant).faults ≡ no_faults)) }
 {
     let parts = MemParts {
         boot: 0,

@@ -8,7 +8,7 @@ use Rattle.serve_roles.specs.declared.bay_end.BayEnd.{BayEnd}
 use Rattle.serve_runs.specs.Status.{any_fault, status_of, stops_of}
 use Rattle.serve_runs.specs.declared.ended.RunStatus.TheVariants as run_status
 
-not_done : (fault : Bool) → (if fault then run_status.PortFault else run_status.NumbersSpent) ≡ run_status.Done → ⊥
+not_done : (fault : Bool) → (if fault then run_status.DoorFault else run_status.NumbersSpent) ≡ run_status.Done → ⊥
 not_done true e = cc
 not_done false e = cc
 

@@ -6,7 +6,7 @@ use Rattle.front_plants.specs.declared.call.PlantCall.TheVariants.{Dial, Door, C
 
 -- a bay's dial, its door at that address, its clock and its diary
 abbrev pub bay_calls : Address → ℕ → ℕ → List PlantCall
-bay_calls listen connections bay = Dial ∷ Door listen bay connections ∷ Clock ∷ Diary ∷ []
+bay_calls listen connections bay = Dial bay ∷ Door listen bay connections ∷ Clock ∷ Diary ∷ []
 
 -- those of so many bays, from this one on
 abbrev pub bays_calls : Address → ℕ → ℕ → ℕ → List PlantCall

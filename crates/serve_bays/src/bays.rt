@@ -67,7 +67,7 @@ fn make_bay<P: Plant, R: Routes + Drop>(
         return Err(PlantFail::NoMemory);
     };
     calls_join();
-    let dial = plant.dial(alloc)?;
+    let dial = plant.dial(alloc, lanes.bay)?;
     let door = plant.door(alloc, options.listen, lanes.bay, options.connections)?;
     let clock = plant.clock();
     let diary = plant.diary(alloc);

@@ -1,18 +1,18 @@
 -- Why nothing ran.
-use Rattle.std.specs.Prelude.{◌≡◌, ℕ, []}
+use Rattle.std.specs.Prelude.{◌≡◌, []}
 use Rattle.audit_core.specs.declared.settings.Settings.{Settings}
-use Rattle.front_plants.specs.Plants.{PlantTells}
+use Rattle.front_plants.specs.Plants.{PlantTells, PlantFaults, Failed}
 use Rattle.plant_lanes.specs.declared.options.RunOptions.{RunOptions}
 use Rattle.serve_runs.specs.Made.{RunCallsPart}
 use Rattle.serve_runs.specs.declared.ended.Ended.{Ended}
 use Rattle.serve_runs.specs.declared.ended.RunStatus.{RunStatus}
-use Rattle.serve_runs.specs.declared.ended.RunStatus.TheVariants.{Done, PortFault, NoMemory, NumbersSpent}
-use Rattle.truncate_backend.specs.Told.{Rises}
+use Rattle.serve_runs.specs.declared.ended.RunStatus.TheVariants.{Done, Unopened, DoorFault, NoMemory, NumbersSpent}
 
--- a call of the plant failed, which it counted, or memory ran out
-abbrev pub NoRun : ℕ → ℕ → RunStatus → Type 0
+-- this call of the plant failed last, which it counted, or memory ran out
+abbrev pub NoRun : PlantFaults → PlantFaults → RunStatus → Type 0
 NoRun before after Done = ⊥
-NoRun before after PortFault = Rises before after
+NoRun before after (Unopened fault) = Failed before fault after
+NoRun before after DoorFault = ⊥
 NoRun before after NoMemory = after ≡ before
 NoRun before after NumbersSpent = ⊥
 

@@ -21,7 +21,7 @@ any_spent (DoorFault ∷ stops) = any_spent stops
 -- a door's fault comes before spent numbers
 abbrev pub status_of : List BayStop → RunStatus
 status_of stops =
-    (if any_fault stops then run_status.PortFault else (if any_spent stops then run_status.NumbersSpent else run_status.Done))
+    (if any_fault stops then run_status.DoorFault else (if any_spent stops then run_status.NumbersSpent else run_status.Done))
 
 abbrev pub stops_of : {R L K Y D : Type 0} → List (BayEnd R L K Y D) → List BayStop
 stops_of ends = map (λ end. end.stop) ends

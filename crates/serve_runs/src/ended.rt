@@ -1,3 +1,4 @@
+use front_plants::PlantFault;
 use serve_roles::BayEnd;
 use sink_lanes::SinkEnd;
 
@@ -6,8 +7,10 @@ use sink_lanes::SinkEnd;
 pub enum RunStatus {
     /// Every bay stopped since its door gave no more connections.
     Done,
-    /// A call of the plant failed before any bay served, or a bay's door failed.
-    PortFault,
+    /// This call of the plant failed, and no bay served.
+    Unopened(PlantFault),
+    /// A bay's door failed.
+    DoorFault,
     /// Memory ran out before any bay served.
     NoMemory,
     /// No door failed, and a bay had no number for one more request.

@@ -105,7 +105,7 @@ pub fn nothing_ran<R, L, W, H, K, Y, D>(
 /// that they offer. There is a table of routes for each bay.
 ///
 /// It ends once every bay has stopped: where its door gives no more connections or fails, or where the bay has no number for one
-/// more request. All that was accepted is put before it ends. After `PortFault` and `NoMemory` without bays nothing ran.
+/// more request. All that was accepted is put before it ends. After `Unopened` and `NoMemory` nothing ran.
 pub fn run_serve<P: Plant + Send, R: Routes + Drop + Send>(
     rt: &P::Rt,
     alloc: Global,
@@ -134,7 +134,7 @@ where
 {
     match serve(rt, alloc, settings, paths, options, routes, plant) {
         Ok(ended) => ended,
-        Err(PlantFail::Port) => nothing_ran(alloc, RunStatus::PortFault),
+        Err(PlantFail::Port(fault)) => nothing_ran(alloc, RunStatus::Unopened(fault)),
         Err(PlantFail::NoMemory) => nothing_ran(alloc, RunStatus::NoMemory),
     }
 }

@@ -36,7 +36,7 @@ pub(crate) fn status_of<R, L, K, Y, D>(bays: &[BayEnd<R, L, K, Y, D>]) -> RunSta
     ensures { result ≡ spec.status_of (spec.stops_of bays.now) }
 {
     if any_failed(bays) {
-        RunStatus::PortFault
+        RunStatus::DoorFault
     } else if any_spent(bays) {
         RunStatus::NumbersSpent
     } else {

@@ -21,7 +21,7 @@ use std::alloc::Global;
 /// Runs what words ask for, by these settings, over a plant whose doors listen at this address, with one table for all bays, whose
 /// history has this name.
 ///
-/// It ends once every bay has stopped, and all that was accepted is put before it ends. After `PortFault` and `NoMemory` without bays
+/// It ends once every bay has stopped, and all that was accepted is put before it ends. After `Unopened` and `NoMemory`
 /// nothing ran.
 pub fn run_shared<N: RouteName + Send + Sync, P: Plant + Send>(
     rt: &P::Rt,

@@ -14,6 +14,6 @@ clock_last clock = clock.last
 abbrev pub file_faults : {R : Type 0} → LogFile R → ℕ
 file_faults file = file.faults
 
--- what a plant tells: how many of its calls failed, and nothing else
+-- what a plant tells: how many of its calls failed, which was the last of these, and nothing else
 abbrev pub plant_tells : {R : Type 0} → TcpPlant R → PlantTells (TcpConn R)
-plant_tells plant = record { made = None; due = λ _. None; faults = plant.faults }
+plant_tells plant = record { made = None; due = λ _. None; faults = record { count = plant.faults; last = plant.last } }

@@ -115,7 +115,7 @@ impl TcpGate {
     }
 
     // Whom this bay serves.
-    pub(crate) fn client(&self, bay: u64) -> Option<&ServedClient> {
-        self.clients.get(bay as usize)
+    pub(crate) fn client(&self, bay: u16) -> Option<&ServedClient> {
+        self.clients.get(usize::from(bay))
     }
 }

@@ -1,5 +1,5 @@
 ghost use Rattle.std.specs.Prelude.{◌≡◌, None, Some, IfOk};
-ghost use Rattle.truncate_backend.specs.Told.{Rises};
+ghost use Rattle.front_plants.specs.Plants.{Failed, no_faults};
 ghost use Rattle.front_plants.specs.declared.call.PlantFail.TheVariants.{Port};
 ghost use Rattle.front_plants.specs.declared.plant.TheConstants.{MOST_ALLOTTED};
 ghost use Rattle.tcp_plant.specs.Handles.{plant_tells};
@@ -10,7 +10,7 @@ use crate::log_file::LogFile;
 use crate::sink_diary::SinkDiary;
 use crate::sink_notes::SinkNotes;
 use front_base::Address;
-use front_plants::{MOST_ALLOTTED, Plant, PlantFail};
+use front_plants::{MOST_ALLOTTED, Plant, PlantFail, PlantFault, PlantPort};
 use log_sink::LogSink;
 use std::alloc::Global;
 use std::fs::File;
@@ -20,19 +20,21 @@ use std::random::RandomSource;
 use std::sync::Wait;
 use std::thread::Threads;
 use std::{io, rt};
+use system_errors::number_of;
 use tcp_ports::{TcpDial, TcpDoor};
 use webhook_sink::{HookFault, WebhookSink};
 
-/// A plant whose handles are sockets, files and the system's clock. It counts the calls whose port failed, and tells no more.
+/// A plant whose handles are sockets, files and the system's clock. It counts the calls whose port failed, knows the last of
+/// these, and tells no more.
 #[derive(Drop)]
 pub struct TcpPlant<'b, R> {
     rt: &'b R,
     gate: &'b TcpGate,
     boot: u64,
-    // How many doors and dials it made.
+    // How many doors it made.
     doors: u64,
-    dials: u64,
     faults: u64,
+    last: Option<PlantFault>,
 }
 
 // A word of the system's chance.
@@ -47,25 +49,27 @@ impl<'b, R> TcpPlant<'b, R> {
     pub fn new(rt: &'b R, gate: &'b TcpGate) -> io::Result<TcpPlant<'b, R>>
     where
         R: RandomSource,
-        ensures { IfOk result (λ plant. (plant_tells plant).faults ≡ 0) }
+        ensures { IfOk result (λ plant. (plant_tells plant).faults ≡ no_faults) }
     {
         Ok(TcpPlant {
             rt,
             gate,
             boot: boot_word(rt)?,
             doors: 0,
-            dials: 0,
             faults: 0,
+            last: None,
         })
     }
 
     // Counts a call whose port failed.
-    fn fault(&mut self) -> PlantFail
-        ensures port { result ≡ Port }
-        ensures counted { Rises (plant_tells self.old).faults (plant_tells self.new).faults }
+    fn fault(&mut self, port: PlantPort, errno: i32) -> PlantFail
+        ensures port { result ≡ Port (record { port = port; errno = errno }) }
+        ensures counted { Failed (plant_tells self.old).faults (record { port = port; errno = errno }) (plant_tells self.new).faults }
     {
+        let fault = PlantFault { port, errno };
         self.faults = self.faults.saturating_add(1);
-        PlantFail::Port
+        self.last = Some(fault);
+        PlantFail::Port(fault)
     }
 }
 
@@ -107,7 +111,8 @@ impl<
         MOST_ALLOTTED
     }
 
-    /// The door of this bay, at the gate's own address. Another address, and a bay past those of the gate, is a fault.
+    /// The door of this bay, at the gate's own address. Another address is a fault, as not one of this machine, and so is a bay past those
+    /// of the gate, as an invalid argument.
     fn door(
         &mut self,
         _alloc: Global,
@@ -118,20 +123,21 @@ impl<
         let gate = self.gate;
         self.doors = self.doors.saturating_add(1);
         if listen != gate.address() {
-            return Err(self.fault());
+            return Err(self.fault(PlantPort::Door, libc::EADDRNOTAVAIL));
         }
-        match gate.client(u64::from(bay)) {
+        match gate.client(bay) {
             Some(client) => Ok(TcpDoor::new(self.rt, &gate.listener, client, connections)),
-            None => Err(self.fault()),
+            None => Err(self.fault(PlantPort::Door, libc::EINVAL)),
         }
     }
 
-    /// The k-th dial is that of bay k, whose links end with the client that its door gave.
-    fn dial(&mut self, _alloc: Global) -> Result<TcpDial<'b, R>, PlantFail> {
+    /// The links of this bay end with the client that its door gave. A bay past those of the gate is a fault, as an invalid argument.
+    fn dial(&mut self, _alloc: Global, bay: u16) -> Result<TcpDial<'b, R>, PlantFail> {
         let gate = self.gate;
-        let client = gate.client(self.dials).unwrap_or(&gate.nobody);
-        self.dials = self.dials.saturating_add(1);
-        Ok(TcpDial::new(self.rt, &gate.listener, client, &gate.backends))
+        match gate.client(bay) {
+            Some(client) => Ok(TcpDial::new(self.rt, &gate.listener, client, &gate.backends)),
+            None => Err(self.fault(PlantPort::Dial, libc::EINVAL)),
+        }
     }
 
     /// The clocks that are asked for before the first door are those of drainers.
@@ -156,10 +162,7 @@ impl<
         let share = &self.gate.log;
         let file = match LogFile::open(self.rt, alloc, path, share) {
             Ok(file) => file,
-            Err(error) => {
-                share.fail(&error);
-                return Err(self.fault());
-            }
+            Err(error) => return Err(self.fault(PlantPort::Log, number_of(&error))),
         };
         match LogSink::start(alloc, file, SinkNotes::new(self.rt, share)) {
             Ok(log) => Ok(log),
@@ -167,6 +170,7 @@ impl<
         }
     }
 
+    /// The webhook at this URL. One that no webhook can have is a fault, as an invalid argument.
     fn hook(
         &mut self,
         alloc: Global,
@@ -177,7 +181,7 @@ impl<
         let dial = TcpDial::new(self.rt, &gate.listener, &gate.nobody, &share.dial_fault);
         match WebhookSink::start(alloc, url, dial, SinkNotes::new(self.rt, share)) {
             Ok(hook) => Ok(hook),
-            Err(HookFault::BadUrl) => Err(self.fault()),
+            Err(HookFault::BadUrl) => Err(self.fault(PlantPort::Hook, libc::EINVAL)),
             Err(HookFault::NoMemory) => Err(PlantFail::NoMemory),
         }
     }

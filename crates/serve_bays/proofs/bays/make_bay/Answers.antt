@@ -7,7 +7,7 @@ pub returns-clause-called : goal.returns-clause-called
 returns-clause-called g c =
     let join = c.calls_join.ensures.join in
     let o = c.args.options.now in
-    join _ _ _ (Dial ∷ []) (Door o.listen c.args.lanes.bay o.connections ∷ Clock ∷ Diary ∷ []) c.in_ok-dial.ensures.called.made
+    join _ _ _ (Dial c.args.lanes.bay ∷ []) (Door o.listen c.args.lanes.bay o.connections ∷ Clock ∷ Diary ∷ []) c.in_ok-dial.ensures.called.made
     (join _ _ _ (Door o.listen c.args.lanes.bay o.connections ∷ []) (Clock ∷ Diary ∷ []) c.in_ok-door.ensures.called.made
     (join _ _ _ (Clock ∷ []) (Diary ∷ []) c.clock-clock.ensures.called.made c.diary-diary.ensures.called.made))
 
@@ -16,5 +16,5 @@ returns-in_err-door-clause-stopped g c =
     let part = c.calls_in_part.ensures in
     let o = c.args.options.now in
     let door = Door o.listen c.args.lanes.bay o.connections in
-    on_err _ _ (part.more _ _ _ (Dial ∷ []) (door ∷ Clock ∷ Diary ∷ []) c.in_ok-dial.ensures.called.made
+    on_err _ _ (part.more _ _ _ (Dial c.args.lanes.bay ∷ []) (door ∷ Clock ∷ Diary ∷ []) c.in_ok-dial.ensures.called.made
     (part.less _ _ (door ∷ []) (Clock ∷ Diary ∷ []) (part.whole _ _ (door ∷ []) c.in_err-door.ensures.called.made)))
