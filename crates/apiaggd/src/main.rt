@@ -1,34 +1,23 @@
 //! `apiaggd`, a front door of a cluster API with audit. The top calls are those of `proxy_server`, `shared_runs` and
-//! `rehearse_runs`; here are the handles of this process, and the status.
+//! `rehearse_runs`; here are the handles of this process, and how it ends.
 #![tactic(auto)]
 
 mod ending;
 mod rehearse;
+mod running;
 mod serve;
 mod start;
 mod streams;
 
 use command_options::Asked;
-use ending::{Ending, finish};
+use ending::finish;
 use explain_command::{VERSION, checked, explained, finish_told, help_on, print_text, words_of};
-use proxy_server::Status;
 use rehearse::rehearsed;
-use serve::{Ready, can_serve, ending_of, left_of, port_fault, prepare};
-use shared_runs::run_shared;
-use std::marker::Brand;
+use running::{no_boot_word, run_over};
+use serve::{Ready, prepare};
 use std::process::ExitCode;
 use streams::hold_streams;
 use tcp_plant::TcpPlant;
-
-// What words ask for other than to serve.
-fn other(rt: &HostRuntime, asked: Asked, words: &Vec<String>) -> ExitCode {
-    match asked {
-        Asked::Help(topic) => print_text(rt, help_on(topic)),
-        Asked::Version => print_text(rt, VERSION),
-        Asked::Check => checked(rt, words),
-        _ => explained(rt, words),
-    }
-}
 
 fn main(rt: HostRuntime) -> ExitCode {
     let _streams = hold_streams(&rt);
@@ -36,39 +25,27 @@ fn main(rt: HostRuntime) -> ExitCode {
         Ok(words) => words,
         Err(ended) => return finish_told(&rt, &[], &ended, None),
     };
-    match Asked::of(words.as_slice()) {
-        Asked::Serve => {}
+    let ready = match Asked::of(words.as_slice()) {
+        Asked::Help(topic) => return print_text(&rt, help_on(topic)),
+        Asked::Version => return print_text(&rt, VERSION),
+        Asked::Explain | Asked::Unknown => return explained(&rt, &words),
+        Asked::Check => return checked(&rt, &words),
         Asked::Rehearse => return rehearsed(&rt, &rt, &words),
-        asked => return other(&rt, asked, &words),
-    }
+        Asked::Serve => prepare(&rt, &rt, &words),
+    };
     let Ready {
         words: told,
         settings,
         routes,
         gate,
         watcher,
-    } = match prepare(&rt, &rt, &words) {
+    } = match ready {
         Ok(ready) => ready,
         Err(code) => return code,
     };
-    let at = gate.address();
-    let ending = if !can_serve(&told, &settings) {
-        Ending::of(Status::Configuration)
-    } else if let Ok(mut plant) = TcpPlant::new(&rt, &gate) {
-        let ended = run_shared::<Brand, TcpPlant<HostRuntime>>(
-            &rt,
-            rt.alloc(),
-            &told,
-            settings,
-            at,
-            routes,
-            &mut plant,
-        );
-        let (log, hook) = (gate.log().counts(), gate.hook().counts());
-        let left = left_of(rt.alloc(), &told, ended, log, hook);
-        ending_of(&rt, &told, &gate, &left)
-    } else {
-        port_fault(None)
+    let ending = match TcpPlant::new(&rt, &gate) {
+        Ok(mut plant) => run_over(&rt, &rt, &told, settings, routes, &gate, &mut plant),
+        Err(error) => no_boot_word(rt.alloc(), &error),
     };
     gate.close();
     watcher.join(&rt);

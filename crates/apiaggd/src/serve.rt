@@ -1,22 +1,15 @@
 // The command `serve`, over this process's sockets, files and threads.
-ghost use Rattle.std.specs.Prelude.{◌≡◌, ◌≤◌, true};
-ghost use Rattle.front_base.specs.declared.address.Address.{Address};
-ghost use Rattle.front_base.specs.declared.line.TheConstants.{MOST_LINE_BYTES};
-ghost use Rattle.plant_lanes.specs.Options.{AreFit};
-ghost use Rattle.proxy_runs.specs.Setup.{options_of};
-
 use crate::ending::{Ending, finish};
-use crate::start::{shortage, threads_of, watch};
+use crate::start::{threads_of, watch};
 use audit_core::Settings;
 use explain_command::finish_told;
-use front_base::{Address, MOST_LINE_BYTES};
+use front_base::Address;
 use policy_rules::Policy;
-use proxy_runs::{can_run, settings_of};
+use proxy_runs::settings_of;
 use proxy_server::{Status, SystemFiles};
 use route_history::NewRoutes;
 use serve_config::{ServeConfig, configure_serve};
-use serve_report::{begun_text, ended_text, size_warning, strict_warnings};
-use serve_runs::{Ended, RunStatus};
+use serve_report::{begun_text, size_warning, strict_warnings};
 use serve_words::{ServeWords, SinkWords};
 use std::alloc::Global;
 use std::io::Read;
@@ -26,7 +19,7 @@ use std::sync::Arc;
 use std::thread::{JoinHandle, Threads};
 use std::{io, thread};
 use system_errors::reason_of;
-use tcp_plant::{SinkCounts, TcpGate};
+use tcp_plant::TcpGate;
 use warned_files::WarnedFiles;
 
 // Closes the gate once the reader ends or fails.
@@ -46,16 +39,7 @@ fn watch_input<R: Threads>(host: HostRuntime, rt: &R, gate: Arc<TcpGate>) -> boo
     thread::spawn(rt, move || close_at_end(&mut host.stdin(), &gate)).is_ok()
 }
 
-fn status_of(status: RunStatus) -> Status {
-    match status {
-        RunStatus::Done => Status::Done,
-        RunStatus::PortFault => Status::PortFault,
-        RunStatus::NoMemory => Status::NoMemory,
-        RunStatus::NumbersSpent => Status::NumbersSpent,
-    }
-}
-
-fn no_memory() -> Ending {
+pub fn no_memory() -> Ending {
     Ending::of(Status::NoMemory)
 }
 
@@ -70,14 +54,14 @@ fn no_thread(alloc: Global) -> Ending {
     port_fault(String::from_str(alloc, "threads: none could be started").ok())
 }
 
-fn target(sink: &SinkWords) -> &str {
+pub fn target(sink: &SinkWords) -> &str {
     match &sink.target {
         Some(target) => target.as_str(),
         None => "none",
     }
 }
 
-fn address_text(alloc: Global, at: Address) -> Option<String> {
+pub fn address_text(alloc: Global, at: Address) -> Option<String> {
     let [a, b, c, d] = at.ip;
     let port = at.port;
     format!(in alloc; "--listen={a}.{b}.{c}.{d}:{port}").ok()
@@ -114,70 +98,6 @@ fn open_gate<R: Net<Listener = TcpListener, Stream = TcpStream>>(
         Err(error) if error.kind() == io::ErrorKind::OutOfMemory => Err(no_memory()),
         Err(error) => Err(unopened(alloc, words.listen, &error)),
     }
-}
-
-/// Whether a run may have these numbers. Those that `serve` is configured with are such.
-pub fn can_serve(words: &ServeWords, settings: &Settings) -> bool
-    ensures options { (listen : Address) → result ≡ true → AreFit (options_of words.now listen) }
-    ensures max { result ≡ true → settings.now.max_event ≤ MOST_LINE_BYTES }
-{
-    if !can_run(words) {
-        return false;
-    }
-    settings.max_event <= MOST_LINE_BYTES
-}
-
-// Why nothing ran, though its address was open: the log is what can't be opened then.
-fn unopened_log(alloc: Global, words: &ServeWords, gate: &TcpGate) -> Option<String> {
-    let reason = gate.log().reason().unwrap_or("could not be opened");
-    let path = target(&words.log);
-    format!(in alloc; "--audit-log-path={path}: {reason}").ok()
-}
-
-/// What is known of a run that ended.
-#[derive(Drop)]
-pub struct Left {
-    status: RunStatus,
-    // Whether any bay ran.
-    ran: bool,
-    // What it came to, in words.
-    text: Option<String>,
-}
-
-/// What is known of a run of which this is left, whose sinks counted so.
-pub fn left_of<R: Drop, L: Drop, W: Drop, H: Drop, K: Drop, Y: Drop, D: Drop>(
-    alloc: Global,
-    words: &ServeWords,
-    ended: Ended<R, L, W, H, K, Y, D>,
-    log: SinkCounts,
-    hook: SinkCounts,
-) -> Left {
-    Left {
-        status: ended.status,
-        ran: !ended.bays.is_empty(),
-        text: ended_text(alloc, words, &ended, log, hook).ok(),
-    }
-}
-
-/// How a run ended of which this is known. Says what it came to, where anything ran.
-pub fn ending_of(host: &HostRuntime, words: &ServeWords, gate: &TcpGate, left: &Left) -> Ending {
-    let alloc = host.alloc();
-    if let Some(why) = shortage(alloc, gate, threads_of(words)) {
-        return port_fault(Some(why));
-    }
-    let status = status_of(left.status);
-    if !left.ran {
-        let why = match status {
-            Status::PortFault => unopened_log(alloc, words, gate),
-            _ => None,
-        };
-        return Ending { status, why };
-    }
-    if let Some(text) = &left.text {
-        let text = text.as_str();
-        let _ = eprint!(host; "{text}");
-    }
-    Ending::of(status)
 }
 
 fn say_warnings(host: &HostRuntime, words: &ServeWords, policy: &Policy) {

@@ -136,8 +136,8 @@ impl SinkShare {
         }
     }
 
-    /// Why a call on its file failed last, where one did.
-    pub fn reason(&self) -> Option<&'static str> {
+    // Why a call on its file failed last, where one did.
+    fn reason(&self) -> Option<&'static str> {
         reason_of_number(self.error.load(Ordering::SeqCst))
     }
 

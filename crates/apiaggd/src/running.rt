@@ -1,0 +1,150 @@
+// A run of `serve` over the handles of this process, and what is said of it.
+ghost use Rattle.std.specs.Prelude.{◌≡◌, ◌≤◌, true};
+ghost use Rattle.front_base.specs.declared.address.Address.{Address};
+ghost use Rattle.front_base.specs.declared.line.TheConstants.{MOST_LINE_BYTES};
+ghost use Rattle.plant_lanes.specs.Options.{AreFit};
+ghost use Rattle.proxy_runs.specs.Setup.{options_of};
+
+use crate::ending::Ending;
+use crate::serve::{address_text, no_memory, port_fault, target};
+use crate::start::{shortage, threads_of};
+use audit_core::Settings;
+use front_base::MOST_LINE_BYTES;
+use front_plants::{Plant, PlantFault, PlantPort};
+use front_ports::{Dial, Door};
+use proxy_runs::can_run;
+use proxy_server::Status;
+use route_history::NewRoutes;
+use serve_report::ended_text;
+use serve_runs::{Ended, RunStatus};
+use serve_words::ServeWords;
+use shared_runs::run_shared;
+use std::alloc::Global;
+use std::io;
+use std::marker::Brand;
+use system_errors::{reason_of, reason_of_number};
+use tcp_plant::{SinkCounts, TcpGate};
+
+// Whether a run may have these numbers. Those that `serve` is configured with are such.
+fn can_serve(words: &ServeWords, settings: &Settings) -> bool
+    ensures options { (listen : Address) → result ≡ true → AreFit (options_of words.now listen) }
+    ensures max { result ≡ true → settings.now.max_event ≤ MOST_LINE_BYTES }
+{
+    if !can_run(words) {
+        return false;
+    }
+    settings.max_event <= MOST_LINE_BYTES
+}
+
+// What a call of the plant would have opened, as the words say it.
+fn place_of(alloc: Global, words: &ServeWords, port: PlantPort) -> Option<String> {
+    let (log, hook) = (target(&words.log), target(&words.webhook));
+    match port {
+        PlantPort::Door => address_text(alloc, words.listen),
+        PlantPort::Dial => String::from_str(alloc, "links to backends").ok(),
+        PlantPort::Log => format!(in alloc; "--audit-log-path={log}").ok(),
+        PlantPort::Hook => format!(in alloc; "--audit-webhook-url={hook}").ok(),
+    }
+}
+
+// What the plant could not open, with the system's reason.
+fn why_unopened(alloc: Global, words: &ServeWords, fault: PlantFault) -> Option<String> {
+    let reason = reason_of_number(fault.errno).unwrap_or("could not be opened");
+    match place_of(alloc, words, fault.port) {
+        Some(place) => format!(in alloc; "{}: {reason}", place.as_str()).ok(),
+        None => None,
+    }
+}
+
+fn ending_by(alloc: Global, words: &ServeWords, status: RunStatus) -> Ending {
+    match status {
+        RunStatus::Done => Ending::of(Status::Done),
+        RunStatus::Unopened(fault) => port_fault(why_unopened(alloc, words, fault)),
+        RunStatus::DoorFault => port_fault(None),
+        RunStatus::NoMemory => no_memory(),
+        RunStatus::NumbersSpent => Ending::of(Status::NumbersSpent),
+    }
+}
+
+// What is known of a run that ended.
+#[derive(Drop)]
+struct Left {
+    status: RunStatus,
+    // What it came to, in words, where anything ran.
+    text: Option<String>,
+}
+
+// What is known of a run of which this is left, whose sinks counted so.
+fn left_of<R: Drop, L: Drop, W: Drop, H: Drop, K: Drop, Y: Drop, D: Drop>(
+    alloc: Global,
+    words: &ServeWords,
+    ended: Ended<R, L, W, H, K, Y, D>,
+    log: SinkCounts,
+    hook: SinkCounts,
+) -> Left {
+    let text = if ended.bays.is_empty() {
+        None
+    } else {
+        ended_text(alloc, words, &ended, log, hook).ok()
+    };
+    Left {
+        status: ended.status,
+        text,
+    }
+}
+
+// How a run ended of which this is known. Says what it came to, where anything ran.
+fn ending_of(host: &HostRuntime, words: &ServeWords, gate: &TcpGate, left: &Left) -> Ending {
+    let alloc = host.alloc();
+    if let Some(why) = shortage(alloc, gate, threads_of(words)) {
+        return port_fault(Some(why));
+    }
+    if let Some(text) = &left.text {
+        let text = text.as_str();
+        let _ = eprint!(host; "{text}");
+    }
+    ending_by(alloc, words, left.status)
+}
+
+/// How a run ends for which the system gave no chance to begin audit IDs with.
+pub fn no_boot_word(alloc: Global, error: &io::Error) -> Ending {
+    let reason = reason_of(error);
+    port_fault(format!(in alloc; "random numbers: {reason}").ok())
+}
+
+/// Runs what words ask for over a plant of this gate, says what it came to, and gives how it ended.
+pub fn run_over<P: Plant + Send>(
+    host: &HostRuntime,
+    rt: &P::Rt,
+    words: &ServeWords,
+    settings: Settings,
+    routes: NewRoutes,
+    gate: &TcpGate,
+    plant: &mut P,
+) -> Ending
+where
+    P::Rt: Send + Sync,
+    P::D: Send,
+    <P::D as Door>::C: Send,
+    P::L: Send,
+    <P::L as Dial>::K: Send,
+    P::K: Send,
+    P::Y: Send,
+    P::W: Send,
+    P::H: Send,
+{
+    if can_serve(words, &settings) {
+        let (alloc, at) = (host.alloc(), gate.address());
+        let ended = run_shared::<Brand, P>(rt, alloc, words, settings, at, routes, plant);
+        let left = left_of(
+            alloc,
+            words,
+            ended,
+            gate.log().counts(),
+            gate.hook().counts(),
+        );
+        ending_of(host, words, gate, &left)
+    } else {
+        Ending::of(Status::Configuration)
+    }
+}
