@@ -8,7 +8,7 @@ use Rattle.audit_core.specs.declared.sinks.Sink.{Sink}
 use Rattle.connection_laws.specs.Whole.{offered_in, offers_in}
 use Rattle.event_offers.specs.Taken.{is_taken, is_tried, lines_for}
 use Rattle.front_plants.specs.Fresh.{SinkOpens}
-use Rattle.plant_lanes.specs.declared.options.RunOptions.{RunOptions}
+use Rattle.serve_bays.specs.declared.options.RunOptions.{RunOptions}
 use Rattle.queue_drain.specs.declared.drain_end.DrainEnd.{DrainEnd}
 use Rattle.role_threads.specs.Lists.{AllPairs, IfBoth}
 use Rattle.run_laws.specs.Told.{BatchedLines, BatchesTell, TriedLines, TriesTell, lines_by}

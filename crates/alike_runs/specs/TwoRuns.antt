@@ -7,7 +7,7 @@ use Rattle.any_lane.specs.declared.lane.AnyLane.{AnyLane}
 use Rattle.audit_core.specs.declared.settings.Settings.{Settings}
 use Rattle.front_plants.specs.Fresh.{Openings, SinkOpens, log_opens, hook_opens}
 use Rattle.front_plants.specs.Plants.{PlantTells}
-use Rattle.plant_lanes.specs.declared.options.RunOptions.{RunOptions}
+use Rattle.serve_bays.specs.declared.options.RunOptions.{RunOptions}
 use Rattle.role_threads.specs.Lists.{AllPairs}
 use Rattle.serve_roles.specs.Doors.{BayHandles, tells_of}
 use Rattle.serve_roles.specs.declared.bay_end.BayEnd.{BayEnd}

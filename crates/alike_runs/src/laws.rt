@@ -3,7 +3,7 @@ ghost use Rattle.alike_runs.specs.AlikeSinks.{AlikeDrains, AlikeOwn, SameDrains,
 ghost use Rattle.alike_runs.specs.TwoRuns.{AlikeBays, AlikeRuns, TwoRuns};
 ghost use Rattle.audit_core.specs.declared.settings.Settings.{Settings};
 ghost use Rattle.audit_core.specs.declared.sinks.SinkMode.TheVariants.{Batch, Blocking, Strict};
-ghost use Rattle.plant_lanes.specs.declared.options.RunOptions.{RunOptions};
+ghost use Rattle.serve_bays.specs.declared.options.RunOptions.{RunOptions};
 ghost use Rattle.serve_roles.specs.Doors.{bay_handles};
 ghost use Rattle.serve_runs.specs.declared.ended.Ended.{Ended};
 

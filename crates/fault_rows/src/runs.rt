@@ -2,7 +2,7 @@
 ghost use Rattle.std.specs.Prelude.{◌≡◌, ◌≤◌, true};
 ghost use Rattle.front_base.specs.declared.address.Address.{Address};
 ghost use Rattle.front_base.specs.declared.line.TheConstants.{MOST_LINE_BYTES};
-ghost use Rattle.plant_lanes.specs.Options.{AreFit};
+ghost use Rattle.serve_bays.specs.Options.{AreFit};
 ghost use Rattle.proxy_runs.specs.Setup.{options_of};
 
 use crate::lines::Ended;

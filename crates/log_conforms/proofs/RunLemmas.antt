@@ -14,8 +14,8 @@ use Rattle.front_base.specs.Line.{Line}
 use Rattle.front_plants.specs.Fresh.{SinkOpens}
 use Rattle.front_ports.specs.declared.clock.Clock as clocks
 use Rattle.log_conforms.specs.Conforming.{AreTried, AreTriedByBays}
-use Rattle.plant_lanes.specs.Served.{IsOwn, SinkServed}
-use Rattle.plant_lanes.specs.declared.options.RunOptions.{RunOptions}
+use Rattle.serve_bays.specs.Served.{IsOwn, SinkServed}
+use Rattle.serve_bays.specs.declared.options.RunOptions.{RunOptions}
 use Rattle.run_laws.specs.Told.{BatchedLines, BatchesTell, TriedLines, TriesTell, lines_by}
 use Rattle.serve_roles.specs.Doors.{BayHandles, tells_of}
 use Rattle.serve_roles.specs.declared.bay_end.BayEnd.{BayEnd}

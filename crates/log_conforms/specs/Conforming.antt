@@ -7,7 +7,7 @@ use Rattle.bay_logs.specs.Noted.{AllInRange}
 use Rattle.bay_logs.specs.Woven.{texts}
 use Rattle.front_base.specs.Line.{Line}
 use Rattle.front_plants.specs.Fresh.{SinkOpens}
-use Rattle.plant_lanes.specs.declared.options.RunOptions.{RunOptions}
+use Rattle.serve_bays.specs.declared.options.RunOptions.{RunOptions}
 use Rattle.policy_rules.specs.declared.policy.Policy.{Policy}
 use Rattle.run_laws.specs.Told.{BatchesTell}
 use Rattle.serve_roles.specs.Doors.{BayHandles}

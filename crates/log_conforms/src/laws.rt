@@ -10,7 +10,7 @@ ghost use Rattle.front_base.specs.Line.{Line};
 ghost use Rattle.front_plants.specs.Fresh.{log_opens, hook_opens};
 ghost use Rattle.front_plants.specs.Plants.{PlantTells};
 ghost use Rattle.log_conforms.specs.Conforming.{AreTriedByBays, BatchesConform, BaysInRange};
-ghost use Rattle.plant_lanes.specs.declared.options.RunOptions.{RunOptions};
+ghost use Rattle.serve_bays.specs.declared.options.RunOptions.{RunOptions};
 ghost use Rattle.serve_roles.specs.Doors.{bay_handles};
 ghost use Rattle.serve_runs.specs.Served.{RunServed, run_exchanges};
 ghost use Rattle.serve_runs.specs.declared.ended.Ended.{Ended};

@@ -3,7 +3,7 @@ use Rattle.std.specs.Prelude.{ℕ, ◌*◌, ◌-◌, ◌^◌, min, List, [], Opt
 use Rattle.audit_core.specs.declared.settings.Settings.{Settings}
 use Rattle.front_base.specs.declared.address.Address.{Address}
 use Rattle.front_config.specs.declared.files.Loaded.{Loaded}
-use Rattle.plant_lanes.specs.declared.options.RunOptions.{RunOptions}
+use Rattle.serve_bays.specs.declared.options.RunOptions.{RunOptions}
 use Rattle.serve_words.specs.declared.serve.ServeWords.{ServeWords}
 
 -- by which settings requests are answered and recorded

@@ -7,7 +7,7 @@ use audit_core::Settings;
 use batch_backend::Limits;
 use front_base::{Address, NoMemory, Text};
 use front_config::Loaded;
-use plant_lanes::RunOptions;
+use serve_bays::RunOptions;
 use serve_words::ServeWords;
 use std::alloc::Global;
 

@@ -1,7 +1,7 @@
 // The run, and whether it agrees with the plan.
 ghost use Rattle.std.specs.Prelude.{◌≡◌, ◌≤◌, ℕ, IfOk, length, true, slice_get, IfSome};
 ghost use Rattle.front_base.specs.declared.line.TheConstants.{MOST_LINE_BYTES};
-ghost use Rattle.plant_lanes.specs.Options.{AreFit};
+ghost use Rattle.serve_bays.specs.Options.{AreFit};
 ghost use Rattle.proxy_runs.specs.Setup.{options_of};
 ghost use Rattle.rehearse_check.specs.Planned.{Follows};
 ghost use Rattle.rehearse_agrees.specs.Agrees as spec;

@@ -8,8 +8,8 @@ use Rattle.bay_runs.specs.Runs.{exchanges_of}
 use Rattle.connection_laws.specs.Whole.{offered_in, offers_in}
 use Rattle.front_base.specs.Line.{Line}
 use Rattle.front_plants.specs.Fresh.{SinkOpens}
-use Rattle.plant_lanes.specs.Served.{IsDrained, IsOwn}
-use Rattle.plant_lanes.specs.declared.options.RunOptions.{RunOptions}
+use Rattle.serve_bays.specs.Served.{IsDrained, IsOwn}
+use Rattle.serve_bays.specs.declared.options.RunOptions.{RunOptions}
 use Rattle.run_completeness.specs.Kept.{BatchesKeepAll, KeepsBatched, KeepsOwn, TriesKeepAll}
 use Rattle.run_completeness.proofs.DrainLemmas.{batches_keep, some_at}
 use Rattle.run_completeness.proofs.LaneLemmas.{Accepts, Fails, Fills, Tries, account, keeps_put, lane_offered, own_taken, own_written, room_for_all}

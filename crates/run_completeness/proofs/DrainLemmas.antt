@@ -6,8 +6,8 @@ use Rattle.audit_core.specs.declared.sinks.Sink.{Sink}
 use Rattle.connection_laws.specs.Whole.{offers_in, count_of, is_full}
 use Rattle.front_plants.specs.Fresh.{SinkOpens}
 use Rattle.front_ports.specs.declared.clock.Clock as clocks
-use Rattle.plant_lanes.specs.Served.{IsDrained}
-use Rattle.plant_lanes.specs.declared.options.RunOptions.{RunOptions}
+use Rattle.serve_bays.specs.Served.{IsDrained}
+use Rattle.serve_bays.specs.declared.options.RunOptions.{RunOptions}
 use Rattle.queue_drain.specs.declared.drain_end.DrainEnd.{DrainEnd}
 use Rattle.run_completeness.specs.Kept.{AllWritten, BatchesKeepAll, KeepsBatched, KeptBay, offered_to}
 use Rattle.run_completeness.proofs.ShareLemmas.{all_of_each, shares, total, total_most}

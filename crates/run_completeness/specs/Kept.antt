@@ -11,7 +11,7 @@ use Rattle.bay_runs.specs.declared.bay_stop.BayStop.TheVariants.{Closed}
 use Rattle.connection_laws.specs.Whole.{offered_in, offers_in, count_of, is_full}
 use Rattle.event_offers.specs.Taken.{is_for, count_in}
 use Rattle.front_base.specs.Line.{Line}
-use Rattle.plant_lanes.specs.declared.options.RunOptions.{RunOptions}
+use Rattle.serve_bays.specs.declared.options.RunOptions.{RunOptions}
 use Rattle.queue_drain.specs.declared.drain_end.DrainEnd.{DrainEnd}
 use Rattle.run_laws.specs.Told.{BayTold}
 use Rattle.serve_roles.specs.Doors.{BayHandles}

@@ -20,8 +20,8 @@ use Rattle.front_base.specs.Line.{Line}
 use Rattle.front_plants.specs.Fresh.{SinkOpens}
 use Rattle.front_ports.specs.Told.{Grows}
 use Rattle.front_ports.specs.declared.clock.Clock as clocks
-use Rattle.plant_lanes.specs.Served.{IsDrained, IsOwn, SinkServed}
-use Rattle.plant_lanes.specs.declared.options.RunOptions.{RunOptions}
+use Rattle.serve_bays.specs.Served.{IsDrained, IsOwn, SinkServed}
+use Rattle.serve_bays.specs.declared.options.RunOptions.{RunOptions}
 use Rattle.run_laws.specs.Told.{BatchedLines, BatchesTell, TriedLines, TriesTell}
 use Rattle.run_laws.proofs.SinkLemmas.{NewSends, Stays, all_stays, own_sent, own_single}
 use Rattle.run_laws.proofs.TellLemmas.{bay_told}

@@ -16,7 +16,7 @@ use Rattle.connection_laws.specs.Whole.{offered_in, offers_in}
 use Rattle.event_offers.specs.Taken.{is_for, is_taken, is_tried, kept_line, line_in, count_in, lines_for}
 use Rattle.front_base.specs.Line.{Line}
 use Rattle.front_plants.specs.Fresh.{SinkOpens, SentAll}
-use Rattle.plant_lanes.specs.declared.options.RunOptions.{RunOptions}
+use Rattle.serve_bays.specs.declared.options.RunOptions.{RunOptions}
 use Rattle.role_threads.specs.Lists.{AllPairs}
 use Rattle.run_laws.specs.Record.{AreGiven, SinkRecord, WasGiven, bytes_by, by_turns, cut_bytes, drained, is_put, notes_of, sink_record, sink_records, sinks_of, turns_of}
 use Rattle.run_laws.specs.Told.{BatchedLines, BatchesTell, TriedLines, TriesTell, lines_by}

@@ -11,7 +11,7 @@ use Rattle.front_base.specs.Line.{Line}
 use Rattle.front_plants.specs.Fresh.{Openings}
 use Rattle.front_plants.specs.Plants.{PlantTells}
 use Rattle.log_sink.specs.Texts.{log_text}
-use Rattle.plant_lanes.specs.declared.options.RunOptions.{RunOptions}
+use Rattle.serve_bays.specs.declared.options.RunOptions.{RunOptions}
 use Rattle.queue_drain.specs.declared.drain_end.DrainEnd.{DrainEnd}
 use Rattle.role_threads.specs.Lists.{AllPairs}
 use Rattle.run_laws.specs.Told.{lines_by}

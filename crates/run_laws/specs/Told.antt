@@ -9,8 +9,8 @@ use Rattle.event_offers.specs.Taken.{is_taken, is_tried, lines_for}
 use Rattle.front_base.specs.Line.{Line}
 use Rattle.batch_backend.specs.Closes.{FullButLast}
 use Rattle.front_plants.specs.Fresh.{SinkOpens, SentAll}
-use Rattle.plant_lanes.specs.Lanes.{AreAllotted}
-use Rattle.plant_lanes.specs.declared.options.RunOptions.{RunOptions}
+use Rattle.serve_bays.specs.Lanes.{AreAllotted}
+use Rattle.serve_bays.specs.declared.options.RunOptions.{RunOptions}
 use Rattle.queue_drain.specs.Drains.{EndsTimed}
 use Rattle.queue_drain.specs.declared.drain_end.DrainEnd.{DrainEnd}
 use Rattle.serve_roles.specs.Doors.{BayHandles}

@@ -4,7 +4,7 @@ ghost use Rattle.audit_core.specs.declared.sinks.Sink.TheVariants.{Log, Webhook}
 ghost use Rattle.audit_core.specs.declared.sinks.SinkMode.TheVariants.{Batch, Blocking, Strict};
 ghost use Rattle.front_plants.specs.Fresh.{log_opens, hook_opens};
 ghost use Rattle.front_plants.specs.Plants.{PlantTells};
-ghost use Rattle.plant_lanes.specs.declared.options.RunOptions.{RunOptions};
+ghost use Rattle.serve_bays.specs.declared.options.RunOptions.{RunOptions};
 ghost use Rattle.run_laws.specs.Record.{AreGiven, audit_bytes, run_record, sinks_of};
 ghost use Rattle.run_laws.specs.Told.{BatchesTell, TriesTell};
 ghost use Rattle.serve_roles.specs.Doors.{bay_handles};
@@ -15,7 +15,7 @@ use apiservice_table::Routes;
 use connection_laws::refusals_are_counted;
 use event_offers::each_lane_gets_its_lines;
 use front_plants::Plant;
-use plant_lanes::new_sinks_send_their_tries;
+use serve_bays::new_sinks_send_their_tries;
 use truncate_backend::{first_tries_join, own_sinks_stay};
 
 /// Whatever bays did, and in whatever order threads ran: the batches of a sink have, of each bay, the lines of its offers that were

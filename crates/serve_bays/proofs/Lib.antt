@@ -1,1 +1,5 @@
+mod CallLemmas
+mod Lists
+mod MadeLemmas
+mod ServedLemmas
 mod Walks

@@ -3,7 +3,7 @@ use Rattle.std.proofs.Common.{◌≡◌, ◌<◌, ◌≤◌, ◌+◌, ℕ, zero,
 use Rattle.std.specs.Prelude.{Result, Ok, Err, OnErr}
 use Rattle.std.proofs.lemmas.List.{map-append}
 use Rattle.front_base.specs.declared.address.Address.{Address}
-use Rattle.serve_bays.specs.Calls.{bay_calls, bays_calls}
+use Rattle.serve_bays.specs.BayCalls.{bay_calls, bays_calls}
 
 pub image_count : {A B : Type 0} (f : A → B) (ys : List A) → length (map f ys) ≡ length ys
 image_count f [] = refl

@@ -1,2 +1,6 @@
+pub mod BayCalls
 pub mod Bays
-pub mod Calls
+pub mod LaneCalls
+pub mod Lanes
+pub mod Options
+pub mod Served

@@ -5,13 +5,13 @@ use Rattle.std.proofs.lemmas.List.{length-replicate}
 use Rattle.audit_core.specs.declared.settings.Settings.{Settings}
 use Rattle.front_plants.specs.declared.call.PlantCall.{PlantCall}
 use Rattle.front_plants.specs.declared.call.PlantCall.TheVariants.{Boot, Log, Hook}
-use Rattle.plant_lanes.specs.Calls.{CallsPart, CalledFor, CalledInPart, sink_calls}
-use Rattle.plant_lanes.specs.declared.options.RunOptions.{RunOptions}
-use Rattle.serve_bays.specs.Calls.{bays_calls}
+use Rattle.serve_bays.specs.LaneCalls.{CallsPart, CalledFor, CalledInPart, sink_calls}
+use Rattle.serve_bays.specs.declared.options.RunOptions.{RunOptions}
+use Rattle.serve_bays.specs.BayCalls.{bays_calls}
 use Rattle.serve_runs.specs.Made.{RunCallsPart}
 use Rattle.truncate_backend.specs.Told.{Joined}
 
--- as the law of `plant_lanes` states it
+-- as the law of `serve_bays` states it
 pub record PartLaws : Type 0 where
   pub none : (a : Option (List PlantCall)) (xs : List PlantCall) → CallsPart xs a a
   pub whole : (a b : Option (List PlantCall)) (xs : List PlantCall) → Joined a xs b → CallsPart xs a b

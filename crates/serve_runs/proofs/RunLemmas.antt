@@ -14,9 +14,9 @@ use Rattle.bay_runs.specs.Runs.{door_state}
 use Rattle.bay_runs.specs.declared.end_counts.EndCounts.{EndCounts}
 use Rattle.front_plants.specs.Fresh.{IsNewSink, Openings, SinkOpens, log_opens, hook_opens}
 use Rattle.front_plants.specs.Plants.{PlantTells}
-use Rattle.plant_lanes.specs.Lanes.{LanesFor}
-use Rattle.plant_lanes.specs.Served.{SinkServed}
-use Rattle.plant_lanes.specs.declared.options.RunOptions.{RunOptions}
+use Rattle.serve_bays.specs.Lanes.{LanesFor}
+use Rattle.serve_bays.specs.Served.{SinkServed}
+use Rattle.serve_bays.specs.declared.options.RunOptions.{RunOptions}
 use Rattle.front_ports.specs.declared.clock.Clock as clocks
 use Rattle.queue_drain.specs.declared.drain.QueueDrain.{QueueDrain}
 use Rattle.role_threads.specs.Lists.{AllPairs}

@@ -2,7 +2,7 @@
 use Rattle.std.specs.Prelude.{◌≡◌, []}
 use Rattle.audit_core.specs.declared.settings.Settings.{Settings}
 use Rattle.front_plants.specs.Plants.{PlantTells, PlantFaults, Failed}
-use Rattle.plant_lanes.specs.declared.options.RunOptions.{RunOptions}
+use Rattle.serve_bays.specs.declared.options.RunOptions.{RunOptions}
 use Rattle.serve_runs.specs.Made.{RunCallsPart}
 use Rattle.serve_runs.specs.declared.ended.Ended.{Ended}
 use Rattle.serve_runs.specs.declared.ended.RunStatus.{RunStatus}

@@ -5,13 +5,13 @@ use Rattle.front_plants.specs.Fresh.{Openings, log_opens, hook_opens}
 use Rattle.front_plants.specs.Plants.{PlantTells}
 use Rattle.front_plants.specs.declared.call.PlantCall.{PlantCall}
 use Rattle.front_plants.specs.declared.call.PlantCall.TheVariants.{Boot, Log, Hook}
-use Rattle.plant_lanes.specs.Calls.{CallsPart, sink_calls}
-use Rattle.plant_lanes.specs.Lanes.{LanesFor}
-use Rattle.plant_lanes.specs.declared.options.RunOptions.{RunOptions}
+use Rattle.serve_bays.specs.LaneCalls.{CallsPart, sink_calls}
+use Rattle.serve_bays.specs.Lanes.{LanesFor}
+use Rattle.serve_bays.specs.declared.options.RunOptions.{RunOptions}
 use Rattle.queue_drain.specs.declared.drain.QueueDrain.{QueueDrain}
 use Rattle.role_threads.specs.declared.role.Roles.{Roles}
 use Rattle.serve_bays.specs.Bays.{IsNewBay, routes_of}
-use Rattle.serve_bays.specs.Calls.{bays_calls}
+use Rattle.serve_bays.specs.BayCalls.{bays_calls}
 use Rattle.serve_roles.specs.Doors.{BayHandles}
 use Rattle.serve_roles.specs.Ends.{log_lane, hook_lane}
 use Rattle.serve_roles.specs.declared.bay_role.BayRole.{BayRole}

@@ -9,8 +9,8 @@ use Rattle.bay_runs.specs.Runs.{DoorState, Runs, door_state, ends_of, exchanges_
 use Rattle.event_offers.specs.Lanes.{lane_state}
 use Rattle.front_plants.specs.Fresh.{IsNewClock, IsNewDial, IsNewDoor, IsNewSink, Openings, SinkOpens, log_opens, hook_opens}
 use Rattle.front_plants.specs.Plants.{PlantTells}
-use Rattle.plant_lanes.specs.Served.{SinkServed}
-use Rattle.plant_lanes.specs.declared.options.RunOptions.{RunOptions}
+use Rattle.serve_bays.specs.Served.{SinkServed}
+use Rattle.serve_bays.specs.declared.options.RunOptions.{RunOptions}
 use Rattle.serve_roles.specs.Doors.{BayHandles, tells_of}
 use Rattle.serve_roles.specs.declared.bay_end.BayEnd.{BayEnd}
 use Rattle.serve_runs.specs.Made.{RunCalls}

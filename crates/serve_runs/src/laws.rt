@@ -1,10 +1,10 @@
 ghost use Rattle.std.specs.Prelude.{List, Option};
 ghost use Rattle.audit_core.specs.declared.settings.Settings.{Settings};
 ghost use Rattle.front_plants.specs.declared.call.PlantCall.{PlantCall};
-ghost use Rattle.plant_lanes.specs.declared.options.RunOptions.{RunOptions};
+ghost use Rattle.serve_bays.specs.declared.options.RunOptions.{RunOptions};
 ghost use Rattle.serve_runs.specs.Made.{RunCallsPart};
 
-use plant_lanes::calls_in_part;
+use serve_bays::calls_in_part;
 
 /// No call is some of the calls of a run.
 pub fn no_calls_yet()

@@ -3,7 +3,7 @@ ghost use Rattle.std.specs.Arc.{arc_value};
 ghost use Rattle.front_base.specs.declared.line.TheConstants.{MOST_LINE_BYTES};
 ghost use Rattle.front_plants.specs.Plants.{HasCause};
 ghost use Rattle.front_plants.specs.declared.call.PlantCall.TheVariants as calls;
-ghost use Rattle.plant_lanes.specs.Options.{AreFit};
+ghost use Rattle.serve_bays.specs.Options.{AreFit};
 ghost use Rattle.serve_roles.specs.Doors.{bay_handles};
 ghost use Rattle.serve_runs.specs.Made.{AreMade, RunCallsPart};
 ghost use Rattle.truncate_backend.specs.Told.{Joined};
@@ -12,10 +12,11 @@ use apiservice_table::Routes;
 use audit_core::Settings;
 use front_plants::{Plant, PlantFail};
 use local_replies::LocalPaths;
-use plant_lanes::{RunOptions, calls_in_part, calls_join, hook_lanes, log_lanes};
 use queue_drain::QueueDrain;
 use role_threads::Roles;
-use serve_bays::{SharedParts, make_bays};
+use serve_bays::{
+    RunOptions, SharedParts, calls_in_part, calls_join, hook_lanes, log_lanes, make_bays,
+};
 use serve_roles::BayRole;
 use sink_lanes::SinkLanes;
 use std::alloc::Global;

@@ -1,7 +1,7 @@
 ghost use Rattle.std.specs.Prelude.{◌≡◌, ◌≤◌, ◌⊎◌, [], IfOk, OnErr, length};
 ghost use Rattle.front_base.specs.declared.line.TheConstants.{MOST_LINE_BYTES};
 ghost use Rattle.front_plants.specs.Plants.{HasCause};
-ghost use Rattle.plant_lanes.specs.Options.{AreFit};
+ghost use Rattle.serve_bays.specs.Options.{AreFit};
 ghost use Rattle.serve_roles.specs.Doors.{bay_handles};
 ghost use Rattle.serve_runs.specs.Causes.{NothingRan};
 ghost use Rattle.serve_runs.specs.Made.{RunCallsPart};
@@ -17,7 +17,7 @@ use audit_core::Settings;
 use front_plants::{Plant, PlantFail};
 use front_ports::{Dial, Door};
 use local_replies::LocalPaths;
-use plant_lanes::{RunOptions, calls_in_part, lanes_are_served};
+use serve_bays::{RunOptions, calls_in_part, lanes_are_served};
 use serve_roles::EndRoom;
 use sink_lanes::{SinkEnd, SinkRoom, end_lanes};
 use std::alloc::Global;

@@ -8,7 +8,7 @@ use Rattle.history_ends.specs.Histories.{SawOne}
 use Rattle.history_ends.specs.Unnamed.{unnamed_end}
 use Rattle.logbook.specs.Pages.{Book}
 use Rattle.front_plants.specs.Fresh.{Openings}
-use Rattle.plant_lanes.specs.declared.options.RunOptions.{RunOptions}
+use Rattle.serve_bays.specs.declared.options.RunOptions.{RunOptions}
 use Rattle.route_history.specs.History.{History}
 use Rattle.serve_roles.specs.Doors.{BayHandles}
 use Rattle.serve_runs.specs.Causes.{NoRun, NothingRan}

@@ -7,7 +7,7 @@ use Rattle.audit_core.specs.declared.settings.Settings.{Settings}
 use Rattle.front_plants.specs.Plants.{PlantTells}
 use Rattle.logbook.specs.Pages.{Book}
 use Rattle.front_plants.specs.Fresh.{Openings}
-use Rattle.plant_lanes.specs.declared.options.RunOptions.{RunOptions}
+use Rattle.serve_bays.specs.declared.options.RunOptions.{RunOptions}
 use Rattle.route_history.specs.History.{History}
 use Rattle.serve_roles.specs.Doors.{BayHandles}
 use Rattle.serve_runs.specs.Served.{RunServed}

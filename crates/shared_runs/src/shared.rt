@@ -1,6 +1,6 @@
 ghost use Rattle.std.specs.Prelude.{◌≡◌, ◌≤◌, ◌⊎◌, []};
 ghost use Rattle.front_base.specs.declared.line.TheConstants.{MOST_LINE_BYTES};
-ghost use Rattle.plant_lanes.specs.Options.{AreFit};
+ghost use Rattle.serve_bays.specs.Options.{AreFit};
 ghost use Rattle.proxy_runs.specs.Setup.{options_of};
 ghost use Rattle.serve_roles.specs.Doors.{bay_handles};
 ghost use Rattle.serve_runs.specs.Causes.{NothingRan};

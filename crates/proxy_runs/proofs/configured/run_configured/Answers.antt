@@ -1,5 +1,5 @@
 use Rattle.std.proofs.Common.{◌≡◌, ◌⊎◌, inr, [], refl, sym, subst}
-use Rattle.plant_lanes.specs.declared.options.RunOptions.{RunOptions}
+use Rattle.serve_bays.specs.declared.options.RunOptions.{RunOptions}
 use Rattle.proxy_runs.proofs.configured.run_configured.Goals as goal
 use Rattle.serve_roles.specs.Doors.{bay_handles}
 use Rattle.serve_runs.specs.Causes.{NoRun, NothingRan}

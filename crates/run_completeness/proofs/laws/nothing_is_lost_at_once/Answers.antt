@@ -4,8 +4,8 @@ use Rattle.audit_core.specs.declared.sinks.SinkMode.{SinkMode}
 use Rattle.audit_core.specs.declared.sinks.SinkMode.TheVariants.{Blocking, Strict}
 use Rattle.front_plants.specs.Fresh.{SinkOpens, log_opens, hook_opens}
 use Rattle.front_ports.specs.declared.clock.Clock as clocks
-use Rattle.plant_lanes.specs.Served.{IsOwn, SinkServed}
-use Rattle.plant_lanes.specs.declared.options.RunOptions.{RunOptions}
+use Rattle.serve_bays.specs.Served.{IsOwn, SinkServed}
+use Rattle.serve_bays.specs.declared.options.RunOptions.{RunOptions}
 use Rattle.run_completeness.proofs.BayLemmas.{log_tries, hook_tries}
 use Rattle.run_completeness.proofs.laws.nothing_is_lost_at_once.Goals as goal
 use Rattle.serve_roles.specs.Doors.{bay_handles}

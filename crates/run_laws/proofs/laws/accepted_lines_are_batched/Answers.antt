@@ -1,6 +1,6 @@
 use Rattle.std.proofs.Common.{subst}
 use Rattle.front_plants.specs.Fresh.{log_opens, hook_opens}
-use Rattle.plant_lanes.specs.Served.{SinkServed}
+use Rattle.serve_bays.specs.Served.{SinkServed}
 use Rattle.run_laws.proofs.LaneLemmas.{log_batches, hook_batches}
 use Rattle.run_laws.proofs.laws.accepted_lines_are_batched.Goals as goal
 use Rattle.serve_roles.specs.Doors.{bay_handles}

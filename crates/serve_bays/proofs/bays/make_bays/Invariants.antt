@@ -4,7 +4,7 @@ use Rattle.std.specs.Arc.{arc_value}
 use Rattle.serve_roles.specs.Doors.{bay_handles}
 use Rattle.serve_roles.specs.Ends.{log_lane, hook_lane}
 use Rattle.serve_bays.specs.Bays.{IsNewBay, routes_of}
-use Rattle.serve_bays.specs.Calls.{bays_calls}
+use Rattle.serve_bays.specs.BayCalls.{bays_calls}
 use Rattle.truncate_backend.specs.Told.{Joined}
 use Rattle.serve_bays.proofs.bays.make_bays.Given as goal
 

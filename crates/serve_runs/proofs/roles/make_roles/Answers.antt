@@ -2,13 +2,13 @@ use Rattle.std.proofs.Common.{arith, ap, sym, subst, ◌∙◌, ◌≤◌, lengt
 use Rattle.audit_core.specs.declared.settings.Settings.{Settings}
 use Rattle.front_base.specs.declared.line.TheConstants.{MOST_LINE_BYTES}
 use Rattle.front_plants.specs.Fresh.{log_opens, hook_opens}
-use Rattle.plant_lanes.specs.Calls.{CallsPart}
-use Rattle.plant_lanes.specs.Lanes.{LanesFor}
+use Rattle.serve_bays.specs.LaneCalls.{CallsPart}
+use Rattle.serve_bays.specs.Lanes.{LanesFor}
 use Rattle.serve_roles.specs.Doors.{bay_handles}
 use Rattle.serve_roles.specs.Ends.{log_lane}
 use Rattle.serve_roles.specs.Ready.{TakesLines}
 use Rattle.serve_bays.specs.Bays.{IsNewBay}
-use Rattle.serve_bays.specs.Calls.{bays_calls}
+use Rattle.serve_bays.specs.BayCalls.{bays_calls}
 use Rattle.truncate_backend.specs.Told.{Joined}
 use Rattle.serve_runs.proofs.CallLemmas.{PartLaws, on_err, boot_calls, log_part, hook_part, bays_part}
 use Rattle.serve_runs.proofs.RunLemmas.{lanes_take, lanes_count, image_count}

@@ -1,7 +1,7 @@
 use Rattle.std.proofs.Common.{arith, ap, sym, subst, ◌∙◌, List, length, map}
 use Rattle.any_lane.specs.declared.lane.AnyLane.{AnyLane}
 use Rattle.front_plants.specs.Fresh.{log_opens, hook_opens}
-use Rattle.plant_lanes.specs.Served.{SinkServed}
+use Rattle.serve_bays.specs.Served.{SinkServed}
 use Rattle.role_threads.specs.Lists.{AllPairs}
 use Rattle.serve_roles.specs.Doors.{bay_handles}
 use Rattle.serve_roles.specs.Ends.{log_lane, hook_lane}

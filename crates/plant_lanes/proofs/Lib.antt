@@ -1,4 +1,0 @@
-mod CallLemmas
-mod Lists
-mod MadeLemmas
-mod ServedLemmas

@@ -1,5 +1,0 @@
-use Rattle.plant_lanes.proofs.CallLemmas.{part_none, part_whole, part_less, part_more}
-use Rattle.plant_lanes.proofs.laws.calls_in_part.Goals as goal
-
-pub returns : goal.returns
-returns c = record { none = part_none; whole = part_whole; less = part_less; more = part_more }

@@ -1,4 +1,0 @@
-pub mod Calls
-pub mod Lanes
-pub mod Options
-pub mod Served

@@ -1,9 +1,0 @@
--- Which options a run may have.
-use Rattle.std.specs.Prelude.{◌<◌, ◌≤◌}
-use Rattle.plant_lanes.specs.declared.options.RunOptions.{RunOptions}
-
-pub record AreFit (options : RunOptions) : Type 0 where
-  pub some : 0 < options.bays
-  pub few : options.bays ≤ 1024
-  pub buffer : 0 < options.buffer
-  pub lines : 0 < options.limits.lines
