@@ -11,7 +11,7 @@ use Rattle.front_ports.specs.declared.mem_clock.MemClock.{MemClock}
 use Rattle.front_ports.specs.declared.mem_dial.MemDial.{MemDial}
 use Rattle.front_ports.specs.declared.mem_door.MemDoor.{MemDoor}
 use Rattle.log_sink.specs.declared.log.LogSink.{LogSink}
-use Rattle.rehearse_check.specs.Planned.{Follows}
+use Rattle.rehearse_plan.specs.Planned.{Follows}
 use Rattle.front_ports.specs.Memory.{MemConn}
 use Rattle.rehearse_runs.specs.Handles.{mem_handles}
 use Rattle.serve_roles.specs.declared.bay_end.BayEnd.{BayEnd}

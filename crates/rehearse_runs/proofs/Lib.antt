@@ -1,1 +1,2 @@
 mod DiaryLemmas
+mod Sent

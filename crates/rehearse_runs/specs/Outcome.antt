@@ -3,8 +3,8 @@ use Rattle.std.specs.Prelude.{◌≡◌, ℕ, Option, Some, None, Result, Ok, Er
 use Rattle.proxy_server.specs.Ports.{Port}
 use Rattle.proxy_server.specs.declared.status.Status.{Status}
 use Rattle.proxy_server.specs.declared.status.Status.TheVariants.{Usage, Configuration, NoMemory}
-use Rattle.rehearse_agrees.specs.Agrees.{Agrees}
-use Rattle.rehearse_agrees.specs.Told.{Tells}
+use Rattle.rehearse_runs.specs.Agrees.{Agrees}
+use Rattle.rehearse_runs.specs.Told.{Tells}
 use Rattle.rehearse_plan.specs.Summary.{summary}
 use Rattle.rehearse_plan.specs.Words.{Asked}
 use Rattle.rehearse_plan.specs.declared.plan.TheConstants.{BAYS}

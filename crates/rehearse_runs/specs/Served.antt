@@ -9,12 +9,12 @@ use Rattle.front_ports.specs.declared.mem_dial.MemDial.{MemDial}
 use Rattle.front_ports.specs.declared.mem_door.MemDoor.{MemDoor}
 use Rattle.log_sink.specs.declared.log.LogSink.{LogSink}
 use Rattle.proxy_runs.specs.Setup.{settings_of, options_of}
-use Rattle.rehearse_check.specs.Planned.{Follows}
+use Rattle.rehearse_plan.specs.Planned.{Follows}
 use Rattle.rehearse_plan.specs.Words.{Asked}
 use Rattle.front_ports.specs.Memory.{MemConn}
 use Rattle.rehearse_runs.specs.Handles.{mem_handles}
-use Rattle.rehearse_setting.specs.Sent.{IsDue}
-use Rattle.rehearse_setting.specs.Setting.{IsConfig, Opens, words_of}
+use Rattle.rehearse_runs.specs.Sent.{IsDue}
+use Rattle.rehearse_runs.specs.Setting.{IsConfig, Opens, words_of}
 use Rattle.serve_config.specs.declared.config.ServeConfig.{ServeConfig}
 use Rattle.serve_runs.specs.Served.{RunServed, run_exchanges}
 use Rattle.serve_runs.specs.declared.ended.Ended.{Ended}

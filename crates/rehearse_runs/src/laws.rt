@@ -1,5 +1,5 @@
 ghost use Rattle.std.specs.Prelude.{ℕ};
-ghost use Rattle.rehearse_agrees.specs.Agrees.{Agrees};
+ghost use Rattle.rehearse_runs.specs.Agrees.{Agrees};
 ghost use Rattle.rehearse_plan.specs.Words.{Asked};
 ghost use Rattle.rehearse_runs.specs.Served.{MemEnded, ServedAsPlanned, WasServed};
 ghost use Rattle.session_core.specs.Diaries.{noted};
