@@ -8,7 +8,7 @@ use Rattle.front_ports.specs.declared.mem_clock.MemClock.{MemClock}
 use Rattle.front_ports.specs.declared.mem_dial.MemDial.{MemDial}
 use Rattle.front_ports.specs.declared.mem_door.MemDoor.{MemDoor}
 use Rattle.log_sink.specs.declared.log.LogSink.{LogSink}
-use Rattle.proxy_runs.specs.Setup.{settings_of, options_of}
+use Rattle.shared_runs.specs.Setup.{settings_of, options_of}
 use Rattle.rehearse_plan.specs.Planned.{Follows}
 use Rattle.rehearse_plan.specs.Words.{Asked}
 use Rattle.front_ports.specs.Memory.{MemConn}

@@ -2,7 +2,7 @@
 ghost use Rattle.std.specs.Prelude.{◌≡◌, ◌≤◌, ℕ, IfOk, length, true, slice_get, IfSome};
 ghost use Rattle.front_base.specs.declared.line.TheConstants.{MOST_LINE_BYTES};
 ghost use Rattle.serve_bays.specs.Options.{AreFit};
-ghost use Rattle.proxy_runs.specs.Setup.{options_of};
+ghost use Rattle.shared_runs.specs.Setup.{options_of};
 ghost use Rattle.rehearse_plan.specs.Planned.{Follows};
 ghost use Rattle.rehearse_runs.specs.Agrees as spec;
 ghost use Rattle.serve_roles.specs.Doors.{bay_handles};
@@ -14,12 +14,12 @@ use audit_core::Settings;
 use front_base::NoMemory;
 use front_plants::Plant;
 use front_ports::{Dial, Door};
-use proxy_runs::run_configured;
 use queue_drain::DrainEnd;
 use rehearse_plan::{Rehearsal, follows, line_count};
 use serve_roles::BayEnd;
 use serve_runs::{Ended, RunStatus};
 use serve_words::ServeWords;
+use shared_runs::run_configured;
 use std::alloc::Global;
 
 // Whether the drainer wrote a line for each event, and lost none.

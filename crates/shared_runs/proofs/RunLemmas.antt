@@ -4,8 +4,8 @@ use Rattle.apiservice_rows.specs.Row.{Row}
 use Rattle.apiservice_table.specs.declared.change.Change.{Change}
 use Rattle.audit_core.specs.declared.settings.Settings.{Settings}
 use Rattle.front_plants.specs.Plants.{PlantTells}
-use Rattle.history_ends.specs.Histories.{SawOne}
-use Rattle.history_ends.specs.Unnamed.{unnamed_end}
+use Rattle.shared_runs.specs.Histories.{SawOne}
+use Rattle.shared_runs.specs.Unnamed.{unnamed_end}
 use Rattle.logbook.specs.Pages.{Book}
 use Rattle.front_plants.specs.Fresh.{Openings}
 use Rattle.serve_bays.specs.declared.options.RunOptions.{RunOptions}

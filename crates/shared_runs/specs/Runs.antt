@@ -13,8 +13,8 @@ use Rattle.serve_roles.specs.Doors.{BayHandles}
 use Rattle.serve_runs.specs.Served.{RunServed}
 use Rattle.serve_runs.specs.declared.ended.Ended.{Ended}
 use Rattle.shared_routes.specs.Shared.{Shared, IsNew}
-use Rattle.history_ends.specs.Histories.{SawOne}
-use Rattle.history_ends.specs.Unnamed.{unnamed_end}
+use Rattle.shared_runs.specs.Histories.{SawOne}
+use Rattle.shared_runs.specs.Unnamed.{unnamed_end}
 
 -- what shared routes tell: the rows before any change, the changes that were seen, and those of their own
 abbrev pub shared_routes : routes.Ghosts Shared

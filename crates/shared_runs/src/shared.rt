@@ -1,17 +1,18 @@
 ghost use Rattle.std.specs.Prelude.{◌≡◌, ◌≤◌, ◌⊎◌, []};
 ghost use Rattle.front_base.specs.declared.line.TheConstants.{MOST_LINE_BYTES};
 ghost use Rattle.serve_bays.specs.Options.{AreFit};
-ghost use Rattle.proxy_runs.specs.Setup.{options_of};
+ghost use Rattle.shared_runs.specs.Setup.{options_of};
 ghost use Rattle.serve_roles.specs.Doors.{bay_handles};
 ghost use Rattle.serve_runs.specs.Causes.{NothingRan};
 ghost use Rattle.shared_runs.specs.Runs.{RunShared, shared_routes};
 
+use crate::configured::run_configured;
+use crate::history::all_saw_one;
+use crate::unnamed::unnamed_ends;
 use audit_core::Settings;
 use front_base::Address;
 use front_plants::Plant;
 use front_ports::{Dial, Door};
-use history_ends::{all_saw_one, unnamed_ends};
-use proxy_runs::run_configured;
 use route_history::{NewRoutes, RouteName, SeenHistory};
 use route_share::share_routes;
 use serve_runs::{Ended, RunStatus, no_calls_yet, nothing_ran};

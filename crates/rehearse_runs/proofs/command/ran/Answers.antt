@@ -2,7 +2,7 @@ use Rattle.std.proofs.Common.{subst}
 use Rattle.std.proofs.lemmas.Result.{IfOk-weaker}
 use Rattle.front_plants.specs.MemoryPlant.{plant_tells}
 use Rattle.front_plants.specs.MemorySinks.{told_openings}
-use Rattle.proxy_runs.specs.Setup.{options_of}
+use Rattle.shared_runs.specs.Setup.{options_of}
 use Rattle.rehearse_plan.specs.Words.{asked_by}
 use Rattle.rehearse_runs.specs.Handles.{mem_handles}
 use Rattle.rehearse_runs.specs.Served.{WasServed}

@@ -1,7 +1,7 @@
 use Rattle.std.proofs.Common.{slice_get}
 use Rattle.front_plants.specs.Fresh.{log_opens, hook_opens}
 use Rattle.front_plants.specs.MemorySinks.{told_openings}
-use Rattle.proxy_runs.specs.Setup.{settings_of, options_of}
+use Rattle.shared_runs.specs.Setup.{settings_of, options_of}
 use Rattle.rehearse_runs.proofs.DiaryLemmas.{as_planned}
 use Rattle.rehearse_runs.proofs.laws.planned_requests_were_served.Goals as goal
 

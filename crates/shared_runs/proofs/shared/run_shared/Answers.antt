@@ -1,6 +1,6 @@
 use Rattle.std.proofs.Common.{All, inr, refl, sym, subst}
-use Rattle.history_ends.specs.Histories.{SawOne}
-use Rattle.proxy_runs.specs.Setup.{options_of}
+use Rattle.shared_runs.specs.Histories.{SawOne}
+use Rattle.shared_runs.specs.Setup.{options_of}
 use Rattle.serve_roles.specs.Doors.{bay_handles}
 use Rattle.serve_runs.specs.Causes.{NoRun}
 use Rattle.serve_runs.specs.declared.ended.RunStatus.{RunStatus}

@@ -1,7 +1,7 @@
 use Rattle.std.proofs.Common.{◌≡◌, arith, ap, map, ◌∙◌, length}
-use Rattle.history_ends.specs.Unnamed.{unnamed_end}
-use Rattle.history_ends.proofs.WalkLemmas.{all_of}
-use Rattle.history_ends.proofs.unnamed.unnamed_ends.Goals as goal
+use Rattle.shared_runs.specs.Unnamed.{unnamed_end}
+use Rattle.shared_runs.proofs.WalkLemmas.{all_of}
+use Rattle.shared_runs.proofs.unnamed.unnamed_ends.Goals as goal
 
 pub returns : goal.returns
 returns g c =

@@ -6,7 +6,7 @@ use Rattle.apiservice_rows.specs.Row.{Row}
 use Rattle.apiservice_table.specs.Changes.{IsLater}
 use Rattle.apiservice_table.specs.declared.change.Change.{Change}
 use Rattle.logbook.specs.Pages.{Book}
-use Rattle.history_ends.specs.Histories.{SawOne}
+use Rattle.shared_runs.specs.Histories.{SawOne}
 use Rattle.serve_roles.specs.declared.bay_end.BayEnd.{BayEnd}
 use Rattle.shared_routes.specs.Shared.{Shared}
 

@@ -1,6 +1,6 @@
 use Rattle.std.proofs.Common.{All, take}
-use Rattle.history_ends.specs.Histories.{SawOne}
-use Rattle.history_ends.proofs.history.whole.Given as goal
+use Rattle.shared_runs.specs.Histories.{SawOne}
+use Rattle.shared_runs.proofs.history.whole.Given as goal
 
 -- what the bays that were passed saw is the beginning of the longest so far
 abbrev pub invariant-loop-end : goal.invariant-loop-end

@@ -1,7 +1,7 @@
 use Rattle.std.proofs.Common.{◌≡◌, ◌≤◌, ◌++◌, length, map}
 use Rattle.std.specs.Prelude.{vec_capacity}
-use Rattle.history_ends.specs.Unnamed.{unnamed_end}
-use Rattle.history_ends.proofs.unnamed.unnamed_ends.Given as goal
+use Rattle.shared_runs.specs.Unnamed.{unnamed_end}
+use Rattle.shared_runs.proofs.unnamed.unnamed_ends.Given as goal
 
 -- those that were passed have no name any more, and there is room for the others
 abbrev pub invariant-loop-end : goal.invariant-loop-end

@@ -2,7 +2,7 @@
 ghost use Rattle.std.specs.Prelude.{◌≡◌, All, List};
 ghost use Rattle.apiservice_table.specs.Changes.{IsLater};
 ghost use Rattle.apiservice_table.specs.declared.change.Change.{Change};
-ghost use Rattle.history_ends.specs.Histories.{SawOne};
+ghost use Rattle.shared_runs.specs.Histories.{SawOne};
 
 use left_right::Absorb;
 use route_history::{Prefix, TableCopy};

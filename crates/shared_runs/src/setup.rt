@@ -1,6 +1,6 @@
 // What words and files make of a run.
 ghost use Rattle.std.specs.Prelude.{◌≡◌, IfOk};
-ghost use Rattle.proxy_runs.specs.Setup as spec;
+ghost use Rattle.shared_runs.specs.Setup as spec;
 
 use apiservice_table::RouteTable;
 use audit_core::Settings;

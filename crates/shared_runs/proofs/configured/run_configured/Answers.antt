@@ -1,6 +1,6 @@
 use Rattle.std.proofs.Common.{◌≡◌, ◌⊎◌, inr, [], refl, sym, subst}
 use Rattle.serve_bays.specs.declared.options.RunOptions.{RunOptions}
-use Rattle.proxy_runs.proofs.configured.run_configured.Goals as goal
+use Rattle.shared_runs.proofs.configured.run_configured.Goals as goal
 use Rattle.serve_roles.specs.Doors.{bay_handles}
 use Rattle.serve_runs.specs.Causes.{NoRun, NothingRan}
 use Rattle.serve_runs.specs.Served.{RunServed}

@@ -3,10 +3,10 @@ use Rattle.std.proofs.lemmas.List.{take_all}
 use Rattle.std.proofs.lemmas.List.Elements.{All-more, All-same}
 use Rattle.apiservice_table.specs.Changes.{IsLater}
 use Rattle.apiservice_table.specs.declared.change.Change.{Change}
-use Rattle.history_ends.proofs.HistoryLemmas.{all_saw_more}
-use Rattle.history_ends.specs.Histories.{SawOne}
+use Rattle.shared_runs.proofs.HistoryLemmas.{all_saw_more}
+use Rattle.shared_runs.specs.Histories.{SawOne}
 use Rattle.route_history.specs.History.{History}
-use Rattle.history_ends.proofs.history.whole.Goals as goal
+use Rattle.shared_runs.proofs.history.whole.Goals as goal
 
 pub loop-end-preserved : goal.loop-end-preserved
 loop-end-preserved g c =

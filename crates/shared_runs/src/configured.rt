@@ -2,7 +2,7 @@ ghost use Rattle.std.specs.Prelude.{◌≡◌, ◌≤◌, ◌⊎◌, [], length,
 ghost use Rattle.front_base.specs.declared.address.Address.{Address};
 ghost use Rattle.front_base.specs.declared.line.TheConstants.{MOST_LINE_BYTES};
 ghost use Rattle.serve_bays.specs.Options.{AreFit};
-ghost use Rattle.proxy_runs.specs.Setup as spec;
+ghost use Rattle.shared_runs.specs.Setup as spec;
 ghost use Rattle.serve_roles.specs.Doors.{bay_handles};
 ghost use Rattle.serve_runs.specs.Causes.{NothingRan};
 ghost use Rattle.serve_runs.specs.Served.{RunServed};

@@ -1,6 +1,6 @@
 // What bays leave, without the name of their history.
 ghost use Rattle.std.specs.Prelude.{◌≡◌, ◌≤◌, [], length, map, vec_capacity};
-ghost use Rattle.history_ends.specs.Unnamed as spec;
+ghost use Rattle.shared_runs.specs.Unnamed as spec;
 
 use left_right::Absorb;
 use route_history::{Prefix, SeenHistory, TableCopy};

@@ -1,2 +1,0 @@
-mod HistoryLemmas
-mod WalkLemmas
