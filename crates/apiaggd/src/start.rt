@@ -1,7 +1,7 @@
 // The start of a run of `serve`: it serves once all of its threads run.
 use audit_core::SinkMode;
+use serve_config::ServeWords;
 use serve_report::short_text;
-use serve_words::ServeWords;
 use std::alloc::Global;
 use std::sync::Arc;
 use std::thread;

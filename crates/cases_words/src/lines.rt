@@ -2,7 +2,7 @@
 use case_rows::{bytes_of, fields};
 use command_options::bad_word;
 use front_config::read_words;
-use serve_words::read_serve;
+use serve_config::read_serve;
 use std::alloc::{AllocError, Global};
 
 fn word_of(alloc: Global, word: &str) -> Result<String, AllocError> {

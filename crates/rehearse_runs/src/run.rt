@@ -16,9 +16,9 @@ use front_plants::Plant;
 use front_ports::{Dial, Door};
 use queue_drain::DrainEnd;
 use rehearse_plan::{Rehearsal, follows, line_count};
+use serve_config::ServeWords;
 use serve_roles::BayEnd;
 use serve_runs::{Ended, RunStatus};
-use serve_words::ServeWords;
 use shared_runs::run_configured;
 use std::alloc::Global;
 

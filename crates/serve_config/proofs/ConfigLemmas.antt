@@ -14,11 +14,11 @@ use Rattle.proxy_server.specs.Ports.{FilesPort, Told}
 use Rattle.proxy_server.specs.Why.{status_of_load, why_of_load}
 use Rattle.refusal_text.specs.declared.refusal.Refusal.{Refusal}
 use Rattle.serve_config.specs.Config.{IsRefused, Loads, TellsServe, status_of_serve}
-use Rattle.serve_words.specs.Serve as serve
-use Rattle.serve_words.specs.Serve.{serve_command}
-use Rattle.serve_words.specs.declared.fault.ServeFault.{ServeFault}
-use Rattle.serve_words.specs.declared.fault.ServeFault.TheVariants.{Words, Listen, Webhook}
-use Rattle.serve_words.specs.declared.serve.ServeWords.{ServeWords}
+use Rattle.serve_config.specs.Serve as serve
+use Rattle.serve_config.specs.Serve.{serve_command}
+use Rattle.serve_config.specs.declared.fault.ServeFault.{ServeFault}
+use Rattle.serve_config.specs.declared.fault.ServeFault.TheVariants.{Words, Listen, Webhook}
+use Rattle.serve_config.specs.declared.serve.ServeWords.{ServeWords}
 
 abbrev Due : ServeFault → Result ServeWords ServeFault → Type 0
 Due fault due = serve.Gives {A = ServeWords} (λ v. v) (Err fault) due

@@ -1,1 +1,3 @@
 mod ConfigLemmas
+mod FaultLemmas
+mod SinkLemmas

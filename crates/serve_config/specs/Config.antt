@@ -17,10 +17,10 @@ use Rattle.proxy_server.specs.declared.status.Status.TheVariants.{Usage, Configu
 use Rattle.refusal_text.specs.declared.refusal.Refusal.{Refusal}
 use Rattle.refusal_text.specs.declared.refusal.Refusal.TheVariants as refusal
 use Rattle.serve_config.specs.declared.config.ServeConfig.{ServeConfig}
-use Rattle.serve_words.specs.Serve.{serve_command}
-use Rattle.serve_words.specs.declared.fault.ServeFault.{ServeFault}
-use Rattle.serve_words.specs.declared.fault.ServeFault.TheVariants.{Words, Listen, Webhook}
-use Rattle.serve_words.specs.declared.serve.ServeWords.{ServeWords}
+use Rattle.serve_config.specs.Serve.{serve_command}
+use Rattle.serve_config.specs.declared.fault.ServeFault.{ServeFault}
+use Rattle.serve_config.specs.declared.fault.ServeFault.TheVariants.{Words, Listen, Webhook}
+use Rattle.serve_config.specs.declared.serve.ServeWords.{ServeWords}
 
 -- the words are a command line of `serve`, and reads of the files that it names, told as these, gave this
 pub record Loads (words : List (List ℕ)) (told : Told) (loaded : Result Loaded LoadFault) : Type 0 where

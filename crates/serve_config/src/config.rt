@@ -4,10 +4,10 @@ ghost use Rattle.proxy_server.specs.Ports.{files_port};
 ghost use Rattle.serve_config.specs.Config as spec;
 
 use crate::refused::serve_outcome;
+use crate::serve::{ServeWords, read_serve};
 use front_config::{Loaded, load};
 use front_ports::Files;
 use proxy_server::{Outcome, load_outcome};
-use serve_words::{ServeWords, read_serve};
 use std::alloc::Global;
 
 /// What a run of `serve` begins with.

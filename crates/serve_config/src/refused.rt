@@ -2,9 +2,9 @@
 ghost use Rattle.std.specs.Prelude.{◌≡◌};
 ghost use Rattle.serve_config.specs.Config as spec;
 
+use crate::fault::ServeFault;
 use proxy_server::{Outcome, Status, words_outcome};
 use refusal_text::Refusal;
-use serve_words::ServeFault;
 
 /// How a run ends whose words are refused.
 pub fn serve_outcome(words: &Vec<String>, fault: ServeFault) -> Outcome

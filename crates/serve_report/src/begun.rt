@@ -1,7 +1,7 @@
 // What a run of `serve` begins with.
 use audit_core::SinkMode;
 use front_base::Address;
-use serve_words::{ServeWords, SinkWords};
+use serve_config::{ServeWords, SinkWords};
 use std::alloc::{AllocError, Global};
 
 fn mode_word(mode: SinkMode) -> &'static str {

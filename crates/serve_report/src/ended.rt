@@ -2,9 +2,9 @@
 use crate::ends::ends_text;
 use audit_core::SinkMode;
 use queue_drain::DrainEnd;
+use serve_config::ServeWords;
 use serve_roles::BayEnd;
 use serve_runs::Ended;
-use serve_words::ServeWords;
 use std::alloc::{AllocError, Global};
 use tcp_plant::SinkCounts;
 

@@ -2,7 +2,7 @@
 use audit_core::SinkMode;
 use front_base::Level;
 use policy_rules::{Policy, Rule};
-use serve_words::ServeWords;
+use serve_config::ServeWords;
 use std::alloc::{AllocError, Global};
 
 fn is_strict(mode: SinkMode) -> bool {

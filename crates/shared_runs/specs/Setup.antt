@@ -4,7 +4,7 @@ use Rattle.audit_core.specs.declared.settings.Settings.{Settings}
 use Rattle.front_base.specs.declared.address.Address.{Address}
 use Rattle.front_config.specs.declared.files.Loaded.{Loaded}
 use Rattle.serve_bays.specs.declared.options.RunOptions.{RunOptions}
-use Rattle.serve_words.specs.declared.serve.ServeWords.{ServeWords}
+use Rattle.serve_config.specs.declared.serve.ServeWords.{ServeWords}
 
 -- by which settings requests are answered and recorded
 abbrev pub settings_of : ServeWords → Loaded → Settings

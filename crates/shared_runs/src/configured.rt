@@ -14,11 +14,11 @@ use front_base::{Address, MOST_LINE_BYTES};
 use front_plants::Plant;
 use front_ports::{Dial, Door};
 use local_replies::LocalPaths;
+use serve_config::ServeWords;
 use serve_runs::{Ended, RunStatus, no_calls_yet, nothing_ran, run_serve};
-use serve_words::ServeWords;
 use std::alloc::Global;
 
-/// Whether numbers are such as a run may have. Those that `serve_words::read_serve` gives are.
+/// Whether numbers are such as a run may have. Those that `serve_config::read_serve` gives are.
 pub fn can_run(words: &ServeWords) -> bool
     ensures options { (listen : Address) → result ≡ true → AreFit (spec.options_of words.now listen) }
     ensures max { result ≡ true → words.now.max_event ≤ MOST_LINE_BYTES }

@@ -8,7 +8,7 @@ use batch_backend::Limits;
 use front_base::{Address, NoMemory, Text};
 use front_config::Loaded;
 use serve_bays::RunOptions;
-use serve_words::ServeWords;
+use serve_config::ServeWords;
 use std::alloc::Global;
 
 // The text of an option, or none.

@@ -15,8 +15,8 @@ use front_plants::Plant;
 use front_ports::{Dial, Door};
 use route_history::{NewRoutes, RouteName, SeenHistory};
 use route_share::share_routes;
+use serve_config::ServeWords;
 use serve_runs::{Ended, RunStatus, no_calls_yet, nothing_ran};
-use serve_words::ServeWords;
 use std::alloc::Global;
 
 /// Runs what words ask for, by these settings, over a plant whose doors listen at this address, with one table for all bays, whose

@@ -1,7 +1,7 @@
 // Where audit events go, and how.
 ghost use Rattle.std.specs.Prelude.{◌≡◌};
 ghost use Rattle.command_options.specs.Options.{value_of};
-ghost use Rattle.serve_words.specs.Serve as spec;
+ghost use Rattle.serve_config.specs.Serve as spec;
 
 use crate::fault::ServeFault;
 use audit_core::SinkMode;

@@ -3,9 +3,9 @@ use Rattle.std.proofs.Common.{◌≡◌, Bool, true, false, Some, Result, Ok, Er
 use Rattle.json_value.specs.Results.{◌>>=◌, Unless, fault_of}
 use Rattle.command_options.specs.Options.{Fails, is_memory}
 use Rattle.command_options.specs.declared.fault.WordsFault.{WordsFault}
-use Rattle.serve_words.specs.Serve.{in_words}
-use Rattle.serve_words.specs.declared.fault.ServeFault.{ServeFault}
-use Rattle.serve_words.specs.declared.fault.ServeFault.TheVariants.{Words}
+use Rattle.serve_config.specs.Serve.{in_words}
+use Rattle.serve_config.specs.declared.fault.ServeFault.{ServeFault}
+use Rattle.serve_config.specs.declared.fault.ServeFault.TheVariants.{Words}
 
 abbrev Refused : {B : Type 0} → WordsFault → Result B ServeFault → Type 0
 Refused fault due = Unless (is_memory fault) (fault_of due ≡ Some (Words fault))

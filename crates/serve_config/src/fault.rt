@@ -1,6 +1,6 @@
 ghost use Rattle.std.specs.Prelude.{◌≡◌};
 ghost use Rattle.command_options.specs.declared.fault.WordsFault.TheVariants as words_fault;
-ghost use Rattle.serve_words.specs.declared.fault.ServeFault.TheVariants as serve_fault;
+ghost use Rattle.serve_config.specs.declared.fault.ServeFault.TheVariants as serve_fault;
 
 use command_options::WordsFault;
 use front_base::{NoMemory, Text};

@@ -1,5 +1,5 @@
 // How lines wait for a sink in batch mode.
-ghost use Rattle.serve_words.specs.Serve as spec;
+ghost use Rattle.serve_config.specs.Serve as spec;
 
 use crate::fault::ServeFault;
 use crate::numbers::{ranged, ranged_u32};

@@ -14,11 +14,11 @@ use Rattle.command_options.specs.declared.ranged.Ranged.{Ranged}
 use Rattle.command_options.specs.declared.ranged.Ranged.TheVariants as option
 use Rattle.front_base.specs.Address.{address_of}
 use Rattle.front_base.specs.declared.address.Address.{Address}
-use Rattle.serve_words.specs.declared.batch.BatchWords.{BatchWords}
-use Rattle.serve_words.specs.declared.fault.ServeFault.{ServeFault}
-use Rattle.serve_words.specs.declared.fault.ServeFault.TheVariants.{Words, Listen, Webhook}
-use Rattle.serve_words.specs.declared.serve.ServeWords.{ServeWords}
-use Rattle.serve_words.specs.declared.sinks.SinkWords.{SinkWords}
+use Rattle.serve_config.specs.declared.batch.BatchWords.{BatchWords}
+use Rattle.serve_config.specs.declared.fault.ServeFault.{ServeFault}
+use Rattle.serve_config.specs.declared.fault.ServeFault.TheVariants.{Words, Listen, Webhook}
+use Rattle.serve_config.specs.declared.serve.ServeWords.{ServeWords}
+use Rattle.serve_config.specs.declared.sinks.SinkWords.{SinkWords}
 use Rattle.tcp_ports.specs.declared.limits.TcpLimits.{TcpLimits}
 use Rattle.tcp_ports.specs.declared.limits.TheConstants.{DEFAULT_LIMITS}
 use Rattle.webhook_sink.specs.Hooks.{hook_named}

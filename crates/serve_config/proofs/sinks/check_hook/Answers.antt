@@ -1,7 +1,7 @@
 use Rattle.std.proofs.Common.{◌≡◌, Err, None, ap, refl, true, is_some}
 use Rattle.webhook_sink.specs.Hooks.{hook_named}
-use Rattle.serve_words.specs.Serve.{webhook_at}
-use Rattle.serve_words.proofs.sinks.check_hook.Goals as goal
+use Rattle.serve_config.specs.Serve.{webhook_at}
+use Rattle.serve_config.proofs.sinks.check_hook.Goals as goal
 
 pub returns-in-Ok : goal.returns-in-Ok
 unfolding webhook_at

@@ -5,10 +5,10 @@ use Rattle.json_value.specs.Results.{◌>>=◌, found_or}
 use Rattle.audit_core.specs.declared.sinks.SinkMode.{SinkMode}
 use Rattle.audit_core.specs.declared.sinks.SinkMode.TheVariants.{Off, Batch, Blocking, Strict}
 use Rattle.command_options.specs.declared.fault.WordsFault.TheVariants.{Usage}
-use Rattle.serve_words.specs.Serve.{mode_named, mode_of, sink_by}
-use Rattle.serve_words.specs.declared.fault.ServeFault.{ServeFault}
-use Rattle.serve_words.specs.declared.fault.ServeFault.TheVariants.{Words}
-use Rattle.serve_words.specs.declared.sinks.SinkWords.{SinkWords}
+use Rattle.serve_config.specs.Serve.{mode_named, mode_of, sink_by}
+use Rattle.serve_config.specs.declared.fault.ServeFault.{ServeFault}
+use Rattle.serve_config.specs.declared.fault.ServeFault.TheVariants.{Words}
+use Rattle.serve_config.specs.declared.sinks.SinkWords.{SinkWords}
 
 -- no text is the mode of a sink that is off
 named_on : (text : List ℕ) → mode_named text ≡ Some Off → ⊥

@@ -1,7 +1,7 @@
 // The numbers of the options.
 ghost use Rattle.std.specs.Prelude.{◌≤◌, IfOk};
 ghost use Rattle.command_options.specs.Options.{Gives, most};
-ghost use Rattle.serve_words.specs.Serve as spec;
+ghost use Rattle.serve_config.specs.Serve as spec;
 
 use crate::fault::ServeFault;
 use command_options::{Options, Ranged, WordsFault, have_numbers, in_range, number_given};

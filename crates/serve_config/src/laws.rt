@@ -2,8 +2,8 @@
 ghost use Rattle.std.specs.Prelude.{◌≡◌, ◌≢◌, ◌↔◌, [], ℕ, List, None, Ok, Option};
 ghost use Rattle.audit_core.specs.declared.sinks.SinkMode.{SinkMode};
 ghost use Rattle.audit_core.specs.declared.sinks.SinkMode.TheVariants.{Off};
-ghost use Rattle.serve_words.specs.Serve.{limits_by, sink_by};
-ghost use Rattle.serve_words.specs.declared.sinks.SinkWords.{SinkWords};
+ghost use Rattle.serve_config.specs.Serve.{limits_by, sink_by};
+ghost use Rattle.serve_config.specs.declared.sinks.SinkWords.{SinkWords};
 ghost use Rattle.tcp_ports.specs.declared.limits.TheConstants.{DEFAULT_LIMITS};
 
 /// Without options, peers may take as long as `tcp_ports` says of a server that nobody tuned.

@@ -1,8 +1,8 @@
 use Rattle.std.proofs.Common.{map, string_bytes}
 use Rattle.command_options.specs.Options.{given_of}
-use Rattle.serve_words.specs.Serve.{serve_by, serve_given, serve_names}
-use Rattle.serve_words.proofs.FaultLemmas.{refused}
-use Rattle.serve_words.proofs.serve.serve_given.Goals as goal
+use Rattle.serve_config.specs.Serve.{serve_by, serve_given, serve_names}
+use Rattle.serve_config.proofs.FaultLemmas.{refused}
+use Rattle.serve_config.proofs.serve.serve_given.Goals as goal
 
 pub returns-in-Ok : goal.returns-in-Ok
 unfolding serve_given

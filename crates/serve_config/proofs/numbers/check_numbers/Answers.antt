@@ -1,7 +1,7 @@
 use Rattle.std.proofs.Common.{◌≡◌, ◌∙◌, false, refl, sym, true}
 use Rattle.command_options.specs.Options.{have_numbers}
-use Rattle.serve_words.specs.Serve.{numbers_of, serve_numbers}
-use Rattle.serve_words.proofs.numbers.check_numbers.Goals as goal
+use Rattle.serve_config.specs.Serve.{numbers_of, serve_numbers}
+use Rattle.serve_config.proofs.numbers.check_numbers.Goals as goal
 
 pub returns-then-have_numbers : goal.returns-then-have_numbers
 unfolding numbers_of

@@ -1,7 +1,7 @@
 // What `serve` is told.
 ghost use Rattle.std.specs.Prelude.{codes, map, string_bytes};
 ghost use Rattle.command_options.specs.Options.{value_of};
-ghost use Rattle.serve_words.specs.Serve as spec;
+ghost use Rattle.serve_config.specs.Serve as spec;
 
 use crate::batch::{BatchWords, batch_by};
 use crate::fault::ServeFault;
