@@ -2,8 +2,10 @@ ghost use Rattle.std.specs.Prelude.{◌≡◌, ◌<◌, IfOk, true};
 ghost use Rattle.rehearse_plan.specs.Planned.{Follows};
 
 use crate::exchange::is_planned;
+use crate::kind::Kind;
+use crate::plan::Rehearsal;
+use crate::request::{number_of, share};
 use front_base::NoMemory;
-use rehearse_plan::{Kind, Rehearsal, number_of, share};
 use session_core::Exchange;
 use std::alloc::Global;
 

@@ -2,10 +2,11 @@
 ghost use Rattle.std.specs.Prelude.{◌≡◌, IfOk, OnOk, true};
 ghost use Rattle.rehearse_plan.specs.Planned as spec;
 
+use crate::kind::Kind;
+use crate::request::{body_of, target_of};
 use audit_core::{LinkNote, OfferNote, Outcome, Sink};
 use front_base::Stage;
 use http_edge::Request;
-use rehearse_plan::{Kind, body_of, target_of};
 use session_core::Exchange;
 use std::alloc::{AllocError, Global};
 
