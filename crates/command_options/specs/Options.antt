@@ -81,6 +81,10 @@ ranged_name option.StallTimeout = codes "stall-timeout"
 ranged_name option.DialTimeout = codes "dial-timeout"
 ranged_name option.ResponseHeaderTimeout = codes "response-header-timeout"
 ranged_name option.ShutdownTimeout = codes "shutdown-timeout"
+ranged_name option.Tries = codes "tries"
+ranged_name option.Rate = codes "rate"
+ranged_name option.Burst = codes "burst"
+ranged_name option.Rests = codes "rests"
 
 -- the ends of an option's range
 abbrev pub least : Ranged → ℕ
@@ -99,6 +103,10 @@ least option.StallTimeout = 1
 least option.DialTimeout = 1
 least option.ResponseHeaderTimeout = 1
 least option.ShutdownTimeout = 0
+least option.Tries = 1
+least option.Rate = 1
+least option.Burst = 1
+least option.Rests = 1
 
 abbrev pub most : Ranged → ℕ
 most option.MaxEventSize = 4194304
@@ -116,6 +124,10 @@ most option.StallTimeout = 3600000
 most option.DialTimeout = 3600000
 most option.ResponseHeaderTimeout = 3600000
 most option.ShutdownTimeout = 3600000
+most option.Tries = 10
+most option.Rate = 1000
+most option.Burst = 1000
+most option.Rests = 1000000
 
 -- its number where it isn't given
 abbrev pub default_of : Ranged → ℕ
@@ -134,6 +146,10 @@ default_of option.StallTimeout = 30000
 default_of option.DialTimeout = 5000
 default_of option.ResponseHeaderTimeout = 60000
 default_of option.ShutdownTimeout = 20000
+default_of option.Tries = 3
+default_of option.Rate = 10
+default_of option.Burst = 15
+default_of option.Rests = 100000
 
 -- the number that is given to an option, or its default
 abbrev pub number_given : Ranged → List Named → Result ℕ WordsFault

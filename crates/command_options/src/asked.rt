@@ -10,6 +10,7 @@ pub enum Topic {
     Explain,
     Check,
     Serve,
+    Ship,
     Rehearse,
 }
 
@@ -21,6 +22,7 @@ pub enum Asked {
     Explain,
     Check,
     Serve,
+    Ship,
     Rehearse,
     /// There is no command, or none of that name.
     Unknown,
@@ -41,6 +43,8 @@ fn command_of(word: &str) -> Asked
         Asked::Check
     } else if word == "serve" {
         Asked::Serve
+    } else if word == "ship" {
+        Asked::Ship
     } else if word == "rehearse" {
         Asked::Rehearse
     } else {
@@ -52,7 +56,7 @@ fn command_of(word: &str) -> Asked
 pub fn is_command(word: &str) -> bool
     ensures { result ≡ spec.is_command word.now }
 {
-    word == "explain" || word == "check" || word == "serve" || word == "rehearse"
+    word == "explain" || word == "check" || word == "serve" || word == "ship" || word == "rehearse"
 }
 
 fn help_on(word: &str) -> Asked
@@ -64,6 +68,8 @@ fn help_on(word: &str) -> Asked
         Asked::Help(Topic::Check)
     } else if word == "serve" {
         Asked::Help(Topic::Serve)
+    } else if word == "ship" {
+        Asked::Help(Topic::Ship)
     } else if word == "rehearse" {
         Asked::Help(Topic::Rehearse)
     } else {

@@ -4,7 +4,7 @@ ghost use Rattle.std.specs.Prelude.{◌<◌, IfOk, IfSome};
 use crate::asked::is_command;
 use crate::given::short_number;
 use crate::spelling::behind_dashes;
-use crate::table::{ValueKind, kind_of, options_for, sink_of};
+use crate::table::{ValueKind, kind_of, options_for, required_by, sink_of};
 use front_base::cut_at;
 
 // No command has more options.
@@ -33,6 +33,8 @@ pub enum WordFault {
     NotMode,
     /// The option is the mode of a sink that isn't named.
     NoSink,
+    /// The command can't be without an option that isn't given: `required_by` names it.
+    Lacking,
 }
 
 /// The place of a word, from 0, and what is wrong with it.
@@ -139,10 +141,27 @@ fn begun<'w>(
     }
 }
 
+// What is missing beside the options that were given: the sink of a mode, or what the command can't be without.
+fn lack(command: &str, seen: &Seen<'_>) -> Option<BadWord> {
+    if let Some(place) = seen.mode_alone() {
+        return Some(BadWord {
+            place,
+            fault: WordFault::NoSink,
+        });
+    }
+    if seen.place(required_by(command)?).is_some() {
+        return None;
+    }
+    Some(BadWord {
+        place: 0,
+        fault: WordFault::Lacking,
+    })
+}
+
 // The first fault of the words after the command's.
-fn option_fault(known: &[&'static str], words: &[String]) -> Option<BadWord> {
+fn option_fault(command: &str, words: &[String]) -> Option<BadWord> {
     let mut seen = Seen {
-        known,
+        known: options_for(command),
         places: [None; MOST_OPTIONS],
     };
     let mut waits: Option<(usize, &str)> = None;
@@ -166,10 +185,7 @@ fn option_fault(known: &[&'static str], words: &[String]) -> Option<BadWord> {
             place,
             fault: WordFault::NoValue,
         }),
-        None => seen.mode_alone().map(|place| BadWord {
-            place,
-            fault: WordFault::NoSink,
-        }),
+        None => lack(command, &seen),
     }
 }
 
@@ -188,14 +204,14 @@ fn help_fault(words: &[String]) -> BadWord {
 }
 
 /// The first word that makes words no command line of that command, and what is wrong with it. A mode whose sink isn't
-/// named is told after all others. Of words that are a command line it says `UnknownCommand`, as of another command's word.
+/// named is told after all others, and then an option that is missing, of the command's word. Of words that are a command line it says `UnknownCommand`, as of another command's word.
 /// After `help`, the first word that names no command is told, or else the one after the command's.
 pub fn bad_word(command: &str, words: &[String]) -> BadWord {
     let fault = match words {
         [] => WordFault::NoCommand,
         [word, _, ..] if word.as_str() == "help" => return help_fault(words),
         [word, ..] if word.as_str() != command => WordFault::UnknownCommand,
-        _ => match option_fault(options_for(command), words) {
+        _ => match option_fault(command, words) {
             Some(bad) => return bad,
             None => WordFault::UnknownCommand,
         },

@@ -58,3 +58,15 @@ pub const SHUTDOWN_TIMEOUT: &str = "shutdown-timeout";
 
 /// Of `serve`, a flag: an end of standard input ends the run.
 pub const EXIT_ON_STDIN_EOF: &str = "exit-on-stdin-eof";
+
+/// Of `ship`: how often a batch is posted at most.
+pub const TRIES: &str = "tries";
+
+/// Of `ship`: how many posts a second its throttle gives.
+pub const RATE: &str = "rate";
+
+/// Of `ship`: how many posts its throttle gives at once.
+pub const BURST: &str = "burst";
+
+/// Of `ship`: how often it asks its throttle for one post at most.
+pub const RESTS: &str = "rests";

@@ -5,9 +5,9 @@ ghost use Rattle.command_options.specs.Options as spec;
 use crate::fault::WordsFault;
 use crate::given::{Options, number_or};
 use crate::names::{
-    BATCH_BUFFER, BATCH_MAX_SIZE, BATCH_MAX_WAIT, BAYS, CONNECTIONS, DIAL_TIMEOUT, IDLE_TIMEOUT,
-    MAX_BATCH_SIZE, MAX_EVENT_SIZE, MIN_RATE, MOMENT, READ_HEADER_TIMEOUT, RESPONSE_HEADER_TIMEOUT,
-    SHUTDOWN_TIMEOUT, STALL_TIMEOUT,
+    BATCH_BUFFER, BATCH_MAX_SIZE, BATCH_MAX_WAIT, BAYS, BURST, CONNECTIONS, DIAL_TIMEOUT,
+    IDLE_TIMEOUT, MAX_BATCH_SIZE, MAX_EVENT_SIZE, MIN_RATE, MOMENT, RATE, READ_HEADER_TIMEOUT,
+    RESPONSE_HEADER_TIMEOUT, RESTS, SHUTDOWN_TIMEOUT, STALL_TIMEOUT, TRIES,
 };
 
 /// The options whose numbers have a range. Timeouts are in milliseconds, sizes in bytes.
@@ -43,6 +43,14 @@ pub enum Ranged {
     ResponseHeaderTimeout,
     /// How long requests in progress may go on once the door is closed.
     ShutdownTimeout,
+    /// How often a batch is posted at most.
+    Tries,
+    /// `--audit-webhook-batch-throttle-qps` of kube-apiserver, with its default: posts a second.
+    Rate,
+    /// `--audit-webhook-batch-throttle-burst` of kube-apiserver, with its default: posts at once.
+    Burst,
+    /// How often the throttle is asked for one post at most, with a rest after each refusal.
+    Rests,
 }
 
 impl Ranged {
@@ -66,6 +74,10 @@ impl Ranged {
             Ranged::DialTimeout => DIAL_TIMEOUT,
             Ranged::ResponseHeaderTimeout => RESPONSE_HEADER_TIMEOUT,
             Ranged::ShutdownTimeout => SHUTDOWN_TIMEOUT,
+            Ranged::Tries => TRIES,
+            Ranged::Rate => RATE,
+            Ranged::Burst => BURST,
+            Ranged::Rests => RESTS,
         }
     }
 
@@ -80,6 +92,7 @@ impl Ranged {
             Ranged::Bays | Ranged::BatchBuffer | Ranged::BatchMaxSize => 1,
             Ranged::IdleTimeout | Ranged::ReadHeaderTimeout | Ranged::StallTimeout => 1,
             Ranged::DialTimeout | Ranged::ResponseHeaderTimeout => 1,
+            Ranged::Tries | Ranged::Rate | Ranged::Burst | Ranged::Rests => 1,
         }
     }
 
@@ -100,6 +113,9 @@ impl Ranged {
             Ranged::BatchMaxWait | Ranged::IdleTimeout | Ranged::ReadHeaderTimeout => 3_600_000,
             Ranged::StallTimeout | Ranged::DialTimeout => 3_600_000,
             Ranged::ResponseHeaderTimeout | Ranged::ShutdownTimeout => 3_600_000,
+            Ranged::Tries => 10,
+            Ranged::Rate | Ranged::Burst => 1_000,
+            Ranged::Rests => 1_000_000,
         }
     }
 
@@ -120,6 +136,10 @@ impl Ranged {
             Ranged::MinRate => 8_192,
             Ranged::DialTimeout => 5_000,
             Ranged::ShutdownTimeout => 20_000,
+            Ranged::Tries => 3,
+            Ranged::Rate => 10,
+            Ranged::Burst => 15,
+            Ranged::Rests => 100_000,
         }
     }
 }
@@ -146,6 +166,7 @@ pub fn have_numbers(numbers: &[Ranged], options: &Options) -> bool
 /// A number that is in the range of its option.
 pub fn in_range(option: Ranged, number: u64) -> Result<u64, WordsFault>
     ensures gives { result ≡ spec.in_range option number }
+    ensures least { IfOk result (λ n. spec.least option ≤ n) }
     ensures most { IfOk result (λ n. n ≤ spec.most option) }
 {
     if number < option.least() || option.most() < number {

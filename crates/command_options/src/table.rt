@@ -1,9 +1,10 @@
 // The options of each command, for what is told of a bad word.
 use crate::names::{
-    BATCH_BUFFER, BATCH_MAX_SIZE, BATCH_MAX_WAIT, BAYS, CONNECTIONS, DIAL_TIMEOUT, ENDPOINTS,
-    EXIT_ON_STDIN_EOF, IDLE_TIMEOUT, LISTEN, LOG_MODE, LOG_PATH, MAX_BATCH_SIZE, MAX_EVENT_SIZE,
-    MIN_RATE, MOMENT, POLICY, READ_HEADER_TIMEOUT, RESPONSE_HEADER_TIMEOUT, ROUTES, SERVICES,
-    SHUTDOWN_TIMEOUT, STALL_TIMEOUT, SUMMARY, TOKENS, WEBHOOK_MODE, WEBHOOK_URL,
+    BATCH_BUFFER, BATCH_MAX_SIZE, BATCH_MAX_WAIT, BAYS, BURST, CONNECTIONS, DIAL_TIMEOUT,
+    ENDPOINTS, EXIT_ON_STDIN_EOF, IDLE_TIMEOUT, LISTEN, LOG_MODE, LOG_PATH, MAX_BATCH_SIZE,
+    MAX_EVENT_SIZE, MIN_RATE, MOMENT, POLICY, RATE, READ_HEADER_TIMEOUT, RESPONSE_HEADER_TIMEOUT,
+    RESTS, ROUTES, SERVICES, SHUTDOWN_TIMEOUT, STALL_TIMEOUT, SUMMARY, TOKENS, TRIES, WEBHOOK_MODE,
+    WEBHOOK_URL,
 };
 use crate::ranged::Ranged;
 
@@ -46,19 +47,38 @@ const SERVE: [&str; 24] = [
     EXIT_ON_STDIN_EOF,
 ];
 
+const SHIP: [&str; 7] = [
+    WEBHOOK_URL,
+    BATCH_MAX_SIZE,
+    MAX_BATCH_SIZE,
+    TRIES,
+    RATE,
+    BURST,
+    RESTS,
+];
+
 /// The names of the options of a command, without their dashes. A command of another name has none.
 pub fn options_for(command: &str) -> &'static [&'static str] {
     match command {
         "explain" => &EXPLAIN,
         "check" => &CHECK,
         "serve" => &SERVE,
+        "ship" => &SHIP,
         _ => &[],
     }
 }
 
-/// The first command that has an option of that name, in the order `explain`, `check` and `serve`.
+/// The name of the option that a command can't be without, if there is one.
+pub fn required_by(command: &str) -> Option<&'static str> {
+    match command {
+        "ship" => Some(WEBHOOK_URL),
+        _ => None,
+    }
+}
+
+/// The first command that has an option of that name, in the order `explain`, `check`, `serve` and `ship`.
 pub fn command_with(name: &str) -> Option<&'static str> {
-    for command in ["explain", "check", "serve"] {
+    for command in ["explain", "check", "serve", "ship"] {
         if options_for(command).iter().any(|own| *own == name) {
             return Some(command);
         }
@@ -106,6 +126,10 @@ pub fn ranged_named(name: &str) -> Option<Ranged> {
         DIAL_TIMEOUT => Some(Ranged::DialTimeout),
         RESPONSE_HEADER_TIMEOUT => Some(Ranged::ResponseHeaderTimeout),
         SHUTDOWN_TIMEOUT => Some(Ranged::ShutdownTimeout),
+        TRIES => Some(Ranged::Tries),
+        RATE => Some(Ranged::Rate),
+        BURST => Some(Ranged::Burst),
+        RESTS => Some(Ranged::Rests),
         _ => None,
     }
 }

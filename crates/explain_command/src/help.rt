@@ -215,7 +215,7 @@ Example:
 /// A page of help.
 pub fn help_on(topic: Topic) -> &'static str {
     match topic {
-        Topic::Program => HELP,
+        Topic::Program | Topic::Ship => HELP,
         Topic::Explain => EXPLAIN_HELP,
         Topic::Check => CHECK_HELP,
         Topic::Serve => SERVE_HELP,

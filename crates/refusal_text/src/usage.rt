@@ -1,5 +1,7 @@
 // What is wrong with words that are no command line.
-use command_options::{BadWord, WordFault, command_with, options_for, ranged_named, sink_of};
+use command_options::{
+    BadWord, WordFault, command_with, options_for, ranged_named, required_by, sink_of,
+};
 use std::alloc::{AllocError, Global};
 use strsim::levenshtein;
 
@@ -11,6 +13,7 @@ fn help_on(command: &str) -> &'static str {
         "explain" => "Try 'apiaggd explain --help'.",
         "check" => "Try 'apiaggd check --help'.",
         "serve" => "Try 'apiaggd serve --help'.",
+        "ship" => "Try 'apiaggd ship --help'.",
         "rehearse" => "Try 'apiaggd rehearse --help'.",
         _ => PROGRAM_HELP,
     }
@@ -99,6 +102,14 @@ fn no_sink(alloc: Global, option: &str) -> Result<String, AllocError> {
     }
 }
 
+// A command without an option that it can't be without.
+fn lacking(alloc: Global, command: &str) -> Result<String, AllocError> {
+    match required_by(command) {
+        Some(option) => format!(in alloc; "{command}: needs --{option}"),
+        None => format!(in alloc; "{command}: needs an option"),
+    }
+}
+
 // What asks for help or the version, and stands beside no other word.
 fn stands_alone(option: &str) -> bool {
     matches!(option, "--help" | "-h" | "--version")
@@ -125,6 +136,7 @@ fn fault_line(
         WordFault::NotNumber => not_number(alloc, option),
         WordFault::NotMode => format!(in alloc; "{option}: not batch, blocking or blocking-strict"),
         WordFault::NoSink => no_sink(alloc, option),
+        WordFault::Lacking => lacking(alloc, word),
     }
 }
 
