@@ -28,7 +28,7 @@ fn main(rt: HostRuntime) -> ExitCode {
     let ready = match Asked::of(words.as_slice()) {
         Asked::Help(topic) => return print_text(&rt, help_on(topic)),
         Asked::Version => return print_text(&rt, VERSION),
-        Asked::Explain | Asked::Unknown => return explained(&rt, &words),
+        Asked::Explain | Asked::Ship | Asked::Unknown => return explained(&rt, &words),
         Asked::Check => return checked(&rt, &words),
         Asked::Rehearse => return rehearsed(&rt, &rt, &words),
         Asked::Serve => prepare(&rt, &rt, &words),
