@@ -1,0 +1,29 @@
+ghost use Rattle.std.specs.Prelude.{◌≡◌, ◌≤◌, ◌+◌, ◌-◌, ◌*◌, ◌/◌, ℕ, List, Option};
+ghost use Rattle.front_base.specs.Line.{Line};
+ghost use Rattle.log_ship.specs.Chains.{Side, Posted};
+ghost use Rattle.log_ship.specs.Shipped as shipped;
+ghost use Rattle.log_ship.specs.declared.tally.Tally.{Tally};
+ghost use Rattle.retry_throttle.specs.Shippings.{all_taken};
+ghost use Rattle.retry_throttle.specs.Tokens.{count_between};
+ghost use Rattle.retry_throttle.specs.declared.bucket.TheConstants.{TOKEN};
+ghost use Rattle.retry_throttle.specs.declared.sent.Sent.{Sent};
+ghost use Rattle.ship_summary.specs.Paces.{Told, Begins, rules_of};
+ghost use Rattle.ship_summary.specs.declared.pace.ShipPace.{ShipPace};
+
+use retry_throttle::few_posts_between;
+
+/// From one moment to another, these among them, a run posts at most as often as its burst says, and as its rate allows in between, rounded
+/// down.
+pub fn few_posts_between_moments()
+    ensures { (pace : ShipPace) (old : Told) (start stop : Side) (batches : List (List Line)) (ends : List Sent) (a b : ℕ)
+        → Begins pace old start → (posted : Posted (rules_of pace) start batches ends stop)
+        → count_between a b (all_taken posted.outcomes) ≤ pace.burst + pace.rate * (b - a) / TOKEN }
+{
+    few_posts_between();
+}
+
+/// Each line that was read is counted as posted or as lost, and none as both.
+pub fn each_line_is_counted()
+    ensures { (setup : shipped.Setup) (p q : Side) (left0 left : Option (List ℕ)) (lines : ℕ) (rest : List ℕ) (tally : Tally)
+        → shipped.Ships setup p left0 left lines rest tally q → tally.posted + tally.lost ≡ lines }
+{}
