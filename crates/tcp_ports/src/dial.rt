@@ -2,11 +2,10 @@ ghost use Rattle.std.specs.Prelude.{◌≡◌, ◌<◌, ◌≤◌, ◌+◌, [], 
 ghost use Rattle.front_ports.specs.Cause.{HasCause, Rose};
 ghost use Rattle.tcp_ports.specs.Counts.{dial_faults, dial_link_faults, link_read_faults, link_write_faults};
 
-use crate::clock::timeout_of;
 use crate::dial_fault::DialFault;
-use crate::limits::TcpLimits;
 use crate::link::TcpLink;
-use crate::listener::{SharedListener, set_options, socket_addr_of};
+use crate::listener::SharedListener;
+use crate::open::open_stream;
 use crate::poll::NO_SOCKET;
 use crate::served_client::ServedClient;
 use front_base::Address;
@@ -24,20 +23,6 @@ pub struct TcpDial<'b, R> {
     fault: &'b DialFault,
     faults: u64,
     link_faults: u64,
-}
-
-fn open_stream<R: Net<Stream = TcpStream>>(
-    net: &R,
-    limits: &TcpLimits,
-    to: Address,
-) -> io::Result<TcpStream> {
-    let stream = TcpStream::connect_timeout(
-        net,
-        &socket_addr_of(to),
-        timeout_of(limits.dial_timeout),
-    )?;
-    set_options(&stream, timeout_of(limits.wake_interval))?;
-    Ok(stream)
 }
 
 impl<'b, R: Net<Stream = TcpStream> + rt::Clock> TcpDial<'b, R> {

@@ -31,6 +31,7 @@ mod limits;
 mod linger;
 mod link;
 mod listener;
+mod open;
 mod pace;
 mod poll;
 mod rate;

@@ -30,6 +30,7 @@ pub struct TcpLink<'b, R> {
     long_running: bool,
     reply: ReplyScan,
     sending: RateFloor,
+    writes: u64,
     read_faults: u64,
     write_faults: u64,
 }
@@ -110,6 +111,7 @@ impl<'b, R: rt::Clock> TcpLink<'b, R> {
             long_running,
             reply: ReplyScan::new(),
             sending: RateFloor::new(),
+            writes: 0,
             read_faults: 0,
             write_faults: 0,
         }
@@ -172,6 +174,11 @@ impl<'b, R: rt::Clock> ByteSink for TcpLink<'b, R> {
         ensures cause { HasCause (link_write_faults self.old) (link_write_faults self.new) result }
         ensures aside { link_input self.new ≡ link_input self.old }
     {
+        // A small piece would wait for the backend to have taken the one before. The first one has none before it.
+        if self.writes == 1 {
+            let _ = self.stream.set_nodelay(true);
+        }
+        self.writes = self.writes.saturating_add(1);
         let has_client = self.client.socket() != NO_SOCKET;
         let sent = send_some(
             self.rt,

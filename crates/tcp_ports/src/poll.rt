@@ -17,6 +17,9 @@ pub(crate) const NO_SOCKET: RawFd = -1;
 /// Something to read or to accept, or an end.
 pub(crate) const INPUT: i16 = net::POLLIN;
 
+/// Room for something to write, or an end.
+pub(crate) const OUTPUT: i16 = net::POLLOUT;
+
 /// The peer has ended its side.
 pub(crate) const PEER_END: i16 = net::POLLRDHUP;
 
