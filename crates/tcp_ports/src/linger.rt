@@ -1,6 +1,6 @@
 use crate::clock::millis_now;
 use crate::limits::TcpLimits;
-use crate::poll::{INPUT, MOST_TURNS, wait_for};
+use crate::poll::{INPUT, MOST_TURNS, is_passing, wait_for};
 use std::io::Read;
 use std::net::{Shutdown, TcpStream};
 use std::os::fd::AsRawFd;
@@ -20,12 +20,15 @@ pub(crate) fn linger(rt: &impl rt::Clock, limits: &TcpLimits, stream: &TcpStream
         if spent >= limits.linger_timeout || dropped >= limits.linger_bytes {
             return;
         }
-        if !wait_for(stream.as_raw_fd(), INPUT, limits.linger_timeout - spent) {
-            return;
-        }
         let mut reader = stream;
+        // A read waits for a moment itself, which is enough for a client that ends its side at once.
         match reader.read(&mut buf) {
             Ok(count) if count > 0 => dropped = dropped.saturating_add(count as u64),
+            Err(error) if is_passing(&error) => {
+                if !wait_for(stream.as_raw_fd(), INPUT, limits.linger_timeout - spent) {
+                    return;
+                }
+            }
             _ => return,
         }
     }

@@ -39,8 +39,6 @@ pub struct TcpLink<'b, R> {
 // the listener was closed.
 fn is_abandoned(listener: &SharedListener, client: RawFd, link: RawFd, streams: bool) -> bool {
     let closes = if streams {
-        // A stream has no timeout, but its backend's machine may go.
-        keep_alive(link);
         listener.raw_fd()
     } else {
         NO_SOCKET
@@ -102,6 +100,10 @@ impl<'b, R: rt::Clock> TcpLink<'b, R> {
         ensures reads { link_read_faults result ≡ 0 }
         ensures writes { link_write_faults result ≡ 0 }
     {
+        if long_running {
+            // A stream has no timeout, but its backend's machine may go.
+            keep_alive(stream.as_raw_fd());
+        }
         TcpLink {
             rt,
             listener,
