@@ -1,8 +1,11 @@
 ghost use Rattle.std.specs.Prelude.{◌≡◌, ◌⊎◌, [], Some};
 ghost use Rattle.alike_runs.specs.AlikeSinks.{AlikeDrains, AlikeOwn, SameDrains, SameOwn};
 ghost use Rattle.alike_runs.specs.TwoRuns.{AlikeBays, AlikeRuns, TwoRuns};
+ghost use Rattle.audit_core.specs.Offers.{mode_of};
 ghost use Rattle.audit_core.specs.declared.settings.Settings.{Settings};
+ghost use Rattle.audit_core.specs.declared.sinks.Sink.{Sink};
 ghost use Rattle.audit_core.specs.declared.sinks.SinkMode.TheVariants.{Batch, Blocking, Strict};
+ghost use Rattle.run_laws.specs.Sides.{side_end, side_opens, side_sink};
 ghost use Rattle.serve_bays.specs.declared.options.RunOptions.{RunOptions};
 ghost use Rattle.serve_roles.specs.Doors.{bay_handles};
 ghost use Rattle.serve_runs.specs.declared.ended.Ended.{Ended};
@@ -17,22 +20,14 @@ use run_laws::{accepted_lines_are_batched, tried_lines_are_those_offered};
 /// Two runs whose bays had alike exchanges sent a sink in mode batch the same bytes, where its tries were cut alike and have
 /// lines of the same bays in the same order.
 pub fn same_audit<P: Plant, R: Routes>()
-    ensures log { (set : Settings) (options : RunOptions) (one other : Ended R P.L P.W P.H P.K P.Y P.D)
-        (runs : TwoRuns (bay_handles R.Routes P.L.Dial P.W.BatchSink P.H.BatchSink P.K.Clock P.Y.Diary P.D.Door
-        P.D.C.Source P.D.C.ByteSink P.D.C.Conn.own) P.Rt set options P.opens one other)
-        → set.log ≡ Batch → P.opens.log ≡ Some (Some [])
-        → AlikeBays (bay_handles R.Routes P.L.Dial P.W.BatchSink P.H.BatchSink P.K.Clock P.Y.Diary P.D.Door
-        P.D.C.Source P.D.C.ByteSink P.D.C.Conn.own)
-        P.Rt set options P.opens one other runs
-        → AlikeDrains P.W.BatchSink one.log other.log → SameDrains P.W.BatchSink one.log other.log }
-    ensures hook { (set : Settings) (options : RunOptions) (one other : Ended R P.L P.W P.H P.K P.Y P.D)
-        (runs : TwoRuns (bay_handles R.Routes P.L.Dial P.W.BatchSink P.H.BatchSink P.K.Clock P.Y.Diary P.D.Door
-        P.D.C.Source P.D.C.ByteSink P.D.C.Conn.own) P.Rt set options P.opens one other)
-        → set.hook ≡ Batch → P.opens.hook ≡ Some (Some [])
-        → AlikeBays (bay_handles R.Routes P.L.Dial P.W.BatchSink P.H.BatchSink P.K.Clock P.Y.Diary P.D.Door
-        P.D.C.Source P.D.C.ByteSink P.D.C.Conn.own)
-        P.Rt set options P.opens one other runs
-        → AlikeDrains P.H.BatchSink one.hook other.hook → SameDrains P.H.BatchSink one.hook other.hook }
+    ensures { let h = bay_handles R.Routes P.L.Dial P.W.BatchSink P.H.BatchSink P.K.Clock P.Y.Diary P.D.Door
+        P.D.C.Source P.D.C.ByteSink P.D.C.Conn.own in
+        (sink : Sink) (set : Settings) (options : RunOptions) (one other : Ended R P.L P.W P.H P.K P.Y P.D)
+        (runs : TwoRuns h P.Rt set options P.opens one other)
+        → mode_of set sink ≡ Batch → (side_opens P.opens options sink).sent ≡ Some (Some [])
+        → AlikeBays h P.Rt set options P.opens one other runs
+        → AlikeDrains (side_sink h sink) (side_end one sink) (side_end other sink)
+        → SameDrains (side_sink h sink) (side_end one sink) (side_end other sink) }
 {
     accepted_lines_are_batched::<P, R>();
     alike_exchanges_owe_alike();
@@ -42,22 +37,14 @@ pub fn same_audit<P: Plant, R: Routes>()
 
 /// The same of a sink that is written to at once: each bay's own was sent the same bytes.
 pub fn same_audit_at_once<P: Plant, R: Routes>()
-    ensures log { (set : Settings) (options : RunOptions) (one other : Ended R P.L P.W P.H P.K P.Y P.D)
-        (runs : TwoRuns (bay_handles R.Routes P.L.Dial P.W.BatchSink P.H.BatchSink P.K.Clock P.Y.Diary P.D.Door
-        P.D.C.Source P.D.C.ByteSink P.D.C.Conn.own) P.Rt set options P.opens one other)
-        → (set.log ≡ Blocking) ⊎ (set.log ≡ Strict) → P.opens.log ≡ Some (Some [])
-        → AlikeBays (bay_handles R.Routes P.L.Dial P.W.BatchSink P.H.BatchSink P.K.Clock P.Y.Diary P.D.Door
-        P.D.C.Source P.D.C.ByteSink P.D.C.Conn.own)
-        P.Rt set options P.opens one other runs
-        → AlikeOwn P.W.BatchSink one.log other.log → SameOwn P.W.BatchSink one.log other.log }
-    ensures hook { (set : Settings) (options : RunOptions) (one other : Ended R P.L P.W P.H P.K P.Y P.D)
-        (runs : TwoRuns (bay_handles R.Routes P.L.Dial P.W.BatchSink P.H.BatchSink P.K.Clock P.Y.Diary P.D.Door
-        P.D.C.Source P.D.C.ByteSink P.D.C.Conn.own) P.Rt set options P.opens one other)
-        → (set.hook ≡ Blocking) ⊎ (set.hook ≡ Strict) → P.opens.hook ≡ Some (Some [])
-        → AlikeBays (bay_handles R.Routes P.L.Dial P.W.BatchSink P.H.BatchSink P.K.Clock P.Y.Diary P.D.Door
-        P.D.C.Source P.D.C.ByteSink P.D.C.Conn.own)
-        P.Rt set options P.opens one other runs
-        → AlikeOwn P.H.BatchSink one.hook other.hook → SameOwn P.H.BatchSink one.hook other.hook }
+    ensures { let h = bay_handles R.Routes P.L.Dial P.W.BatchSink P.H.BatchSink P.K.Clock P.Y.Diary P.D.Door
+        P.D.C.Source P.D.C.ByteSink P.D.C.Conn.own in
+        (sink : Sink) (set : Settings) (options : RunOptions) (one other : Ended R P.L P.W P.H P.K P.Y P.D)
+        (runs : TwoRuns h P.Rt set options P.opens one other)
+        → (mode_of set sink ≡ Blocking) ⊎ (mode_of set sink ≡ Strict) → (side_opens P.opens options sink).sent ≡ Some (Some [])
+        → AlikeBays h P.Rt set options P.opens one other runs
+        → AlikeOwn (side_sink h sink) (side_end one sink) (side_end other sink)
+        → SameOwn (side_sink h sink) (side_end one sink) (side_end other sink) }
 {
     tried_lines_are_those_offered::<P, R>();
     alike_exchanges_owe_alike();
@@ -83,38 +70,22 @@ pub fn alike_requests_make_alike_bays<P: Plant, R: Routes>()
 /// From the requests to the bytes: two runs whose bays served requests that look alike, with the same drops and failures, sent each
 /// sink the same bytes, where its tries were cut alike. What lies below the recorded level of a request reaches no sink.
 pub fn alike_requests_leave_the_same_audit<P: Plant, R: Routes>()
-    ensures log { (set : Settings) (options : RunOptions) (one other : Ended R P.L P.W P.H P.K P.Y P.D)
-        (runs : TwoRuns (bay_handles R.Routes P.L.Dial P.W.BatchSink P.H.BatchSink P.K.Clock P.Y.Diary P.D.Door
-        P.D.C.Source P.D.C.ByteSink P.D.C.Conn.own) P.Rt set options P.opens one other)
-        → set.log ≡ Batch → P.opens.log ≡ Some (Some [])
-        → AlikeRuns (bay_handles R.Routes P.L.Dial P.W.BatchSink P.H.BatchSink P.K.Clock P.Y.Diary P.D.Door
-        P.D.C.Source P.D.C.ByteSink P.D.C.Conn.own)
-        P.Rt set options P.opens one other runs
-        → AlikeDrains P.W.BatchSink one.log other.log → SameDrains P.W.BatchSink one.log other.log }
-    ensures hook { (set : Settings) (options : RunOptions) (one other : Ended R P.L P.W P.H P.K P.Y P.D)
-        (runs : TwoRuns (bay_handles R.Routes P.L.Dial P.W.BatchSink P.H.BatchSink P.K.Clock P.Y.Diary P.D.Door
-        P.D.C.Source P.D.C.ByteSink P.D.C.Conn.own) P.Rt set options P.opens one other)
-        → set.hook ≡ Batch → P.opens.hook ≡ Some (Some [])
-        → AlikeRuns (bay_handles R.Routes P.L.Dial P.W.BatchSink P.H.BatchSink P.K.Clock P.Y.Diary P.D.Door
-        P.D.C.Source P.D.C.ByteSink P.D.C.Conn.own)
-        P.Rt set options P.opens one other runs
-        → AlikeDrains P.H.BatchSink one.hook other.hook → SameDrains P.H.BatchSink one.hook other.hook }
-    ensures log_at_once { (set : Settings) (options : RunOptions) (one other : Ended R P.L P.W P.H P.K P.Y P.D)
-        (runs : TwoRuns (bay_handles R.Routes P.L.Dial P.W.BatchSink P.H.BatchSink P.K.Clock P.Y.Diary P.D.Door
-        P.D.C.Source P.D.C.ByteSink P.D.C.Conn.own) P.Rt set options P.opens one other)
-        → (set.log ≡ Blocking) ⊎ (set.log ≡ Strict) → P.opens.log ≡ Some (Some [])
-        → AlikeRuns (bay_handles R.Routes P.L.Dial P.W.BatchSink P.H.BatchSink P.K.Clock P.Y.Diary P.D.Door
-        P.D.C.Source P.D.C.ByteSink P.D.C.Conn.own)
-        P.Rt set options P.opens one other runs
-        → AlikeOwn P.W.BatchSink one.log other.log → SameOwn P.W.BatchSink one.log other.log }
-    ensures hook_at_once { (set : Settings) (options : RunOptions) (one other : Ended R P.L P.W P.H P.K P.Y P.D)
-        (runs : TwoRuns (bay_handles R.Routes P.L.Dial P.W.BatchSink P.H.BatchSink P.K.Clock P.Y.Diary P.D.Door
-        P.D.C.Source P.D.C.ByteSink P.D.C.Conn.own) P.Rt set options P.opens one other)
-        → (set.hook ≡ Blocking) ⊎ (set.hook ≡ Strict) → P.opens.hook ≡ Some (Some [])
-        → AlikeRuns (bay_handles R.Routes P.L.Dial P.W.BatchSink P.H.BatchSink P.K.Clock P.Y.Diary P.D.Door
-        P.D.C.Source P.D.C.ByteSink P.D.C.Conn.own)
-        P.Rt set options P.opens one other runs
-        → AlikeOwn P.H.BatchSink one.hook other.hook → SameOwn P.H.BatchSink one.hook other.hook }
+    ensures batch { let h = bay_handles R.Routes P.L.Dial P.W.BatchSink P.H.BatchSink P.K.Clock P.Y.Diary P.D.Door
+        P.D.C.Source P.D.C.ByteSink P.D.C.Conn.own in
+        (sink : Sink) (set : Settings) (options : RunOptions) (one other : Ended R P.L P.W P.H P.K P.Y P.D)
+        (runs : TwoRuns h P.Rt set options P.opens one other)
+        → mode_of set sink ≡ Batch → (side_opens P.opens options sink).sent ≡ Some (Some [])
+        → AlikeRuns h P.Rt set options P.opens one other runs
+        → AlikeDrains (side_sink h sink) (side_end one sink) (side_end other sink)
+        → SameDrains (side_sink h sink) (side_end one sink) (side_end other sink) }
+    ensures at_once { let h = bay_handles R.Routes P.L.Dial P.W.BatchSink P.H.BatchSink P.K.Clock P.Y.Diary P.D.Door
+        P.D.C.Source P.D.C.ByteSink P.D.C.Conn.own in
+        (sink : Sink) (set : Settings) (options : RunOptions) (one other : Ended R P.L P.W P.H P.K P.Y P.D)
+        (runs : TwoRuns h P.Rt set options P.opens one other)
+        → (mode_of set sink ≡ Blocking) ⊎ (mode_of set sink ≡ Strict) → (side_opens P.opens options sink).sent ≡ Some (Some [])
+        → AlikeRuns h P.Rt set options P.opens one other runs
+        → AlikeOwn (side_sink h sink) (side_end one sink) (side_end other sink)
+        → SameOwn (side_sink h sink) (side_end one sink) (side_end other sink) }
 {
     alike_requests_make_alike_bays::<P, R>();
     same_audit::<P, R>();

@@ -1,15 +1,15 @@
 ghost use Rattle.std.specs.Prelude.{◌≡◌, ◌⊎◌, ◌↔◌, ℕ, List, slice_get, IfSome};
-ghost use Rattle.audit_core.specs.Offers.{Due};
+ghost use Rattle.audit_core.specs.Offers.{Due, mode_of};
 ghost use Rattle.audit_core.specs.declared.link_note.LinkNote.TheVariants.{DialFailed, LinkFault};
 ghost use Rattle.audit_core.specs.declared.settings.Settings.{Settings};
 ghost use Rattle.audit_core.specs.declared.sinks.Sink.{Sink};
-ghost use Rattle.audit_core.specs.declared.sinks.Sink.TheVariants.{Log, Webhook};
 ghost use Rattle.audit_core.specs.declared.sinks.SinkMode.TheVariants.{Batch, Blocking, Strict};
 ghost use Rattle.front_plants.specs.Plants.{PlantTells};
 ghost use Rattle.front_ports.specs.Cause.{Rose};
 ghost use Rattle.http_edge.specs.declared.request.Request.{Request};
 ghost use Rattle.serve_bays.specs.declared.options.RunOptions.{RunOptions};
 ghost use Rattle.run_completeness.specs.Kept.{AllClosed, BatchesKeepAll, TriesKeepAll, lines_due};
+ghost use Rattle.run_laws.specs.Sides.{side_allots, side_end, side_sink};
 ghost use Rattle.serve_roles.specs.Doors.{bay_handles};
 ghost use Rattle.serve_runs.specs.Served.{RunServed, run_exchanges};
 ghost use Rattle.serve_runs.specs.declared.ended.Ended.{Ended};
@@ -33,20 +33,13 @@ pub fn owed_lines_are_numbered()
 /// A sink in batch mode: each line that a bay owed stands in the tries, unless its offer was Full, and none is Full where
 /// the queue has room for all allotments.
 pub fn nothing_is_lost_in_batches<P: Plant, R: Routes>()
-    ensures log { (set : Settings) (options : RunOptions) (before after : PlantTells P.D.C) (tables : List R)
+    ensures { let h = bay_handles R.Routes P.L.Dial P.W.BatchSink P.H.BatchSink P.K.Clock P.Y.Diary P.D.Door
+        P.D.C.Source P.D.C.ByteSink P.D.C.Conn.own in
+        (sink : Sink) (set : Settings) (options : RunOptions) (before after : PlantTells P.D.C) (tables : List R)
         (ended : Ended R P.L P.W P.H P.K P.Y P.D)
-        (served : RunServed (bay_handles R.Routes P.L.Dial P.W.BatchSink P.H.BatchSink P.K.Clock P.Y.Diary P.D.Door
-        P.D.C.Source P.D.C.ByteSink P.D.C.Conn.own) P.Rt set options P.opens before after tables ended)
-        → set.log ≡ Batch
-        → BatchesKeepAll (bay_handles R.Routes P.L.Dial P.W.BatchSink P.H.BatchSink P.K.Clock P.Y.Diary P.D.Door
-        P.D.C.Source P.D.C.ByteSink P.D.C.Conn.own) P.W.BatchSink set Log options served.log_allots (run_exchanges served) ended.bays.items ended.log }
-    ensures hook { (set : Settings) (options : RunOptions) (before after : PlantTells P.D.C) (tables : List R)
-        (ended : Ended R P.L P.W P.H P.K P.Y P.D)
-        (served : RunServed (bay_handles R.Routes P.L.Dial P.W.BatchSink P.H.BatchSink P.K.Clock P.Y.Diary P.D.Door
-        P.D.C.Source P.D.C.ByteSink P.D.C.Conn.own) P.Rt set options P.opens before after tables ended)
-        → set.hook ≡ Batch
-        → BatchesKeepAll (bay_handles R.Routes P.L.Dial P.W.BatchSink P.H.BatchSink P.K.Clock P.Y.Diary P.D.Door
-        P.D.C.Source P.D.C.ByteSink P.D.C.Conn.own) P.H.BatchSink set Webhook options served.hook_allots (run_exchanges served) ended.bays.items ended.hook }
+        (served : RunServed h P.Rt set options P.opens before after tables ended)
+        → mode_of set sink ≡ Batch
+        → BatchesKeepAll h (side_sink h sink) set sink options (side_allots served sink) (run_exchanges served) ended.bays.items (side_end ended sink) }
 {
     each_lane_gets_its_lines();
     refusals_are_counted();
@@ -54,20 +47,13 @@ pub fn nothing_is_lost_in_batches<P: Plant, R: Routes>()
 
 /// A sink that is written to at once and counted no fault and no refusal wrote each line that its bay owed.
 pub fn nothing_is_lost_at_once<P: Plant, R: Routes>()
-    ensures log { (set : Settings) (options : RunOptions) (before after : PlantTells P.D.C) (tables : List R)
+    ensures { let h = bay_handles R.Routes P.L.Dial P.W.BatchSink P.H.BatchSink P.K.Clock P.Y.Diary P.D.Door
+        P.D.C.Source P.D.C.ByteSink P.D.C.Conn.own in
+        (sink : Sink) (set : Settings) (options : RunOptions) (before after : PlantTells P.D.C) (tables : List R)
         (ended : Ended R P.L P.W P.H P.K P.Y P.D)
-        (served : RunServed (bay_handles R.Routes P.L.Dial P.W.BatchSink P.H.BatchSink P.K.Clock P.Y.Diary P.D.Door
-        P.D.C.Source P.D.C.ByteSink P.D.C.Conn.own) P.Rt set options P.opens before after tables ended)
-        → (set.log ≡ Blocking) ⊎ (set.log ≡ Strict)
-        → TriesKeepAll (bay_handles R.Routes P.L.Dial P.W.BatchSink P.H.BatchSink P.K.Clock P.Y.Diary P.D.Door
-        P.D.C.Source P.D.C.ByteSink P.D.C.Conn.own) P.W.BatchSink set Log (run_exchanges served) ended.bays.items ended.log }
-    ensures hook { (set : Settings) (options : RunOptions) (before after : PlantTells P.D.C) (tables : List R)
-        (ended : Ended R P.L P.W P.H P.K P.Y P.D)
-        (served : RunServed (bay_handles R.Routes P.L.Dial P.W.BatchSink P.H.BatchSink P.K.Clock P.Y.Diary P.D.Door
-        P.D.C.Source P.D.C.ByteSink P.D.C.Conn.own) P.Rt set options P.opens before after tables ended)
-        → (set.hook ≡ Blocking) ⊎ (set.hook ≡ Strict)
-        → TriesKeepAll (bay_handles R.Routes P.L.Dial P.W.BatchSink P.H.BatchSink P.K.Clock P.Y.Diary P.D.Door
-        P.D.C.Source P.D.C.ByteSink P.D.C.Conn.own) P.H.BatchSink set Webhook (run_exchanges served) ended.bays.items ended.hook }
+        (served : RunServed h P.Rt set options P.opens before after tables ended)
+        → (mode_of set sink ≡ Blocking) ⊎ (mode_of set sink ≡ Strict)
+        → TriesKeepAll h (side_sink h sink) set sink (run_exchanges served) ended.bays.items (side_end ended sink) }
 {
     each_lane_gets_its_lines();
     refusals_are_counted();

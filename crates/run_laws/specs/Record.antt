@@ -67,6 +67,11 @@ pub record AuditBytes : Type 0 where
   pub log : List (Option (List ℕ))
   pub hook : List (Option (List ℕ))
 
+-- those of one of the sinks
+abbrev pub bytes_for : AuditBytes → Sink → List (Option (List ℕ))
+bytes_for bytes Log = bytes.log
+bytes_for bytes Webhook = bytes.hook
+
 -- all audit bytes of a run with that record, by its settings and the URL of its webhook
 abbrev pub audit_bytes : Settings → List ℕ → RunRecord → AuditBytes
 audit_bytes set url run = record {

@@ -7,8 +7,8 @@ use Rattle.log_conforms.proofs.laws.logs_at_once_conform.Goals as goal
 use Rattle.serve_roles.specs.Doors.{bay_handles}
 use Rattle.serve_runs.specs.Served.{run_exchanges}
 
-pub returns-clause-log : goal.returns-clause-log
-returns-clause-log g c set options before after tables ended served range mode lines tried =
+pub returns : goal.returns
+returns g c Log set options before after tables ended served range mode lines tried =
     let h = bay_handles g.R.Routes g.P.L.Dial g.P.W.BatchSink g.P.H.BatchSink g.P.K.Clock g.P.Y.Diary g.P.D.Door
     g.P.D.C.Source g.P.D.C.ByteSink g.P.D.C.Conn in
     let xs = run_exchanges served in
@@ -17,10 +17,8 @@ returns-clause-log g c set options before after tables ended served range mode l
     (λ bay. none_at h set (log_opens g.P.Plant.opens) (hook_opens g.P.Plant.opens options.hook_url) served.boot before.due tables served.logs served.hooks
     bay (slice_get ended.bays.items bay) (served.each bay)) lines
     (are_own g.P.W.BatchSink g.P.K.Clock (log_opens g.P.Plant.opens) set.log options served.log_allots served.logs ended.log mode served.log).count
-    (c.tried_lines_are_those_offered.ensures.log set options before after tables ended served mode) tried)
-
-pub returns-clause-hook : goal.returns-clause-hook
-returns-clause-hook g c set options before after tables ended served range mode lines tried =
+    (c.tried_lines_are_those_offered.ensures Log set options before after tables ended served mode) tried)
+returns g c Webhook set options before after tables ended served range mode lines tried =
     let h = bay_handles g.R.Routes g.P.L.Dial g.P.W.BatchSink g.P.H.BatchSink g.P.K.Clock g.P.Y.Diary g.P.D.Door
     g.P.D.C.Source g.P.D.C.ByteSink g.P.D.C.Conn in
     let xs = run_exchanges served in
@@ -29,4 +27,4 @@ returns-clause-hook g c set options before after tables ended served range mode 
     (λ bay. none_at h set (log_opens g.P.Plant.opens) (hook_opens g.P.Plant.opens options.hook_url) served.boot before.due tables served.logs served.hooks
     bay (slice_get ended.bays.items bay) (served.each bay)) lines
     (are_own g.P.H.BatchSink g.P.K.Clock (hook_opens g.P.Plant.opens options.hook_url) set.hook options served.hook_allots served.hooks ended.hook mode served.hook).count
-    (c.tried_lines_are_those_offered.ensures.hook set options before after tables ended served mode) tried)
+    (c.tried_lines_are_those_offered.ensures Webhook set options before after tables ended served mode) tried)

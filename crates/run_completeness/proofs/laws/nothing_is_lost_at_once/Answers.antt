@@ -2,6 +2,7 @@ use Rattle.std.proofs.Common.{ℕ, ◌≡◌, ◌⊎◌, inl, inr, subst, List}
 use Rattle.any_lane.specs.declared.lane.AnyLane.{AnyLane}
 use Rattle.audit_core.specs.declared.sinks.SinkMode.{SinkMode}
 use Rattle.audit_core.specs.declared.sinks.SinkMode.TheVariants.{Blocking, Strict}
+use Rattle.audit_core.specs.declared.sinks.Sink.TheVariants.{Log, Webhook}
 use Rattle.front_plants.specs.Fresh.{SinkOpens, log_opens, hook_opens}
 use Rattle.front_ports.specs.declared.clock.Clock as clocks
 use Rattle.serve_bays.specs.Served.{IsOwn, SinkServed}
@@ -18,17 +19,15 @@ are_own : {S T K : Type 0} (s : sinks.Ghosts S) (k : clocks.Ghosts K) (opens : S
 are_own s k opens mode options allots lanes end (inl e) h = subst (λ m. SinkServed s k opens m options.bays options.buffer allots options.limits lanes end) e h
 are_own s k opens mode options allots lanes end (inr e) h = subst (λ m. SinkServed s k opens m options.bays options.buffer allots options.limits lanes end) e h
 
-pub returns-clause-log : goal.returns-clause-log
-returns-clause-log g c set options before after tables ended served mode =
+pub returns : goal.returns
+returns g c Log set options before after tables ended served mode =
     let h = bay_handles g.R.Routes g.P.L.Dial g.P.W.BatchSink g.P.H.BatchSink g.P.K.Clock g.P.Y.Diary g.P.D.Door
     g.P.D.C.Source g.P.D.C.ByteSink g.P.D.C.Conn in
     log_tries h set (log_opens g.P.Plant.opens) (hook_opens g.P.Plant.opens options.hook_url) served.boot before.due tables served.logs served.hooks c.each_lane_gets_its_lines.ensures.accepted c.each_lane_gets_its_lines.ensures.tried
     c.refusals_are_counted.ensures.full c.refusals_are_counted.ensures.failed
     options.bays ended.bays.items ended.log served.each
     (are_own g.P.W.BatchSink g.P.K.Clock (log_opens g.P.Plant.opens) set.log options served.log_allots served.logs ended.log mode served.log)
-
-pub returns-clause-hook : goal.returns-clause-hook
-returns-clause-hook g c set options before after tables ended served mode =
+returns g c Webhook set options before after tables ended served mode =
     let h = bay_handles g.R.Routes g.P.L.Dial g.P.W.BatchSink g.P.H.BatchSink g.P.K.Clock g.P.Y.Diary g.P.D.Door
     g.P.D.C.Source g.P.D.C.ByteSink g.P.D.C.Conn in
     hook_tries h set (log_opens g.P.Plant.opens) (hook_opens g.P.Plant.opens options.hook_url) served.boot before.due tables served.logs served.hooks c.each_lane_gets_its_lines.ensures.accepted c.each_lane_gets_its_lines.ensures.tried
