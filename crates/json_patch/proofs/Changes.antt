@@ -1,5 +1,5 @@
 -- What is left where a member is put or taken away.
-use Rattle.std.proofs.Common.{◌≡◌, ℕ, List, Bool, true, false, Option, Some, None, Ordering, Less, Equal, Greater, nat_cmp, refl, sym, ap, ◌∙◌, subst}
+use Rattle.std.proofs.Common.{◌≡◌, ℕ, List, Bool, true, false, Some, None, Ordering, Less, Equal, Greater, nat_cmp, refl, sym, ap, ◌∙◌, subst}
 use Rattle.std.specs.Cmp.Lexicographic.{slice_cmp}
 use Rattle.std.specs.Ordering.{match_ordering}
 use Rattle.std.specs.Prelude.{if◌then◌else◌}
@@ -8,7 +8,7 @@ use Rattle.serde_json.specs.Find.{get_member}
 use Rattle.serde_json.proofs.Views.{get_member-put, get_member-put_other}
 use Rattle.json_patch.specs.Merge.{without}
 use Rattle.json_patch.specs.Order.{AllAfter, Ascend}
-use Rattle.json_patch.proofs.Names.{tie, same_name, turned, all_later, skips}
+use Rattle.json_patch.proofs.Names.{same_name, turned, all_later, skips}
 
 abbrev Kept : Ordering → List ℕ → Data → Members → Members
 Kept o k d rest = match_ordering o (member k d rest) rest (member k d rest)
