@@ -1,5 +1,5 @@
 // How the program ends, and what it says of it.
-use proxy_server::Status;
+use command_ends::Status;
 use std::process::ExitCode;
 
 /// How a run of a command ended: its status, and what was refused where, in words.

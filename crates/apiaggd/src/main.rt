@@ -1,4 +1,4 @@
-//! `apiaggd`, a front door of a cluster API with audit. The top calls are those of `proxy_server`, `shared_runs` and
+//! `apiaggd`, a front door of a cluster API with audit. The top calls are those of `explain_run`, `shared_runs` and
 //! `rehearse_runs`; here are the handles of this process, and how it ends.
 #![tactic(auto)]
 

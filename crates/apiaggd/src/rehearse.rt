@@ -1,5 +1,5 @@
 // The command `rehearse`, over this process's output.
-use proxy_server::{Status, WriterSink};
+use command_ends::{Status, WriterSink};
 use rehearse_plan::MOST_REHEARSED;
 use rehearse_runs::run_rehearse;
 use std::process::ExitCode;

@@ -2,10 +2,10 @@
 use crate::ending::{Ending, finish};
 use crate::start::{threads_of, watch};
 use audit_core::Settings;
+use command_ends::{Status, SystemFiles};
 use explain_command::finish_told;
 use front_base::Address;
 use policy_rules::Policy;
-use proxy_server::{Status, SystemFiles};
 use route_history::NewRoutes;
 use serve_config::{ServeConfig, ServeWords, SinkWords, configure_serve};
 use serve_report::{begun_text, size_warning, strict_warnings};
@@ -185,7 +185,7 @@ pub fn prepare<R: Threads + Net<Listener = TcpListener, Stream = TcpStream>>(
             Err(ending) => Err(finish(host, &ending)),
         },
         Err(outcome) => {
-            let ended = proxy_server::Ended::of(outcome.status, outcome.why);
+            let ended = command_ends::Ended::of(outcome.status, outcome.why);
             Err(finish_told(host, words.as_slice(), &ended, files.files().reason()))
         }
     }

@@ -16,7 +16,7 @@ mod talks;
 mod trickle;
 
 use case_rows::{is_row, read_cases};
-use proxy_server::Status;
+use command_ends::Status;
 use std::alloc::{AllocError, Global};
 use std::process::ExitCode;
 

@@ -1,8 +1,9 @@
 // The ports between `explain` and the system: readers, writers, files and devices, also where they fail.
 use crate::run::words_of;
 use case_rows::{bytes_of, spelled};
+use command_ends::{ReaderSource, SystemFiles, WriterSink};
+use explain_run::run_desk;
 use front_ports::{ByteSink, Files, Source, write_all};
-use proxy_server::{ReaderSource, SystemFiles, WriterSink, run_desk};
 use std::alloc::{AllocError, Global};
 use std::fs::File;
 use std::{fs, io};

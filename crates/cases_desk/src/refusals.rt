@@ -1,7 +1,8 @@
 // Runs of `explain` that are refused, or leave events out, over the files of this folder.
 use crate::run::words_of;
 use case_rows::{bytes_of, fields};
-use proxy_server::{Ended, ReaderSource, SystemFiles, WriterSink, run_desk};
+use command_ends::{Ended, ReaderSource, SystemFiles, WriterSink};
+use explain_run::run_desk;
 use std::alloc::{AllocError, Global};
 use std::io;
 

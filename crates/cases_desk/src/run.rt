@@ -1,9 +1,10 @@
 // Runs of `explain`, over the files of this folder.
 use crate::trickle::Trickle;
 use case_rows::{bytes_of, fields};
+use command_ends::SystemFiles;
+use explain_run::run_desk;
 use front_base::{Bytes, NoMemory};
 use front_ports::{MemConn, Script};
-use proxy_server::{SystemFiles, run_desk};
 use std::alloc::{AllocError, Global};
 
 // Where a row says nothing else, reads give at most so many bytes, and so many of them.

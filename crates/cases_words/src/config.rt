@@ -1,8 +1,8 @@
 // Files of a configuration, and what loading them gives.
 use crate::endings::said_of;
 use crate::shelf::{Shelf, given_of, names_of};
+use command_ends::load_outcome;
 use front_config::{LoadFault, Loaded, load};
-use proxy_server::load_outcome;
 use std::alloc::{AllocError, Global};
 
 /// The user of the token `a`, how many rules there are, the names of the APIServices, and the delegate.

@@ -1,5 +1,5 @@
 // What is said of a run.
-use proxy_server::{Ended, Outcome, Status};
+use command_ends::{Ended, Outcome, Status};
 use refusal_text::Refusal;
 use std::alloc::{AllocError, Global};
 

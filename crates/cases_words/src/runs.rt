@@ -2,7 +2,8 @@
 use crate::endings::{said_of, said_of_own};
 use crate::lines::words_of;
 use case_rows::fields;
-use proxy_server::{ReaderSource, SystemFiles, WriterSink, run_desk};
+use command_ends::{ReaderSource, SystemFiles, WriterSink};
+use explain_run::run_desk;
 use serve_config::{ServeConfig, configure_serve};
 use std::alloc::{AllocError, Global};
 use std::io;

@@ -10,8 +10,8 @@ use Rattle.front_config.specs.declared.fault.LoadFault.{LoadFault}
 use Rattle.front_config.specs.declared.fault.LoadFault.TheVariants as load_fault
 use Rattle.front_config.specs.declared.fault.Which.{Which}
 use Rattle.front_config.specs.declared.files.Loaded.{Loaded}
-use Rattle.proxy_server.specs.Ports.{FilesPort, Told}
-use Rattle.proxy_server.specs.Why.{status_of_load, why_of_load}
+use Rattle.command_ends.specs.Ports.{FilesPort, Told}
+use Rattle.command_ends.specs.Why.{status_of_load, why_of_load}
 
 -- a fault that is answered is the one that is due, but for memory
 read_due : (r : Result Loaded LoadFault) (which : Which) → load.Gives (Err (load_fault.ReadFault which)) r → r ≡ Err (load_fault.ReadFault which)

@@ -13,10 +13,10 @@ use Rattle.front_config.specs.declared.files.Loaded.{Loaded}
 use Rattle.front_ports.specs.Cause.{Rose}
 use Rattle.front_ports.specs.FileMap.{Notes}
 use Rattle.policy_rules.specs.declared.policy.Policy.{Policy}
-use Rattle.proxy_server.specs.Ports.{FilesPort, Told}
-use Rattle.proxy_server.specs.Why.{TellsWords, why_of_load}
-use Rattle.proxy_server.specs.declared.status.Status.{Status}
-use Rattle.proxy_server.specs.declared.status.Status.TheVariants.{Usage, Configuration, ReadFault, NoMemory}
+use Rattle.command_ends.specs.Ports.{FilesPort, Told}
+use Rattle.command_ends.specs.Why.{TellsWords, why_of_load}
+use Rattle.command_ends.specs.declared.status.Status.{Status}
+use Rattle.command_ends.specs.declared.status.Status.TheVariants.{Usage, Configuration, ReadFault, NoMemory}
 use Rattle.refusal_text.specs.declared.refusal.Refusal.{Refusal}
 
 -- the words are a command line of `check`, and reads of the files that it names, told as these, gave this

@@ -8,9 +8,9 @@ use Rattle.log_check.specs.Checks.{Checks}
 use Rattle.log_check.specs.declared.check.CheckEnd.{CheckEnd}
 use Rattle.log_check.specs.declared.check.CheckEnd.TheVariants as end_case
 use Rattle.policy_rules.specs.declared.policy.Policy.{Policy}
-use Rattle.proxy_server.specs.Ports.{AreSound, FilesPort, HasFailed, IsSound, IsUntouched, Port}
-use Rattle.proxy_server.specs.declared.status.Status.{Status}
-use Rattle.proxy_server.specs.declared.status.Status.TheVariants.{Done, Log, ReadFault, NoMemory, WriteFault, NumbersSpent}
+use Rattle.command_ends.specs.Ports.{AreSound, FilesPort, HasFailed, IsSound, IsUntouched, Port}
+use Rattle.command_ends.specs.declared.status.Status.{Status}
+use Rattle.command_ends.specs.declared.status.Status.TheVariants.{Done, Log, ReadFault, NoMemory, WriteFault, NumbersSpent}
 use Rattle.refusal_text.specs.declared.refusal.Refusal.{Refusal}
 use Rattle.refusal_text.specs.declared.refusal.Refusal.TheVariants as refusal
 

@@ -4,9 +4,9 @@ use Rattle.std.specs.Io.KnownBytes.{Appends}
 use Rattle.check_command.specs.Run.{Run, why_of}
 use Rattle.check_command.specs.Words.{asks_summary}
 use Rattle.front_ports.specs.Written.{AppendsFront}
-use Rattle.proxy_server.specs.Ports.{FilesPort, HasFailed, IsSound, IsUntouched, Port, State}
-use Rattle.proxy_server.specs.declared.status.Status.{Status}
-use Rattle.proxy_server.specs.declared.status.Status.TheVariants.{Done, WriteFault, NoMemory}
+use Rattle.command_ends.specs.Ports.{FilesPort, HasFailed, IsSound, IsUntouched, Port, State}
+use Rattle.command_ends.specs.declared.status.Status.{Status}
+use Rattle.command_ends.specs.declared.status.Status.TheVariants.{Done, WriteFault, NoMemory}
 use Rattle.refusal_text.specs.declared.refusal.Refusal.{Refusal}
 
 -- a summary was written, or a prefix of it where a write failed, or nothing where memory ran out

@@ -1,13 +1,13 @@
 ghost use Rattle.std.specs.Prelude.{◌≡◌, ◌≤◌, IfErr, IfOk, OnOk, map, string_bytes};
 ghost use Rattle.check_command.specs.Config as spec;
 ghost use Rattle.front_ports.specs.FileMap.{KeepsFiles};
-ghost use Rattle.proxy_server.specs.Ports.{files_port};
+ghost use Rattle.command_ends.specs.Ports.{files_port};
 
 use crate::words::read_check;
+use command_ends::{Outcome, load_outcome, words_outcome};
 use front_config::{Loaded, load};
 use front_ports::Files;
 use policy_rules::Policy;
-use proxy_server::{Outcome, load_outcome, words_outcome};
 use std::alloc::Global;
 
 // The policy of what was loaded.

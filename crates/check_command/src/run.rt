@@ -2,15 +2,15 @@ ghost use Rattle.std.specs.Prelude.{◌≡◌, ◌≤◌, None, map, string_byte
 ghost use Rattle.check_command.specs.Run as spec;
 ghost use Rattle.front_ports.specs.FileMap.{KeepsFiles};
 ghost use Rattle.policy_rules.specs.declared.policy.Policy.{Policy};
-ghost use Rattle.proxy_server.specs.Ports.{files_port, port};
+ghost use Rattle.command_ends.specs.Ports.{files_port, port};
 
 use crate::answer::answer_text;
 use crate::config::configure_check;
+use command_ends::{Outcome, Status};
 use front_ports::{ByteSink, Files, Source, write_all};
 use log_check::{CheckEnd, Checked, check_log};
 use log_summary::Watch;
 use policy_rules::Policy;
-use proxy_server::{Outcome, Status};
 use refusal_text::Refusal;
 use std::alloc::Global;
 

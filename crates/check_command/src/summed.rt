@@ -4,14 +4,14 @@ ghost use Rattle.check_command.specs.Run.{Run};
 ghost use Rattle.check_command.specs.Summed as spec;
 ghost use Rattle.check_command.specs.Words.{asks_summary};
 ghost use Rattle.front_ports.specs.FileMap.{KeepsFiles};
-ghost use Rattle.proxy_server.specs.Ports.{files_port, port};
+ghost use Rattle.command_ends.specs.Ports.{files_port, port};
 
 use crate::run::{CheckEnded, run_check, why_of};
+use command_ends::Status;
 use command_options::has_flag;
 use command_options::names::SUMMARY;
 use front_ports::{ByteSink, Files, Source, write_all};
 use log_summary::{NoWatch, Summary};
-use proxy_server::Status;
 use std::alloc::Global;
 
 // Writes a summary.

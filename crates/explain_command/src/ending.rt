@@ -1,4 +1,4 @@
-use proxy_server::Ended;
+use command_ends::Ended;
 use std::process::ExitCode;
 
 /// Says how a run ended, the status's word first, and gives its code. `reason` is the system's for what could not be read or

@@ -1,6 +1,7 @@
 // The command `explain`, over this process's files, input and output.
 use crate::ending::finish_told;
-use proxy_server::{ReaderSource, SystemFiles, WriterSink, run_desk};
+use command_ends::{ReaderSource, SystemFiles, WriterSink};
+use explain_run::run_desk;
 use std::process::ExitCode;
 use warned_files::WarnedFiles;
 

@@ -1,7 +1,7 @@
 // What help and `--version` print.
 use crate::ending::finish_told;
+use command_ends::{Ended, Status};
 use command_options::Topic;
-use proxy_server::{Ended, Status};
 use refusal_text::Refusal;
 use std::process::ExitCode;
 use system_errors::reason_of;

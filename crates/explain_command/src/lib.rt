@@ -1,7 +1,7 @@
 //! The commands `explain` and `check` over a process's files, input and output, and what every command shares: the words, the pages of
 //! help, and how an end is told.
 //!
-//! The top calls are `proxy_server::run_desk` and `check_command::run_summed`, which have the contracts. Nothing is promised of standard error.
+//! The top calls are `explain_run::run_desk` and `check_command::run_summed`, which have the contracts. Nothing is promised of standard error.
 #![tactic(auto)]
 
 mod check;

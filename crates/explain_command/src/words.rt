@@ -1,4 +1,4 @@
-use proxy_server::{Ended, Status};
+use command_ends::{Ended, Status};
 use refusal_text::Refusal;
 use std::{env, io};
 

@@ -14,10 +14,10 @@
 use crate::client::{push_bytes, push_replies};
 use audit_core::{LinkNote, Outcome, Sink};
 use bay_runs::EndCounts;
+use command_ends::Status;
 use front_base::Stage;
 use front_ports::{MemBytes, MemClock, MemDial, MemDoor};
 use log_sink::LogSink;
-use proxy_server::Status;
 use queue_drain::DrainEnd;
 use route_history::SeenHistory;
 use serve_roles::BayEnd;

@@ -1,9 +1,10 @@
 // A run of `explain`.
 use crate::order::Order;
 use crate::told::Told;
+use command_ends::{ReaderSource, Status};
+use explain_run::run_desk;
 use fault_rows::files_of;
 use front_ports::{MemBytes, MemFiles};
-use proxy_server::{ReaderSource, Status, run_desk};
 use std::alloc::{AllocError, Global};
 
 const WORDS: &str =

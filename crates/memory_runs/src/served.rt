@@ -2,8 +2,8 @@
 use crate::due::{Due, Seen};
 use crate::order::Order;
 use crate::told::Told;
+use command_ends::Status;
 use fault_rows::{Ended, Run, ready_row, run_ready};
-use proxy_server::Status;
 use serve_runs::RunStatus;
 use std::alloc::Global;
 use std::sync::Wait;

@@ -1,8 +1,8 @@
 -- How a rehearsal ends.
 use Rattle.std.specs.Prelude.{◌≡◌, ℕ, Option, Some, None, Result, Ok, Err, IfSome, is_some, true}
-use Rattle.proxy_server.specs.Ports.{Port}
-use Rattle.proxy_server.specs.declared.status.Status.{Status}
-use Rattle.proxy_server.specs.declared.status.Status.TheVariants.{Usage, Configuration, NoMemory}
+use Rattle.command_ends.specs.Ports.{Port}
+use Rattle.command_ends.specs.declared.status.Status.{Status}
+use Rattle.command_ends.specs.declared.status.Status.TheVariants.{Usage, Configuration, NoMemory}
 use Rattle.rehearse_runs.specs.Agrees.{Agrees}
 use Rattle.rehearse_runs.specs.Told.{Tells}
 use Rattle.rehearse_plan.specs.Summary.{summary}

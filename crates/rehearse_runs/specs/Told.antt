@@ -3,9 +3,9 @@ use Rattle.std.specs.Prelude.{◌≡◌, ℕ, List}
 use Rattle.std.specs.Io.KnownBytes.{Appends}
 use Rattle.front_ports.specs.Cause.{Rose}
 use Rattle.front_ports.specs.Written.{AppendsFront}
-use Rattle.proxy_server.specs.Ports.{Port}
-use Rattle.proxy_server.specs.declared.status.Status.{Status}
-use Rattle.proxy_server.specs.declared.status.Status.TheVariants.{Done, WriteFault}
+use Rattle.command_ends.specs.Ports.{Port}
+use Rattle.command_ends.specs.declared.status.Status.{Status}
+use Rattle.command_ends.specs.declared.status.Status.TheVariants.{Done, WriteFault}
 
 -- by the status: all of it, or a prefix and a fault that is counted
 abbrev pub Tells : List ℕ → Port → Status → Type 0

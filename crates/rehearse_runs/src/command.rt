@@ -1,7 +1,7 @@
 // The command `rehearse`.
 ghost use Rattle.std.specs.Prelude.{◌≡◌, None, IfOk, map, string_bytes};
 ghost use Rattle.rehearse_plan.specs.Words.{asked_by, rehearsal_of};
-ghost use Rattle.proxy_server.specs.Ports.{port};
+ghost use Rattle.command_ends.specs.Ports.{port};
 ghost use Rattle.session_core.specs.Diaries.{noted};
 ghost use Rattle.rehearse_runs.specs.Agrees.{Agrees};
 ghost use Rattle.rehearse_runs.specs.Outcome.{Ends, PlanEnds};
@@ -12,11 +12,11 @@ use crate::ports::rehearsal_plant;
 use crate::run::rehearse;
 use crate::told::tell;
 use apiservice_table::TableRoutes;
+use command_ends::Status;
 use front_base::{MOST_LINE_BYTES, NoMemory};
 use front_plants::MemPlant;
 use front_ports::{ByteSink, MemBytes, MemClock, MemDial, MemDoor};
 use log_sink::LogSink;
-use proxy_server::Status;
 use rehearse_plan::{Rehearsal, RehearsalFault, read_rehearsal, summary};
 use serve_config::ServeConfig;
 use serve_runs::Ended;

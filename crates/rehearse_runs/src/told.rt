@@ -1,8 +1,8 @@
-ghost use Rattle.proxy_server.specs.Ports.{port};
+ghost use Rattle.command_ends.specs.Ports.{port};
 ghost use Rattle.rehearse_runs.specs.Told as spec;
 
+use command_ends::Status;
 use front_ports::{ByteSink, write_all};
-use proxy_server::Status;
 
 /// Writes a text. With `Done` all of it was written, and with `WriteFault` a prefix.
 pub fn tell<O: ByteSink>(out: &mut O, text: &[u8]) -> Status

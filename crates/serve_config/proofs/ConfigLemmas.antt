@@ -10,8 +10,8 @@ use Rattle.front_config.specs.declared.fault.LoadFault.TheVariants as load_fault
 use Rattle.front_config.specs.declared.fault.Which.{Which}
 use Rattle.front_config.specs.declared.files.Loaded.{Loaded}
 use Rattle.json_value.specs.Results as results
-use Rattle.proxy_server.specs.Ports.{FilesPort, Told}
-use Rattle.proxy_server.specs.Why.{status_of_load, why_of_load}
+use Rattle.command_ends.specs.Ports.{FilesPort, Told}
+use Rattle.command_ends.specs.Why.{status_of_load, why_of_load}
 use Rattle.refusal_text.specs.declared.refusal.Refusal.{Refusal}
 use Rattle.serve_config.specs.Config.{IsRefused, Loads, TellsServe, status_of_serve}
 use Rattle.serve_config.specs.Serve as serve

@@ -10,10 +10,10 @@ use Rattle.front_config.specs.declared.fault.Which.{Which}
 use Rattle.front_config.specs.declared.files.Loaded.{Loaded}
 use Rattle.front_ports.specs.Cause.{Rose}
 use Rattle.front_ports.specs.FileMap.{Notes}
-use Rattle.proxy_server.specs.Ports.{FilesPort, Told}
-use Rattle.proxy_server.specs.Why.{TellsWords, status_of_words, why_of_load}
-use Rattle.proxy_server.specs.declared.status.Status.{Status}
-use Rattle.proxy_server.specs.declared.status.Status.TheVariants.{Usage, Configuration, ReadFault, NoMemory}
+use Rattle.command_ends.specs.Ports.{FilesPort, Told}
+use Rattle.command_ends.specs.Why.{TellsWords, status_of_words, why_of_load}
+use Rattle.command_ends.specs.declared.status.Status.{Status}
+use Rattle.command_ends.specs.declared.status.Status.TheVariants.{Usage, Configuration, ReadFault, NoMemory}
 use Rattle.refusal_text.specs.declared.refusal.Refusal.{Refusal}
 use Rattle.refusal_text.specs.declared.refusal.Refusal.TheVariants as refusal
 use Rattle.serve_config.specs.declared.config.ServeConfig.{ServeConfig}

@@ -1,13 +1,13 @@
 ghost use Rattle.std.specs.Prelude.{◌≡◌, ◌≤◌, IfErr, IfOk, OnOk, map, string_bytes};
 ghost use Rattle.front_ports.specs.FileMap.{KeepsFiles};
-ghost use Rattle.proxy_server.specs.Ports.{files_port};
+ghost use Rattle.command_ends.specs.Ports.{files_port};
 ghost use Rattle.serve_config.specs.Config as spec;
 
 use crate::refused::serve_outcome;
 use crate::serve::{ServeWords, read_serve};
+use command_ends::{Outcome, load_outcome};
 use front_config::{Loaded, load};
 use front_ports::Files;
-use proxy_server::{Outcome, load_outcome};
 use std::alloc::Global;
 
 /// What a run of `serve` begins with.

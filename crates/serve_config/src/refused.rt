@@ -3,7 +3,7 @@ ghost use Rattle.std.specs.Prelude.{◌≡◌};
 ghost use Rattle.serve_config.specs.Config as spec;
 
 use crate::fault::ServeFault;
-use proxy_server::{Outcome, Status, words_outcome};
+use command_ends::{Outcome, Status, words_outcome};
 use refusal_text::Refusal;
 
 /// How a run ends whose words are refused.

@@ -1,12 +1,12 @@
 ghost use Rattle.std.specs.Prelude.{◌≡◌, IfSome, length};
 
 use apiservice_table::{RouteTable, TableRoutes};
+use command_ends::SystemFiles;
 use front_base::Address;
 use front_config::Loaded;
 use front_plants::MemPlant;
 use front_ports::{MemBytes, MemClock, MemDial, MemDoor};
 use log_sink::LogSink;
-use proxy_server::SystemFiles;
 use serve_config::{ServeConfig, ServeWords, configure_serve};
 use serve_runs::Ended;
 use session_core::MemDiary;

@@ -1,8 +1,8 @@
 use Rattle.std.proofs.Common.{sym, subst, map, string_bytes}
 use Rattle.check_command.specs.Config as spec
 use Rattle.check_command.proofs.ConfigLemmas.{load_refused}
-use Rattle.proxy_server.specs.Ports.{FilesPort, files_port}
-use Rattle.proxy_server.specs.Why.{status_of_load}
+use Rattle.command_ends.specs.Ports.{FilesPort, files_port}
+use Rattle.command_ends.specs.Why.{status_of_load}
 use Rattle.check_command.proofs.config.configure_check.Goals as goal
 
 pub returns-in-Err-load-clause-err : goal.returns-in-Err-load-clause-err

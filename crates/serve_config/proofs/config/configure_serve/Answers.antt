@@ -1,6 +1,6 @@
 use Rattle.std.proofs.Common.{Ok, sym, subst, map, string_bytes}
-use Rattle.proxy_server.specs.Ports.{FilesPort, files_port}
-use Rattle.proxy_server.specs.Why.{status_of_load}
+use Rattle.command_ends.specs.Ports.{FilesPort, files_port}
+use Rattle.command_ends.specs.Why.{status_of_load}
 use Rattle.serve_config.specs.Config as spec
 use Rattle.serve_config.proofs.ConfigLemmas.{load_refused, words_refused}
 use Rattle.serve_config.proofs.config.configure_serve.Goals as goal

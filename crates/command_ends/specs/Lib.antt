@@ -1,0 +1,4 @@
+pub mod Adapters
+pub mod Ports
+pub mod Status
+pub mod Why

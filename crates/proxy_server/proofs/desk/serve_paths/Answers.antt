@@ -1,6 +1,0 @@
-use Rattle.std.proofs.Common.{refl}
-use Rattle.proxy_server.proofs.ServingLemmas.{none_served}
-use Rattle.proxy_server.proofs.desk.serve_paths.Goals as goal
-
-pub returns-in-Err-clause-run : goal.returns-in-Err-clause-run
-returns-in-Err-clause-run g c = none_served _ _ _ _ _ c.requires refl refl

@@ -1,9 +1,0 @@
-pub mod Adapters
-pub mod Desk
-pub mod Lines
-pub mod Ports
-pub mod Pushing
-pub mod RouteLines
-pub mod Serving
-pub mod Status
-pub mod Why
