@@ -7,8 +7,8 @@ use Rattle.front_plants.specs.Fresh.{SinkOpens, log_opens, hook_opens}
 use Rattle.front_ports.specs.declared.clock.Clock as clocks
 use Rattle.serve_bays.specs.Served.{IsOwn, SinkServed}
 use Rattle.serve_bays.specs.declared.options.RunOptions.{RunOptions}
-use Rattle.run_completeness.proofs.BayLemmas.{log_tries, hook_tries}
-use Rattle.run_completeness.proofs.laws.nothing_is_lost_at_once.Goals as goal
+use Rattle.run_laws.proofs.BayLemmas.{log_tries, hook_tries}
+use Rattle.run_laws.proofs.losses.nothing_is_lost_at_once.Goals as goal
 use Rattle.serve_roles.specs.Doors.{bay_handles}
 use Rattle.sink_lanes.specs.declared.ending.SinkEnd.{SinkEnd}
 use Rattle.truncate_backend.specs.declared.sink.BatchSink as sinks

@@ -3,7 +3,7 @@ use Rattle.std.proofs.Common.{◌≡◌, Bool, true, false, if◌then◌else◌,
 use Rattle.std.proofs.lemmas.List.Elements.{All-cons, All-head, All-nil, All-tail}
 use Rattle.bay_runs.specs.declared.bay_stop.BayStop.{BayStop}
 use Rattle.bay_runs.specs.declared.bay_stop.BayStop.TheVariants.{Closed, DoorFault, NumbersSpent}
-use Rattle.run_completeness.specs.Kept.{AllClosed}
+use Rattle.run_laws.specs.Kept.{AllClosed}
 use Rattle.serve_roles.specs.declared.bay_end.BayEnd.{BayEnd}
 use Rattle.serve_runs.specs.Status.{any_fault, status_of, stops_of}
 use Rattle.serve_runs.specs.declared.ended.RunStatus.TheVariants as run_status

@@ -2,8 +2,8 @@ use Rattle.std.proofs.Common.{subst}
 use Rattle.audit_core.specs.declared.sinks.Sink.TheVariants.{Log, Webhook}
 use Rattle.front_plants.specs.Fresh.{log_opens, hook_opens}
 use Rattle.serve_bays.specs.Served.{SinkServed}
-use Rattle.run_completeness.proofs.BayLemmas.{log_batches, hook_batches}
-use Rattle.run_completeness.proofs.laws.nothing_is_lost_in_batches.Goals as goal
+use Rattle.run_laws.proofs.BayLemmas.{log_batches, hook_batches}
+use Rattle.run_laws.proofs.losses.nothing_is_lost_in_batches.Goals as goal
 use Rattle.serve_roles.specs.Doors.{bay_handles}
 
 pub returns : goal.returns

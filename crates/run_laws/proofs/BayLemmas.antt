@@ -10,10 +10,10 @@ use Rattle.front_base.specs.Line.{Line}
 use Rattle.front_plants.specs.Fresh.{SinkOpens}
 use Rattle.serve_bays.specs.Served.{IsDrained, IsOwn}
 use Rattle.serve_bays.specs.declared.options.RunOptions.{RunOptions}
-use Rattle.run_completeness.specs.Kept.{BatchesKeepAll, KeepsBatched, KeepsOwn, TriesKeepAll}
-use Rattle.run_completeness.proofs.DrainLemmas.{batches_keep, some_at}
-use Rattle.run_completeness.proofs.LaneLemmas.{Accepts, Fails, Fills, Tries, account, keeps_put, lane_offered, own_taken, own_written, room_for_all}
-use Rattle.run_completeness.proofs.TellLemmas.{bay_told}
+use Rattle.run_laws.specs.Kept.{BatchesKeepAll, KeepsBatched, KeepsOwn, TriesKeepAll}
+use Rattle.run_laws.proofs.DrainLemmas.{batches_keep, some_at}
+use Rattle.run_laws.proofs.KeptLaneLemmas.{Accepts, Fails, Fills, Tries, account, keeps_put, lane_offered, own_taken, own_written, room_for_all}
+use Rattle.run_laws.proofs.KeptTellLemmas.{bay_told}
 use Rattle.serve_roles.specs.Doors.{BayHandles}
 use Rattle.serve_roles.specs.declared.bay_end.BayEnd.{BayEnd}
 use Rattle.serve_runs.specs.Served.{BayServed, exchanges_if}

@@ -1,6 +1,6 @@
 use Rattle.std.proofs.Common.{◌∙◌, sym}
-use Rattle.run_completeness.proofs.StatusLemmas.{closed_where_done, done_where_closed}
-use Rattle.run_completeness.proofs.laws.a_run_without_faults_is_done.Goals as goal
+use Rattle.run_laws.proofs.StatusLemmas.{closed_where_done, done_where_closed}
+use Rattle.run_laws.proofs.losses.a_run_without_faults_is_done.Goals as goal
 
 pub returns : goal.returns
 returns g c set options before after tables ended served = (

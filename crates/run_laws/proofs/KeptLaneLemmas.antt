@@ -11,8 +11,8 @@ use Rattle.event_offers.specs.Offering.{OffersAll}
 use Rattle.event_offers.specs.Taken.{is_taken, is_tried, lane_of, lines_for}
 use Rattle.front_base.specs.Line.{Line}
 use Rattle.front_ports.specs.Told.{Grows}
-use Rattle.run_completeness.specs.Kept.{AllFit, AllTaken, Kept, lines_due}
-use Rattle.run_completeness.proofs.KeepLemmas.{all_counted, all_kept, all_offered, all_taken, never_full, none_counted, none_failed}
+use Rattle.run_laws.specs.Kept.{AllFit, AllTaken, Kept, lines_due}
+use Rattle.run_laws.proofs.KeepLemmas.{all_counted, all_kept, all_offered, all_taken, never_full, none_counted, none_failed}
 use Rattle.truncate_backend.specs.Lanes.{LaneTells}
 use Rattle.truncate_backend.specs.Owns.{own_tells}
 use Rattle.truncate_backend.specs.Told.{Joined}

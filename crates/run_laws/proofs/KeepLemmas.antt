@@ -12,7 +12,7 @@ use Rattle.event_offers.specs.Lanes.{LaneState, LanesState}
 use Rattle.event_offers.specs.Offering.{OffersAll, OffersTo, OffersFit, OffersLine, next_line, note_of, outcome_of}
 use Rattle.event_offers.specs.Taken.{lane_of, is_taken, is_for, kept_line, line_in, count_in, lines_for}
 use Rattle.front_base.specs.Line.{Line}
-use Rattle.run_completeness.specs.Kept.{AllFit, AllTaken, has_line, line_due, lines_due}
+use Rattle.run_laws.specs.Kept.{AllFit, AllTaken, has_line, line_due, lines_due}
 use Rattle.truncate_backend.specs.Lanes.{LaneTells, Offered}
 use Rattle.truncate_backend.specs.declared.fitted.Fit.{Fit}
 use Rattle.truncate_backend.specs.declared.fitted.Fit.TheVariants as fit

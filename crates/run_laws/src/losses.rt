@@ -8,7 +8,7 @@ ghost use Rattle.front_plants.specs.Plants.{PlantTells};
 ghost use Rattle.front_ports.specs.Cause.{Rose};
 ghost use Rattle.http_edge.specs.declared.request.Request.{Request};
 ghost use Rattle.serve_bays.specs.declared.options.RunOptions.{RunOptions};
-ghost use Rattle.run_completeness.specs.Kept.{AllClosed, BatchesKeepAll, TriesKeepAll, lines_due};
+ghost use Rattle.run_laws.specs.Kept.{AllClosed, BatchesKeepAll, TriesKeepAll, lines_due};
 ghost use Rattle.run_laws.specs.Sides.{side_allots, side_end, side_sink};
 ghost use Rattle.serve_roles.specs.Doors.{bay_handles};
 ghost use Rattle.serve_runs.specs.Served.{RunServed, run_exchanges};

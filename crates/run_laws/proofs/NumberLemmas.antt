@@ -4,7 +4,7 @@ use Rattle.audit_core.specs.Offers.{Due}
 use Rattle.audit_core.specs.declared.sinks.Sink.{Sink}
 use Rattle.event_offers.specs.Taken.{count_in, is_for}
 use Rattle.front_base.specs.Line.{Line}
-use Rattle.run_completeness.specs.Kept.{line_due, lines_due}
+use Rattle.run_laws.specs.Kept.{line_due, lines_due}
 use Rattle.truncate_backend.specs.declared.fitted.Fit.{Fit}
 use Rattle.truncate_backend.specs.declared.fitted.Fit.TheVariants as fit
 

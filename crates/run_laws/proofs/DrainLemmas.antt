@@ -9,9 +9,9 @@ use Rattle.front_ports.specs.declared.clock.Clock as clocks
 use Rattle.serve_bays.specs.Served.{IsDrained}
 use Rattle.serve_bays.specs.declared.options.RunOptions.{RunOptions}
 use Rattle.queue_drain.specs.declared.drain_end.DrainEnd.{DrainEnd}
-use Rattle.run_completeness.specs.Kept.{AllWritten, BatchesKeepAll, KeepsBatched, KeptBay, offered_to}
-use Rattle.run_completeness.proofs.ShareLemmas.{all_of_each, shares, total, total_most}
-use Rattle.run_completeness.proofs.WrittenLemmas.{all_done, as_many, few}
+use Rattle.run_laws.specs.Kept.{AllWritten, BatchesKeepAll, KeepsBatched, KeptBay, offered_to}
+use Rattle.run_laws.proofs.ShareLemmas.{all_of_each, shares, total, total_most}
+use Rattle.run_laws.proofs.WrittenLemmas.{all_done, as_many, few}
 use Rattle.serve_roles.specs.Doors.{BayHandles}
 use Rattle.serve_roles.specs.declared.bay_end.BayEnd.{BayEnd}
 use Rattle.session_core.specs.declared.exchange.Exchange.{Exchange}
