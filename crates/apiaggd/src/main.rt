@@ -15,6 +15,7 @@ use explain_command::{VERSION, checked, explained, finish_told, help_on, print_t
 use rehearse::rehearsed;
 use running::{no_boot_word, run_over};
 use serve::{Ready, prepare};
+use ship_process::shipped;
 use std::process::ExitCode;
 use streams::hold_streams;
 use tcp_plant::TcpPlant;
@@ -28,9 +29,10 @@ fn main(rt: HostRuntime) -> ExitCode {
     let ready = match Asked::of(words.as_slice()) {
         Asked::Help(topic) => return print_text(&rt, help_on(topic)),
         Asked::Version => return print_text(&rt, VERSION),
-        Asked::Explain | Asked::Ship | Asked::Unknown => return explained(&rt, &words),
+        Asked::Explain | Asked::Unknown => return explained(&rt, &words),
         Asked::Check => return checked(&rt, &words),
         Asked::Rehearse => return rehearsed(&rt, &rt, &words),
+        Asked::Ship => return shipped(&rt, &rt, &words),
         Asked::Serve => prepare(&rt, &rt, &words),
     };
     let Ready {

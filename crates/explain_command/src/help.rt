@@ -18,6 +18,7 @@ Commands:
   explain   prints the audit events that requests cause
   check     says whether a log of audit events conforms to a policy
   serve     serves a cluster API, and writes its audit events
+  ship      posts the lines of an audit log to a webhook
   rehearse  serves requests in memory by threads, and sums them up
 
 Options:
@@ -33,9 +34,9 @@ Exit status:
   5  a socket or a sink could not be opened, or a listener failed
   6  memory ran out
   7  the output could not be written
-  8  there are more than 2^48 requests
+  8  there are more than 2^48 requests or lines
   9  a request is malformed, too large or cut short
-  10 a line of a log does not conform to its policy
+  10 a line of a log does not conform to its policy, or can't be shipped
 
 With a status other than 0 one line on standard error names the status, and a
 second one says what was refused, and why.
@@ -195,6 +196,42 @@ End:
   -h, --help                 prints this help
 ";
 
+const SHIP_HELP: &str = "\
+Usage: apiaggd ship [OPTION].. < LOG
+
+Posts the lines of an audit log to a webhook, in batches and in their order, as
+'serve' does in mode batch. A batch whose post fails is posted again, and then
+its lines are lost. No more is posted than a throttle allows. Reads the lines
+from standard input.
+
+At the end of the log it prints how many lines were read, posted and lost, and
+how many posts there were, and ends with status 0. At a line that is not a JSON
+text, has more than 4194304 bytes or no line feed it ends with status 10, once
+the lines before it are shipped.
+
+Options are written --NAME=VALUE or --NAME VALUE.
+
+  --audit-webhook-url=URL    webhook of events, over http to an IPv4 address or
+                             localhost. It must be given
+  --batch-max-size=N         most lines of a batch: 1 to 10000 (default: 400)
+  --max-batch-size=BYTES     most bytes of a batch: 256 to 67108864
+                             (default: 10485760)
+  --tries=N                  most posts of a batch: 1 to 10 (default: 3)
+  --rate=N                   posts a second: 1 to 1000 (default: 10)
+  --burst=N                  posts at once: 1 to 1000 (default: 15)
+  --rests=N                  how often one post waits for the throttle, for a
+                             millisecond each: 1 to 1000000 (default: 100000)
+
+  -h, --help                 prints this help
+
+Example:
+  apiaggd ship --audit-webhook-url=http://127.0.0.1:9400/audit < audit.log
+    lines 2000
+    posted 2000
+    lost 0
+    posts 5
+";
+
 const REHEARSE_HELP: &str = "\
 Usage: apiaggd rehearse START COUNT
 
@@ -215,10 +252,11 @@ Example:
 /// A page of help.
 pub fn help_on(topic: Topic) -> &'static str {
     match topic {
-        Topic::Program | Topic::Ship => HELP,
+        Topic::Program => HELP,
         Topic::Explain => EXPLAIN_HELP,
         Topic::Check => CHECK_HELP,
         Topic::Serve => SERVE_HELP,
+        Topic::Ship => SHIP_HELP,
         Topic::Rehearse => REHEARSE_HELP,
     }
 }

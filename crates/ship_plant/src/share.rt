@@ -1,0 +1,111 @@
+// What the handles of one run share: what became of its posts.
+use std::io::{Eprint, ErrorKind};
+use std::sync::atomic::{AtomicI32, AtomicU64, Ordering};
+use std::{io, rt};
+use system_errors::{number_of, reason_of_number};
+use tcp_plant::Why;
+use truncate_backend::TryAnswer;
+
+// How often progress is said at most, in milliseconds.
+const SAID_MILLIS: u64 = 1_000;
+
+/// What became of the posts of a run, and why the last one failed that did.
+#[derive(Drop)]
+pub struct PostShare {
+    // Whether progress is said on standard error.
+    says: bool,
+    // The lines of posts that are done, how many posts there were, and how many failed.
+    lines: AtomicU64,
+    posts: AtomicU64,
+    failed: AtomicU64,
+    // The status of the last reply that refused lines, 0 for none, and the system's number of the last error.
+    status: AtomicU64,
+    error: AtomicI32,
+    // The moment before which no progress is said.
+    next: AtomicU64,
+}
+
+fn millis_now(rt: &impl rt::Clock) -> u64 {
+    match rt.monotonic() {
+        Ok(time) => u64::try_from(time.as_millis()).unwrap_or(u64::MAX),
+        Err(_) => 0,
+    }
+}
+
+impl PostShare {
+    /// Nothing was posted. `says` has progress said on standard error, at most once a second.
+    pub fn new(says: bool) -> PostShare {
+        PostShare {
+            says,
+            lines: AtomicU64::new(0),
+            posts: AtomicU64::new(0),
+            failed: AtomicU64::new(0),
+            status: AtomicU64::new(0),
+            error: AtomicI32::new(0),
+            next: AtomicU64::new(0),
+        }
+    }
+
+    /// Why the last post failed that did, where one did.
+    pub fn why(&self) -> Option<Why> {
+        if self.failed.load(Ordering::SeqCst) == 0 {
+            return None;
+        }
+        match u16::try_from(self.status.load(Ordering::SeqCst)) {
+            Ok(status) if status > 0 => Some(Why::Status(status)),
+            _ => {
+                let number = self.error.load(Ordering::SeqCst);
+                Some(Why::Reason(reason_of_number(number).unwrap_or("the answer is not HTTP")))
+            }
+        }
+    }
+
+    /// A call on a socket failed so.
+    pub(crate) fn fail(&self, error: &io::Error) {
+        let number = match error.kind() {
+            ErrorKind::TimedOut => libc::ETIMEDOUT,
+            _ => number_of(error),
+        };
+        self.error.store(number, Ordering::SeqCst);
+    }
+
+    /// Counts a post with so many lines, and says how far it is.
+    pub(crate) fn tried<R: rt::Clock + Eprint>(&self, rt: &R, lines: u64, answer: TryAnswer) {
+        self.posts.fetch_add(1, Ordering::SeqCst);
+        match answer {
+            TryAnswer::Done => {
+                self.lines.fetch_add(lines, Ordering::SeqCst);
+            }
+            TryAnswer::Refused(status) => self.note_failed(u64::from(status)),
+            TryAnswer::BadAnswer => {
+                self.error.store(0, Ordering::SeqCst);
+                self.note_failed(0);
+            }
+            TryAnswer::Port => self.note_failed(0),
+        }
+        self.say(rt);
+    }
+
+    fn note_failed(&self, status: u64) {
+        self.failed.fetch_add(1, Ordering::SeqCst);
+        self.status.store(status, Ordering::SeqCst);
+    }
+
+    fn say<R: rt::Clock + Eprint>(&self, rt: &R) {
+        if !self.says {
+            return;
+        }
+        let now = millis_now(rt);
+        if now < self.next.load(Ordering::SeqCst) {
+            return;
+        }
+        self.next
+            .store(now.saturating_add(SAID_MILLIS), Ordering::SeqCst);
+        let lines = self.lines.load(Ordering::SeqCst);
+        let posts = self.posts.load(Ordering::SeqCst);
+        let failed = self.failed.load(Ordering::SeqCst);
+        let _ = eprintln!(rt;
+            "apiaggd: {lines} lines posted, {posts} posts, of which {failed} failed"
+        );
+    }
+}
