@@ -1,2 +1,1 @@
 mod DiaryLemmas
-mod Sent

@@ -13,8 +13,8 @@ use Rattle.rehearse_plan.specs.Planned.{Follows}
 use Rattle.rehearse_plan.specs.Words.{Asked}
 use Rattle.front_ports.specs.Memory.{MemConn}
 use Rattle.rehearse_runs.specs.Handles.{mem_handles}
-use Rattle.rehearse_runs.specs.Sent.{IsDue}
-use Rattle.rehearse_runs.specs.Setting.{IsConfig, Opens, words_of}
+use Rattle.rehearse_setting.specs.Sent.{IsDue}
+use Rattle.rehearse_setting.specs.Setting.{IsConfig, Opens, words_of}
 use Rattle.serve_config.specs.declared.config.ServeConfig.{ServeConfig}
 use Rattle.serve_runs.specs.Served.{RunServed, run_exchanges}
 use Rattle.serve_runs.specs.declared.ended.Ended.{Ended}

@@ -7,8 +7,6 @@ ghost use Rattle.rehearse_runs.specs.Agrees.{Agrees};
 ghost use Rattle.rehearse_runs.specs.Outcome.{Ends, PlanEnds};
 ghost use Rattle.rehearse_runs.specs.Served.{WasServed};
 
-use crate::configured::{Setting, setting_of};
-use crate::ports::rehearsal_plant;
 use crate::run::rehearse;
 use crate::told::tell;
 use apiservice_table::TableRoutes;
@@ -18,6 +16,7 @@ use front_plants::MemPlant;
 use front_ports::{ByteSink, MemBytes, MemClock, MemDial, MemDoor};
 use log_sink::LogSink;
 use rehearse_plan::{Rehearsal, RehearsalFault, read_rehearsal, summary};
+use rehearse_setting::{Setting, rehearsal_plant, setting_of};
 use serve_config::ServeConfig;
 use serve_runs::Ended;
 use session_core::MemDiary;

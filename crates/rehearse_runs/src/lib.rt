@@ -11,15 +11,12 @@
 //! ran out of memory. That there is no such run is tested.
 //!
 //! `rehearse` says it over any plant whose diaries can be read: the run that it answers is one of `run_serve`, and it agrees with the plan
-//! (`Agrees`); a run that does anything else is given up. `setting_of` says by which words and files the run is configured, and
-//! `rehearsal_plant` what is due to each bay. Nothing is promised of what the delegate and the webhook's peer reply.
+//! (`Agrees`); a run that does anything else is given up.
 #![tactic(auto)]
 
 mod command;
-mod configured;
 mod diary;
 mod laws;
-mod ports;
 mod run;
 mod told;
 

@@ -1,7 +1,7 @@
 use Rattle.std.proofs.lemmas.Result.{IfOk-weaker}
 use Rattle.front_plants.specs.MemoryPlant.{plant_tells}
-use Rattle.rehearse_runs.proofs.Sent.{is_due}
-use Rattle.rehearse_runs.proofs.ports.rehearsal_plant.Goals as goal
+use Rattle.rehearse_setting.proofs.Sent.{is_due}
+use Rattle.rehearse_setting.proofs.ports.rehearsal_plant.Goals as goal
 
 pub returns-clause-sent : goal.returns-clause-sent
 returns-clause-sent g c =

@@ -1,7 +1,7 @@
 use Rattle.std.proofs.Common.{◌≡◌, length, All}
 use Rattle.front_plants.specs.Unused.{IsUnusedDoor}
-use Rattle.rehearse_runs.specs.Sent.{AreSent}
-use Rattle.rehearse_runs.proofs.ports.doors.Given as goal
+use Rattle.rehearse_setting.specs.Sent.{AreSent}
+use Rattle.rehearse_setting.proofs.ports.doors.Given as goal
 
 abbrev pub invariant-loop-bay : goal.invariant-loop-bay
 invariant-loop-bay l = record {

@@ -1,9 +1,9 @@
 use Rattle.std.proofs.Common.{arith, ap, subst, sym, [], ◌∷◌, length, length-append}
 use Rattle.front_plants.specs.Unused.{IsUnusedDoor}
 use Rattle.front_ports.specs.MemoryDoor.{door_left}
-use Rattle.rehearse_runs.specs.Sent.{IsSent}
-use Rattle.rehearse_runs.proofs.Sent.{all_more, more_sent}
-use Rattle.rehearse_runs.proofs.ports.doors.Goals as goal
+use Rattle.rehearse_setting.specs.Sent.{IsSent}
+use Rattle.rehearse_setting.proofs.Sent.{all_more, more_sent}
+use Rattle.rehearse_setting.proofs.ports.doors.Goals as goal
 
 pub loop-bay-preserved : goal.loop-bay-preserved
 loop-bay-preserved c =

@@ -1,7 +1,7 @@
 use Rattle.std.proofs.Common.{arith, ap, subst, [], ◌∷◌, length, length-append}
-use Rattle.rehearse_runs.specs.Setting.{IsConfig, Opens, words_of}
-use Rattle.rehearse_runs.proofs.Sent.{all_more}
-use Rattle.rehearse_runs.proofs.configured.setting_of.Goals as goal
+use Rattle.rehearse_setting.specs.Setting.{IsConfig, Opens, words_of}
+use Rattle.rehearse_setting.proofs.Sent.{all_more}
+use Rattle.rehearse_setting.proofs.configured.setting_of.Goals as goal
 
 pub loop-preserved : goal.loop-preserved
 loop-preserved c =

@@ -1,7 +1,7 @@
 use Rattle.std.proofs.Common.{◌≡◌, length, All}
 use Rattle.rehearse_plan.specs.Files.{HoldsFiles}
-use Rattle.rehearse_runs.specs.Setting.{Opens, words_of}
-use Rattle.rehearse_runs.proofs.configured.setting_of.Given as goal
+use Rattle.rehearse_setting.specs.Setting.{Opens, words_of}
+use Rattle.rehearse_setting.proofs.configured.setting_of.Given as goal
 
 abbrev pub invariant-loop : goal.invariant-loop
 invariant-loop l = record {

@@ -2,7 +2,7 @@
 ghost use Rattle.std.specs.Prelude.{◌≡◌, ◌≤◌, ◌++◌, IfOk, length, map, string_bytes, All};
 ghost use Rattle.rehearse_plan.specs.declared.plan.TheConstants.{MOST_REHEARSED};
 ghost use Rattle.rehearse_plan.specs.Files.{HoldsFiles};
-ghost use Rattle.rehearse_runs.specs.Setting as spec;
+ghost use Rattle.rehearse_setting.specs.Setting as spec;
 
 use apiservice_table::TableRoutes;
 use front_base::NoMemory;

@@ -5,7 +5,7 @@ ghost use Rattle.front_plants.specs.Plants.{no_faults};
 ghost use Rattle.front_plants.specs.Unused.{IsUnusedDoor, IsUnusedDial};
 ghost use Rattle.front_ports.specs.Memory.{IsUnused, duplex_left};
 ghost use Rattle.front_ports.specs.MemoryDoor.{door_left};
-ghost use Rattle.rehearse_runs.specs.Sent as spec;
+ghost use Rattle.rehearse_setting.specs.Sent as spec;
 
 use front_base::{Bytes, Moment, NoMemory};
 use front_plants::{MemParts, MemPlant, NotesRoom};

@@ -1,5 +1,5 @@
 use Rattle.std.proofs.Common.{◌∙◌}
-use Rattle.rehearse_runs.proofs.ports.door.Goals as goal
+use Rattle.rehearse_setting.proofs.ports.door.Goals as goal
 
 pub returns-clause-sent : goal.returns-clause-sent
 returns-clause-sent c = record {

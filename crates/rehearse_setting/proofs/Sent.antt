@@ -6,7 +6,7 @@ use Rattle.front_ports.specs.Memory.{MemConn}
 use Rattle.front_ports.specs.MemoryDoor.{door_left}
 use Rattle.front_ports.specs.declared.mem_door.MemDoor.{MemDoor}
 use Rattle.rehearse_plan.proofs.Places.{places_more, some_place}
-use Rattle.rehearse_runs.specs.Sent.{AreSent, IsDue, IsSent}
+use Rattle.rehearse_setting.specs.Sent.{AreSent, IsDue, IsSent}
 
 pub all_more : {A : Type 0} (P : A → Type 0) (xs ys : List A) (x : A) → ys ≡ xs ++ x ∷ [] → All P xs → P x → All P ys
 all_more P xs ys x e h p = subst (All P) (sym e) (All-append P xs (x ∷ []) h (All-cons P x [] p (All-nil P)))
