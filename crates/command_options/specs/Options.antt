@@ -85,6 +85,8 @@ ranged_name option.Tries = codes "tries"
 ranged_name option.Rate = codes "rate"
 ranged_name option.Burst = codes "burst"
 ranged_name option.Rests = codes "rests"
+ranged_name option.Rounds = codes "rounds"
+ranged_name option.Threshold = codes "threshold"
 
 -- the ends of an option's range
 abbrev pub least : Ranged → ℕ
@@ -107,6 +109,8 @@ least option.Tries = 1
 least option.Rate = 1
 least option.Burst = 1
 least option.Rests = 1
+least option.Rounds = 1
+least option.Threshold = 1
 
 abbrev pub most : Ranged → ℕ
 most option.MaxEventSize = 4194304
@@ -128,6 +132,8 @@ most option.Tries = 10
 most option.Rate = 1000
 most option.Burst = 1000
 most option.Rests = 1000000
+most option.Rounds = 1000
+most option.Threshold = 10
 
 -- its number where it isn't given
 abbrev pub default_of : Ranged → ℕ
@@ -150,6 +156,8 @@ default_of option.Tries = 3
 default_of option.Rate = 10
 default_of option.Burst = 15
 default_of option.Rests = 100000
+default_of option.Rounds = 1
+default_of option.Threshold = 3
 
 -- the number that is given to an option, or its default
 abbrev pub number_given : Ranged → List Named → Result ℕ WordsFault

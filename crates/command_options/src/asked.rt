@@ -11,6 +11,7 @@ pub enum Topic {
     Check,
     Serve,
     Ship,
+    Probe,
     Rehearse,
 }
 
@@ -23,6 +24,7 @@ pub enum Asked {
     Check,
     Serve,
     Ship,
+    Probe,
     Rehearse,
     /// There is no command, or none of that name.
     Unknown,
@@ -45,6 +47,8 @@ fn command_of(word: &str) -> Asked
         Asked::Serve
     } else if word == "ship" {
         Asked::Ship
+    } else if word == "probe" {
+        Asked::Probe
     } else if word == "rehearse" {
         Asked::Rehearse
     } else {
@@ -56,7 +60,12 @@ fn command_of(word: &str) -> Asked
 pub fn is_command(word: &str) -> bool
     ensures { result ≡ spec.is_command word.now }
 {
-    word == "explain" || word == "check" || word == "serve" || word == "ship" || word == "rehearse"
+    word == "explain"
+        || word == "check"
+        || word == "serve"
+        || word == "ship"
+        || word == "probe"
+        || word == "rehearse"
 }
 
 fn help_on(word: &str) -> Asked
@@ -70,6 +79,8 @@ fn help_on(word: &str) -> Asked
         Asked::Help(Topic::Serve)
     } else if word == "ship" {
         Asked::Help(Topic::Ship)
+    } else if word == "probe" {
+        Asked::Help(Topic::Probe)
     } else if word == "rehearse" {
         Asked::Help(Topic::Rehearse)
     } else {

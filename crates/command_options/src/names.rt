@@ -70,3 +70,15 @@ pub const BURST: &str = "burst";
 
 /// Of `ship`: how often it asks its throttle for one post at most.
 pub const RESTS: &str = "rests";
+
+/// Of `probe`: the front door that is told.
+pub const FRONT: &str = "front";
+
+/// Of `probe`: the bearer token of the user who tells it.
+pub const TOKEN: &str = "token";
+
+/// Of `probe`: how often each service is asked.
+pub const ROUNDS: &str = "rounds";
+
+/// Of `probe`: how many probes one after another change a condition.
+pub const THRESHOLD: &str = "threshold";

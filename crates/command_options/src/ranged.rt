@@ -7,7 +7,7 @@ use crate::given::{Options, number_or};
 use crate::names::{
     BATCH_BUFFER, BATCH_MAX_SIZE, BATCH_MAX_WAIT, BAYS, BURST, CONNECTIONS, DIAL_TIMEOUT,
     IDLE_TIMEOUT, MAX_BATCH_SIZE, MAX_EVENT_SIZE, MIN_RATE, MOMENT, RATE, READ_HEADER_TIMEOUT,
-    RESPONSE_HEADER_TIMEOUT, RESTS, SHUTDOWN_TIMEOUT, STALL_TIMEOUT, TRIES,
+    RESPONSE_HEADER_TIMEOUT, RESTS, ROUNDS, SHUTDOWN_TIMEOUT, STALL_TIMEOUT, THRESHOLD, TRIES,
 };
 
 /// The options whose numbers have a range. Timeouts are in milliseconds, sizes in bytes.
@@ -51,6 +51,10 @@ pub enum Ranged {
     Burst,
     /// How often the throttle is asked for one post at most, with a rest after each refusal.
     Rests,
+    /// How often each service is asked.
+    Rounds,
+    /// How many probes one after another change a condition, as `failureThreshold` of a pod's probe.
+    Threshold,
 }
 
 impl Ranged {
@@ -78,6 +82,8 @@ impl Ranged {
             Ranged::Rate => RATE,
             Ranged::Burst => BURST,
             Ranged::Rests => RESTS,
+            Ranged::Rounds => ROUNDS,
+            Ranged::Threshold => THRESHOLD,
         }
     }
 
@@ -93,6 +99,7 @@ impl Ranged {
             Ranged::IdleTimeout | Ranged::ReadHeaderTimeout | Ranged::StallTimeout => 1,
             Ranged::DialTimeout | Ranged::ResponseHeaderTimeout => 1,
             Ranged::Tries | Ranged::Rate | Ranged::Burst | Ranged::Rests => 1,
+            Ranged::Rounds | Ranged::Threshold => 1,
         }
     }
 
@@ -113,8 +120,8 @@ impl Ranged {
             Ranged::BatchMaxWait | Ranged::IdleTimeout | Ranged::ReadHeaderTimeout => 3_600_000,
             Ranged::StallTimeout | Ranged::DialTimeout => 3_600_000,
             Ranged::ResponseHeaderTimeout | Ranged::ShutdownTimeout => 3_600_000,
-            Ranged::Tries => 10,
-            Ranged::Rate | Ranged::Burst => 1_000,
+            Ranged::Tries | Ranged::Threshold => 10,
+            Ranged::Rate | Ranged::Burst | Ranged::Rounds => 1_000,
             Ranged::Rests => 1_000_000,
         }
     }
@@ -136,10 +143,11 @@ impl Ranged {
             Ranged::MinRate => 8_192,
             Ranged::DialTimeout => 5_000,
             Ranged::ShutdownTimeout => 20_000,
-            Ranged::Tries => 3,
+            Ranged::Tries | Ranged::Threshold => 3,
             Ranged::Rate => 10,
             Ranged::Burst => 15,
             Ranged::Rests => 100_000,
+            Ranged::Rounds => 1,
         }
     }
 }

@@ -1,10 +1,10 @@
 // The options of each command, for what is told of a bad word.
 use crate::names::{
     BATCH_BUFFER, BATCH_MAX_SIZE, BATCH_MAX_WAIT, BAYS, BURST, CONNECTIONS, DIAL_TIMEOUT,
-    ENDPOINTS, EXIT_ON_STDIN_EOF, IDLE_TIMEOUT, LISTEN, LOG_MODE, LOG_PATH, MAX_BATCH_SIZE,
+    ENDPOINTS, EXIT_ON_STDIN_EOF, FRONT, IDLE_TIMEOUT, LISTEN, LOG_MODE, LOG_PATH, MAX_BATCH_SIZE,
     MAX_EVENT_SIZE, MIN_RATE, MOMENT, POLICY, RATE, READ_HEADER_TIMEOUT, RESPONSE_HEADER_TIMEOUT,
-    RESTS, ROUTES, SERVICES, SHUTDOWN_TIMEOUT, STALL_TIMEOUT, SUMMARY, TOKENS, TRIES, WEBHOOK_MODE,
-    WEBHOOK_URL,
+    RESTS, ROUNDS, ROUTES, SERVICES, SHUTDOWN_TIMEOUT, STALL_TIMEOUT, SUMMARY, THRESHOLD, TOKEN,
+    TOKENS, TRIES, WEBHOOK_MODE, WEBHOOK_URL,
 };
 use crate::ranged::Ranged;
 
@@ -57,6 +57,8 @@ const SHIP: [&str; 7] = [
     RESTS,
 ];
 
+const PROBE: [&str; 6] = [SERVICES, ENDPOINTS, FRONT, TOKEN, ROUNDS, THRESHOLD];
+
 /// The names of the options of a command, without their dashes. A command of another name has none.
 pub fn options_for(command: &str) -> &'static [&'static str] {
     match command {
@@ -64,6 +66,7 @@ pub fn options_for(command: &str) -> &'static [&'static str] {
         "check" => &CHECK,
         "serve" => &SERVE,
         "ship" => &SHIP,
+        "probe" => &PROBE,
         _ => &[],
     }
 }
@@ -76,9 +79,9 @@ pub fn required_by(command: &str) -> Option<&'static str> {
     }
 }
 
-/// The first command that has an option of that name, in the order `explain`, `check`, `serve` and `ship`.
+/// The first command that has an option of that name, in the order `explain`, `check`, `serve`, `ship` and `probe`.
 pub fn command_with(name: &str) -> Option<&'static str> {
-    for command in ["explain", "check", "serve", "ship"] {
+    for command in ["explain", "check", "serve", "ship", "probe"] {
         if options_for(command).iter().any(|own| *own == name) {
             return Some(command);
         }
@@ -103,7 +106,7 @@ pub fn kind_of(name: &str) -> ValueKind {
         ROUTES | SUMMARY | EXIT_ON_STDIN_EOF => ValueKind::Flag,
         LOG_MODE | WEBHOOK_MODE => ValueKind::Mode,
         TOKENS | POLICY | SERVICES | ENDPOINTS => ValueKind::Text,
-        LISTEN | LOG_PATH | WEBHOOK_URL => ValueKind::Text,
+        LISTEN | LOG_PATH | WEBHOOK_URL | FRONT | TOKEN => ValueKind::Text,
         _ => ValueKind::Number,
     }
 }
@@ -130,6 +133,8 @@ pub fn ranged_named(name: &str) -> Option<Ranged> {
         RATE => Some(Ranged::Rate),
         BURST => Some(Ranged::Burst),
         RESTS => Some(Ranged::Rests),
+        ROUNDS => Some(Ranged::Rounds),
+        THRESHOLD => Some(Ranged::Threshold),
         _ => None,
     }
 }
