@@ -15,7 +15,7 @@ use Rattle.front_config.specs.declared.fault.Which.{Which}
 use Rattle.front_config.specs.declared.fault.Which.TheVariants as file
 use Rattle.refusal_text.specs.Place.{place_of}
 use Rattle.refusal_text.specs.declared.refusal.Refusal.{Refusal}
-use Rattle.refusal_text.specs.declared.refusal.Refusal.TheVariants.{Words, NotUtf8, Limits, Listen, Webhook, Files, Request, Input, Output}
+use Rattle.refusal_text.specs.declared.refusal.Refusal.TheVariants.{Words, NotUtf8, Limits, Listen, Webhook, Front, Token, Files, Request, Input, Output}
 
 -- the option that names a file
 abbrev pub option_of : Which → List ℕ
@@ -51,6 +51,10 @@ listen_why text = if has_host (cut_at 58 text) then codes "port: not 1 to 65535"
 -- `--listen=TEXT: ..`, with the text as it was given
 abbrev pub listen_line : List ℕ → List ℕ
 listen_line text = codes "--listen=" ++ (text ++ (codes ": " ++ listen_why text))
+
+-- the same of `--front`
+abbrev pub front_line : List ℕ → List ℕ
+front_line text = codes "--front=" ++ (text ++ (codes ": " ++ listen_why text))
 
 -- ---- URLs
 
@@ -115,6 +119,8 @@ Says NotUtf8 reason line = Unit {0}
 Says (Limits option n) reason line = line ≡ range_line option n
 Says (Listen text) reason line = line ≡ listen_line text
 Says (Webhook url) reason line = line ≡ webhook_line url
+Says (Front text) reason line = line ≡ front_line text
+Says Token reason line = line ≡ codes "--token: not of the characters '!' to '~'"
 Says (Files names fault) reason line = SaysFile names fault reason line
 Says (Request number byte end) reason line = Begins line (request_head number byte)
 Says Input reason line = line ≡ codes "standard input: " ++ reason_or (codes "could not be read") reason

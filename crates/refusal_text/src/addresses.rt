@@ -37,6 +37,14 @@ pub fn listen_line(alloc: Global, text: &str) -> Result<String, AllocError>
     format!(in alloc; "--listen={text}: {why}")
 }
 
+/// The line for a text of `--front` that is no address.
+pub fn front_line(alloc: Global, text: &str) -> Result<String, AllocError>
+    ensures { IfOk result (λ line. string_bytes line ≡ spec.front_line text.now) }
+{
+    let why = listen_why(alloc, text)?;
+    format!(in alloc; "--front={text}: {why}")
+}
+
 fn before_slash(text: &str) -> &str
     ensures { result.now ≡ spec.before_slash text.now (base.cut_at 47 text.now) }
 {

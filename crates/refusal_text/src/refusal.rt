@@ -16,6 +16,10 @@ pub enum Refusal {
     Listen(Text),
     /// The text of `--audit-webhook-url` is no URL that a webhook can have.
     Webhook(Text),
+    /// The text of `--front` is no address.
+    Front(Text),
+    /// The text of `--token` can't stand in a header.
+    Token,
     /// The files that these names name weren't loaded.
     Files { names: FileNames, fault: LoadFault },
     /// A request of the input is refused or cut short: its number, and the number of its first byte in the input, both
