@@ -2,7 +2,7 @@
 use Rattle.std.specs.Prelude.{ℕ, ◌||◌, Bool, if◌then◌else◌, List, [], ◌∷◌, codes}
 use Rattle.std.specs.Str.{bytes_eq}
 use Rattle.command_options.specs.declared.asked.Asked.{Asked}
-use Rattle.command_options.specs.declared.asked.Asked.TheVariants.{Help, Version, Explain, Check, Serve, Ship, Probe, Rehearse, Unknown}
+use Rattle.command_options.specs.declared.asked.Asked.TheVariants.{Help, Version, Explain, Check, Serve, Ship, Resources, Probe, Rehearse, Unknown}
 use Rattle.command_options.specs.declared.asked.Topic.TheVariants as topic
 
 -- the option that asks for help
@@ -16,6 +16,7 @@ command_of word =
     else if bytes_eq word (codes "check") then Check
     else if bytes_eq word (codes "serve") then Serve
     else if bytes_eq word (codes "ship") then Ship
+    else if bytes_eq word (codes "resources") then Resources
     else if bytes_eq word (codes "probe") then Probe
     else if bytes_eq word (codes "rehearse") then Rehearse
     else Unknown
@@ -25,7 +26,9 @@ abbrev pub is_command : List ℕ → Bool
 is_command word = bytes_eq word (codes "explain")
     || (bytes_eq word (codes "check")
     || (bytes_eq word (codes "serve")
-    || (bytes_eq word (codes "ship") || (bytes_eq word (codes "probe") || bytes_eq word (codes "rehearse")))))
+    || (bytes_eq word (codes "ship")
+    || (bytes_eq word (codes "resources")
+    || (bytes_eq word (codes "probe") || bytes_eq word (codes "rehearse"))))))
 
 -- help on the command of that name
 abbrev pub help_on : List ℕ → Asked
@@ -34,6 +37,7 @@ help_on word =
     else if bytes_eq word (codes "check") then Help topic.Check
     else if bytes_eq word (codes "serve") then Help topic.Serve
     else if bytes_eq word (codes "ship") then Help topic.Ship
+    else if bytes_eq word (codes "resources") then Help topic.Resources
     else if bytes_eq word (codes "probe") then Help topic.Probe
     else if bytes_eq word (codes "rehearse") then Help topic.Rehearse
     else Unknown

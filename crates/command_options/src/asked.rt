@@ -11,6 +11,7 @@ pub enum Topic {
     Check,
     Serve,
     Ship,
+    Resources,
     Probe,
     Rehearse,
 }
@@ -24,6 +25,7 @@ pub enum Asked {
     Check,
     Serve,
     Ship,
+    Resources,
     Probe,
     Rehearse,
     /// There is no command, or none of that name.
@@ -47,6 +49,8 @@ fn command_of(word: &str) -> Asked
         Asked::Serve
     } else if word == "ship" {
         Asked::Ship
+    } else if word == "resources" {
+        Asked::Resources
     } else if word == "probe" {
         Asked::Probe
     } else if word == "rehearse" {
@@ -64,6 +68,7 @@ pub fn is_command(word: &str) -> bool
         || word == "check"
         || word == "serve"
         || word == "ship"
+        || word == "resources"
         || word == "probe"
         || word == "rehearse"
 }
@@ -79,6 +84,8 @@ fn help_on(word: &str) -> Asked
         Asked::Help(Topic::Serve)
     } else if word == "ship" {
         Asked::Help(Topic::Ship)
+    } else if word == "resources" {
+        Asked::Help(Topic::Resources)
     } else if word == "probe" {
         Asked::Help(Topic::Probe)
     } else if word == "rehearse" {

@@ -71,6 +71,9 @@ pub const BURST: &str = "burst";
 /// Of `ship`: how often it asks its throttle for one post at most.
 pub const RESTS: &str = "rests";
 
+/// Of `resources`: the file with an earlier document.
+pub const PREVIOUS: &str = "previous";
+
 /// Of `probe`: the front door that is told.
 pub const FRONT: &str = "front";
 

@@ -2,7 +2,7 @@
 use crate::names::{
     BATCH_BUFFER, BATCH_MAX_SIZE, BATCH_MAX_WAIT, BAYS, BURST, CONNECTIONS, DIAL_TIMEOUT,
     ENDPOINTS, EXIT_ON_STDIN_EOF, FRONT, IDLE_TIMEOUT, LISTEN, LOG_MODE, LOG_PATH, MAX_BATCH_SIZE,
-    MAX_EVENT_SIZE, MIN_RATE, MOMENT, POLICY, RATE, READ_HEADER_TIMEOUT, RESPONSE_HEADER_TIMEOUT,
+    MAX_EVENT_SIZE, MIN_RATE, MOMENT, POLICY, PREVIOUS, RATE, READ_HEADER_TIMEOUT, RESPONSE_HEADER_TIMEOUT,
     RESTS, ROUNDS, ROUTES, SERVICES, SHUTDOWN_TIMEOUT, STALL_TIMEOUT, SUMMARY, THRESHOLD, TOKEN,
     TOKENS, TRIES, WEBHOOK_MODE, WEBHOOK_URL,
 };
@@ -57,6 +57,8 @@ const SHIP: [&str; 7] = [
     RESTS,
 ];
 
+const RESOURCES: [&str; 3] = [SERVICES, ENDPOINTS, PREVIOUS];
+
 const PROBE: [&str; 6] = [SERVICES, ENDPOINTS, FRONT, TOKEN, ROUNDS, THRESHOLD];
 
 /// The names of the options of a command, without their dashes. A command of another name has none.
@@ -66,6 +68,7 @@ pub fn options_for(command: &str) -> &'static [&'static str] {
         "check" => &CHECK,
         "serve" => &SERVE,
         "ship" => &SHIP,
+        "resources" => &RESOURCES,
         "probe" => &PROBE,
         _ => &[],
     }
@@ -79,9 +82,9 @@ pub fn required_by(command: &str) -> Option<&'static str> {
     }
 }
 
-/// The first command that has an option of that name, in the order `explain`, `check`, `serve`, `ship` and `probe`.
+/// The first command that has an option of that name, in the order `explain`, `check`, `serve`, `ship`, `resources` and `probe`.
 pub fn command_with(name: &str) -> Option<&'static str> {
-    for command in ["explain", "check", "serve", "ship", "probe"] {
+    for command in ["explain", "check", "serve", "ship", "resources", "probe"] {
         if options_for(command).iter().any(|own| *own == name) {
             return Some(command);
         }
@@ -106,7 +109,7 @@ pub fn kind_of(name: &str) -> ValueKind {
         ROUTES | SUMMARY | EXIT_ON_STDIN_EOF => ValueKind::Flag,
         LOG_MODE | WEBHOOK_MODE => ValueKind::Mode,
         TOKENS | POLICY | SERVICES | ENDPOINTS => ValueKind::Text,
-        LISTEN | LOG_PATH | WEBHOOK_URL | FRONT | TOKEN => ValueKind::Text,
+        LISTEN | LOG_PATH | WEBHOOK_URL | PREVIOUS | FRONT | TOKEN => ValueKind::Text,
         _ => ValueKind::Number,
     }
 }

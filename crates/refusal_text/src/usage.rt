@@ -14,6 +14,7 @@ fn help_on(command: &str) -> &'static str {
         "check" => "Try 'apiaggd check --help'.",
         "serve" => "Try 'apiaggd serve --help'.",
         "ship" => "Try 'apiaggd ship --help'.",
+        "resources" => "Try 'apiaggd resources --help'.",
         "probe" => "Try 'apiaggd probe --help'.",
         "rehearse" => "Try 'apiaggd rehearse --help'.",
         _ => PROGRAM_HELP,
