@@ -6,12 +6,10 @@
 //! Nothing is promised of what a socket holds, nor of what is said of the progress.
 #![tactic(auto)]
 
-mod dial;
 mod notes;
 mod plant;
 mod share;
 
-pub use dial::{PostDial, PostLink};
 pub use notes::PostNotes;
 pub use plant::ShipPlant;
 pub use share::PostShare;

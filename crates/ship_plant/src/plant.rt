@@ -3,9 +3,9 @@ ghost use Rattle.front_plants.specs.Plants.{Failed, no_faults};
 ghost use Rattle.front_plants.specs.declared.call.PlantFail.TheVariants.{Port};
 ghost use Rattle.ship_plant.specs.Posts.{plant_tells};
 
-use crate::dial::PostDial;
 use crate::notes::PostNotes;
 use crate::share::PostShare;
+use client_dial::ClientDial;
 use front_base::Address;
 use front_plants::{Plant, PlantFail, PlantFault, PlantPort};
 use session_core::NoDiary;
@@ -59,15 +59,15 @@ impl<'b, R: Threads + Wait + Copy + Drop + Net<Stream = TcpStream> + rt::Clock +
 
     type D = TcpDoor<'b, R>;
 
-    type L = PostDial<'b, R>;
+    type L = ClientDial<'b, R>;
 
     type K = SystemClock<'b, R>;
 
     type Y = NoDiary;
 
-    type W = WebhookSink<PostDial<'b, R>, PostNotes<'b, R>>;
+    type W = WebhookSink<ClientDial<'b, R>, PostNotes<'b, R>>;
 
-    type H = WebhookSink<PostDial<'b, R>, PostNotes<'b, R>>;
+    type H = WebhookSink<ClientDial<'b, R>, PostNotes<'b, R>>;
 
     ghost tells = { plant_tells };
 
@@ -91,7 +91,7 @@ impl<'b, R: Threads + Wait + Copy + Drop + Net<Stream = TcpStream> + rt::Clock +
         Err(self.fault(PlantPort::Door, libc::EINVAL))
     }
 
-    fn dial(&mut self, _alloc: Global, _bay: u16) -> Result<PostDial<'b, R>, PlantFail> {
+    fn dial(&mut self, _alloc: Global, _bay: u16) -> Result<ClientDial<'b, R>, PlantFail> {
         Err(self.fault(PlantPort::Dial, libc::EINVAL))
     }
 
@@ -107,7 +107,7 @@ impl<'b, R: Threads + Wait + Copy + Drop + Net<Stream = TcpStream> + rt::Clock +
         &mut self,
         _alloc: Global,
         _path: &str,
-    ) -> Result<WebhookSink<PostDial<'b, R>, PostNotes<'b, R>>, PlantFail> {
+    ) -> Result<WebhookSink<ClientDial<'b, R>, PostNotes<'b, R>>, PlantFail> {
         Err(self.fault(PlantPort::Log, libc::EINVAL))
     }
 
@@ -115,8 +115,8 @@ impl<'b, R: Threads + Wait + Copy + Drop + Net<Stream = TcpStream> + rt::Clock +
         &mut self,
         alloc: Global,
         url: &str,
-    ) -> Result<WebhookSink<PostDial<'b, R>, PostNotes<'b, R>>, PlantFail> {
-        let dial = PostDial::new(self.rt, self.share);
+    ) -> Result<WebhookSink<ClientDial<'b, R>, PostNotes<'b, R>>, PlantFail> {
+        let dial = ClientDial::new(self.rt, self.share.error());
         match WebhookSink::start(alloc, url, dial, PostNotes::new(self.rt, self.share)) {
             Ok(hook) => Ok(hook),
             Err(HookFault::BadUrl) => Err(self.fault(PlantPort::Hook, libc::EINVAL)),

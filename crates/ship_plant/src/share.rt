@@ -1,8 +1,9 @@
 // What the handles of one run share: what became of its posts.
-use std::io::{Eprint, ErrorKind};
-use std::sync::atomic::{AtomicI32, AtomicU64, Ordering};
-use std::{io, rt};
-use system_errors::{number_of, reason_of_number};
+use client_dial::LastError;
+use std::io::Eprint;
+use std::rt;
+use std::sync::atomic::{AtomicU64, Ordering};
+use system_errors::reason_of_number;
 use tcp_plant::Why;
 use truncate_backend::TryAnswer;
 
@@ -18,9 +19,9 @@ pub struct PostShare {
     lines: AtomicU64,
     posts: AtomicU64,
     failed: AtomicU64,
-    // The status of the last reply that refused lines, 0 for none, and the system's number of the last error.
+    // The status of the last reply that refused lines, 0 for none, and the last error.
     status: AtomicU64,
-    error: AtomicI32,
+    error: LastError,
     // The moment before which no progress is said.
     next: AtomicU64,
 }
@@ -41,7 +42,7 @@ impl PostShare {
             posts: AtomicU64::new(0),
             failed: AtomicU64::new(0),
             status: AtomicU64::new(0),
-            error: AtomicI32::new(0),
+            error: LastError::new(),
             next: AtomicU64::new(0),
         }
     }
@@ -54,19 +55,15 @@ impl PostShare {
         match u16::try_from(self.status.load(Ordering::SeqCst)) {
             Ok(status) if status > 0 => Some(Why::Status(status)),
             _ => {
-                let number = self.error.load(Ordering::SeqCst);
-                Some(Why::Reason(reason_of_number(number).unwrap_or("the answer is not HTTP")))
+                let reason = reason_of_number(self.error.number());
+                Some(Why::Reason(reason.unwrap_or("the answer is not HTTP")))
             }
         }
     }
 
-    /// A call on a socket failed so.
-    pub(crate) fn fail(&self, error: &io::Error) {
-        let number = match error.kind() {
-            ErrorKind::TimedOut => libc::ETIMEDOUT,
-            _ => number_of(error),
-        };
-        self.error.store(number, Ordering::SeqCst);
+    // What the dial and its links note their errors in.
+    pub(crate) fn error(&self) -> &LastError {
+        &self.error
     }
 
     /// Counts a post with so many lines, and says how far it is.
@@ -78,7 +75,7 @@ impl PostShare {
             }
             TryAnswer::Refused(status) => self.note_failed(u64::from(status)),
             TryAnswer::BadAnswer => {
-                self.error.store(0, Ordering::SeqCst);
+                self.error.clear();
                 self.note_failed(0);
             }
             TryAnswer::Port => self.note_failed(0),
