@@ -10,8 +10,22 @@ pub struct Ending {
 }
 
 impl Ending {
+    /// An end of which its status says all.
     pub fn of(status: Status) -> Ending {
         Ending { status, why: None }
+    }
+}
+
+/// Memory ran out.
+pub fn no_memory() -> Ending {
+    Ending::of(Status::NoMemory)
+}
+
+/// A call of the system failed, for this reason where one is known.
+pub fn port_fault(why: Option<String>) -> Ending {
+    Ending {
+        status: Status::PortFault,
+        why,
     }
 }
 

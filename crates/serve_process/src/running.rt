@@ -5,9 +5,6 @@ ghost use Rattle.front_base.specs.declared.line.TheConstants.{MOST_LINE_BYTES};
 ghost use Rattle.serve_bays.specs.Options.{AreFit};
 ghost use Rattle.shared_runs.specs.Setup.{options_of};
 
-use crate::ending::Ending;
-use crate::serve::{address_text, no_memory, port_fault, target};
-use crate::start::{shortage, threads_of};
 use audit_core::Settings;
 use command_ends::Status;
 use front_base::MOST_LINE_BYTES;
@@ -17,6 +14,7 @@ use route_history::NewRoutes;
 use serve_config::ServeWords;
 use serve_report::ended_text;
 use serve_runs::{Ended, RunStatus};
+use serve_start::{Ending, address_text, no_memory, port_fault, shortage, target, threads_of};
 use shared_runs::{can_run, run_shared};
 use std::alloc::Global;
 use std::io;

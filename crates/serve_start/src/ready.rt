@@ -1,13 +1,14 @@
-// The command `serve`, over this process's sockets, files and threads.
-use crate::ending::{Ending, finish};
+// From words to an open address, over this process's sockets, files and threads.
+use crate::ending::{Ending, finish, no_memory, port_fault};
+use crate::places::{address_text, target};
 use crate::start::{threads_of, watch};
 use audit_core::Settings;
-use command_ends::{Status, SystemFiles};
+use command_ends::SystemFiles;
 use explain_command::finish_told;
 use front_base::Address;
 use policy_rules::Policy;
 use route_history::NewRoutes;
-use serve_config::{ServeConfig, ServeWords, SinkWords, configure_serve};
+use serve_config::{ServeConfig, ServeWords, configure_serve};
 use serve_report::{begun_text, size_warning, strict_warnings};
 use shared_runs::settings_of;
 use std::alloc::Global;
@@ -38,32 +39,8 @@ fn watch_input<R: Threads>(host: HostRuntime, rt: &R, gate: Arc<TcpGate>) -> boo
     thread::spawn(rt, move || close_at_end(&mut host.stdin(), &gate)).is_ok()
 }
 
-pub fn no_memory() -> Ending {
-    Ending::of(Status::NoMemory)
-}
-
-pub fn port_fault(why: Option<String>) -> Ending {
-    Ending {
-        status: Status::PortFault,
-        why,
-    }
-}
-
 fn no_thread(alloc: Global) -> Ending {
     port_fault(String::from_str(alloc, "threads: none could be started").ok())
-}
-
-pub fn target(sink: &SinkWords) -> &str {
-    match &sink.target {
-        Some(target) => target.as_str(),
-        None => "none",
-    }
-}
-
-pub fn address_text(alloc: Global, at: Address) -> Option<String> {
-    let [a, b, c, d] = at.ip;
-    let port = at.port;
-    format!(in alloc; "--listen={a}.{b}.{c}.{d}:{port}").ok()
 }
 
 fn unopened(alloc: Global, at: Address, error: &io::Error) -> Ending {
