@@ -15,8 +15,6 @@ fn main(rt: HostRuntime) -> ExitCode {
         Asked::Help(topic) => print_text(&rt, help_on(topic)),
         Asked::Version => print_text(&rt, VERSION),
         Asked::Check => checked(&rt, &words),
-        Asked::Explain | Asked::Serve | Asked::Ship | Asked::Rehearse | Asked::Unknown => {
-            explained(&rt, &words)
-        }
+        _ => explained(&rt, &words),
     }
 }

@@ -15,11 +15,13 @@ A front door for a Kubernetes API server: it routes requests to aggregated
 APIs, and writes audit events.
 
 Commands:
-  explain   prints the audit events that requests cause
-  check     says whether a log of audit events conforms to a policy
-  serve     serves a cluster API, and writes its audit events
-  ship      posts the lines of an audit log to a webhook
-  rehearse  serves requests in memory by threads, and sums them up
+  explain    prints the audit events that requests cause
+  check      says whether a log of audit events conforms to a policy
+  serve      serves a cluster API, and writes its audit events
+  ship       posts the lines of an audit log to a webhook
+  resources  asks servers for their resources, and prints one document
+  probe      asks services whether they answer, and tells a front door
+  rehearse   serves requests in memory by threads, and sums them up
 
 Options:
   -h, --help  prints this help, or after COMMAND that of the command;
@@ -232,6 +234,78 @@ Example:
     posts 5
 ";
 
+const RESOURCES_HELP: &str = "\
+Usage: apiaggd resources [OPTION]..
+
+Asks the server of each group version for its list of resources, one after
+another, and prints one document: a line of JSON for each group version, in the
+order of discovery. A list is fresh where the server answered it in this run,
+stale where an earlier document has it, and missing where neither does.
+
+An unavailable APIService, or one without an address, is not asked. A server
+that does not answer such a list within a minute is no fault of the run, which
+ends with status 0.
+
+Options are written --NAME=VALUE or --NAME VALUE.
+
+  --apiservices=FILE         APIServiceList (default: none)
+  --endpoints=FILE           addresses of services, and of the local server
+                             (default: none)
+  --previous=FILE            earlier document, as a run printed it
+                             (default: none)
+
+  -h, --help                 prints this help
+
+Example:
+  apiaggd resources --apiservices=apiservices.json --endpoints=endpoints.csv
+    {\"groupVersion\":\"v1\",\"state\":\"fresh\",\"resources\":[..]}
+    {\"groupVersion\":\"apps/v1\",\"state\":\"missing\",\"resources\":[]}
+";
+
+const PROBE_HELP: &str = "\
+Usage: apiaggd probe [OPTION]..
+
+Asks the services of APIServices whether they answer, and tells a front door of
+each that is available now, or isn't any more: it puts the APIService with that
+condition Available, as any client may.
+
+In each round each service is asked, at its endpoint, for the resources of its
+API. A status of 200 to 299 is good; any other answer is bad, and so is none, or
+a service without an endpoint. Where the last probes were all good, or all bad,
+and the condition is another one, the front door is told, and a line is printed:
+  ROUND NAME up|down STATUS
+with the status of the front door's answer, or none. It has taken what it was
+told where that is 200. After any other answer it is told again in the next
+round. At first a condition is that of the file.
+
+Options are written --NAME=VALUE or --NAME VALUE.
+
+Files, each of at most 16777216 bytes:
+  --apiservices=FILE   APIService objects, as JSON: one, or a list of at most
+                       1024 (default: none)
+  --endpoints=FILE     where services are reached, as CSV: the key
+                       NAMESPACE/NAME:PORT, and A.B.C.D:PORT (default: none)
+
+Front door:
+  --front=ADDRESS      where it listens: A.B.C.D:PORT or localhost:PORT
+                       (default: 127.0.0.1:8001)
+  --token=TOKEN        bearer token of a user in the group system:masters, of the
+                       characters '!' to '~' (default: none)
+
+Probes:
+  --rounds=N           how often each service is asked: 1 to 1000 (default: 1).
+                       A millisecond lies between two rounds
+  --threshold=N        how many probes one after another change a condition:
+                       1 to 10 (default: 3)
+
+  -h, --help           prints this help
+
+Example:
+  apiaggd probe --apiservices=apiservices.json --endpoints=endpoints.csv \\
+      --token=admin --rounds=3 --threshold=2
+    2 v1.g down 200
+";
+
 const REHEARSE_HELP: &str = "\
 Usage: apiaggd rehearse START COUNT
 
@@ -257,6 +331,8 @@ pub fn help_on(topic: Topic) -> &'static str {
         Topic::Check => CHECK_HELP,
         Topic::Serve => SERVE_HELP,
         Topic::Ship => SHIP_HELP,
+        Topic::Resources => RESOURCES_HELP,
+        Topic::Probe => PROBE_HELP,
         Topic::Rehearse => REHEARSE_HELP,
     }
 }
