@@ -11,6 +11,7 @@ use std::fs::File;
 use std::io::{Eprint, Print};
 use std::net::{Net, TcpListener, TcpStream};
 use std::process::ExitCode;
+use std::random::RandomSource;
 use std::rt;
 use std::sync::Wait;
 use std::thread::Threads;
@@ -27,13 +28,10 @@ fn ended_over<
         + Net<Listener = TcpListener, Stream = TcpStream>
         + rt::Clock
         + rt::Files<File = File>
+        + RandomSource
         + Print
         + Eprint,
->(
-    host: &HostRuntime,
-    rt: &R,
-    ready: Ready,
-) -> Ending {
+>(host: &HostRuntime, rt: &R, ready: Ready) -> Ending {
     let Ready {
         words,
         settings,
@@ -62,13 +60,10 @@ pub fn served<
         + Net<Listener = TcpListener, Stream = TcpStream>
         + rt::Clock
         + rt::Files<File = File>
+        + RandomSource
         + Print
         + Eprint,
->(
-    host: &HostRuntime,
-    rt: &R,
-    words: &Vec<String>,
-) -> ExitCode {
+>(host: &HostRuntime, rt: &R, words: &Vec<String>) -> ExitCode {
     match prepare(host, rt, words) {
         Ok(ready) => finish(host, &ended_over(host, rt, ready)),
         Err(code) => code,
