@@ -5,8 +5,9 @@ ghost use Rattle.audit_core.specs.Offers.{mode_of};
 ghost use Rattle.audit_core.specs.declared.settings.Settings.{Settings};
 ghost use Rattle.audit_core.specs.declared.sinks.Sink.{Sink};
 ghost use Rattle.audit_core.specs.declared.sinks.SinkMode.TheVariants.{Batch, Blocking, Strict};
-ghost use Rattle.run_laws.specs.Sides.{side_end, side_opens, side_sink};
+ghost use Rattle.run_laws.specs.Sides.{side_end, side_sink};
 ghost use Rattle.serve_bays.specs.declared.options.RunOptions.{RunOptions};
+ghost use Rattle.serve_bays.specs.Sides.{side_opens};
 ghost use Rattle.serve_roles.specs.Doors.{bay_handles};
 ghost use Rattle.serve_runs.specs.declared.ended.Ended.{Ended};
 

@@ -3,7 +3,7 @@ use Rattle.std.specs.Prelude.{ℕ, List}
 use Rattle.audit_core.specs.declared.settings.Settings.{Settings}
 use Rattle.audit_core.specs.declared.sinks.Sink.{Sink}
 use Rattle.audit_core.specs.declared.sinks.Sink.TheVariants.{Log, Webhook}
-use Rattle.front_plants.specs.Fresh.{Openings, SinkOpens, log_opens, hook_opens}
+use Rattle.front_plants.specs.Fresh.{Openings}
 use Rattle.front_plants.specs.Plants.{PlantTells}
 use Rattle.serve_bays.specs.declared.options.RunOptions.{RunOptions}
 use Rattle.serve_roles.specs.Doors.{BayHandles}
@@ -21,11 +21,6 @@ SideSink W H Webhook = H
 abbrev pub side_sink : {R L N W H K Y D C : Type 0} → BayHandles R L N W H K Y D C → (sink : Sink) → sinks.Ghosts (SideSink W H sink)
 side_sink h Log = h.log
 side_sink h Webhook = h.hook
-
--- what it tells while it is new
-abbrev pub side_opens : Openings → RunOptions → Sink → SinkOpens
-side_opens opens options Log = log_opens opens
-side_opens opens options Webhook = hook_opens opens options.hook_url
 
 -- what is left of it
 abbrev pub side_end : {R L W H K Y D : Type 0} → Ended R L W H K Y D → (sink : Sink) → SinkEnd (SideSink W H sink) K

@@ -51,14 +51,13 @@ called_none opens bays mode a e = record {
   made = subst (λ m. Joined a (sink_calls opens bays (replicate bays 0) m) a) (sym e) (joins_none a);
 }
 
-pub called_batch : (opens opened : PlantCall) (bays : ℕ) (mode : SinkMode) (allots : List ℕ) (a b c d : Option (List PlantCall)) → mode ≡ Batch
-    → length allots ≡ bays → Joined a (allot_calls 0 allots) b → Joined b (opened ∷ []) c → Joined c (Clock ∷ []) d → opened ≡ opens
+pub called_batch : (opens : PlantCall) (bays : ℕ) (mode : SinkMode) (allots : List ℕ) (a b c d : Option (List PlantCall)) → mode ≡ Batch
+    → length allots ≡ bays → Joined a (allot_calls 0 allots) b → Joined b (opens ∷ []) c → Joined c (Clock ∷ []) d
     → CalledFor opens bays allots mode a d
-called_batch opens opened bays mode allots a b c d e n p q r o = record {
+called_batch opens bays mode allots a b c d e n p q r = record {
   count = n;
   made = subst (λ m. Joined a (sink_calls opens bays allots m) d) (sym e)
-      (joins a b d (allot_calls 0 allots) (opens ∷ Clock ∷ []) p
-      (subst (λ z. Joined b (z ∷ Clock ∷ []) d) o (joins b c d (opened ∷ []) (Clock ∷ []) q r)));
+      (joins a b d (allot_calls 0 allots) (opens ∷ Clock ∷ []) p (joins b c d (opens ∷ []) (Clock ∷ []) q r));
 }
 
 pub called_own : (opens : PlantCall) (bays : ℕ) (mode : SinkMode) (a b : Option (List PlantCall)) → (mode ≡ Blocking) ⊎ (mode ≡ Strict)
@@ -127,15 +126,14 @@ pub in_part_all : (opens : PlantCall) (bays : ℕ) (allots : List ℕ) (mode : S
 in_part_all opens bays allots mode a b p = record { allots = allots; count = p.count; part = part_whole a b (sink_calls opens bays allots mode) p.made }
 
 -- those of the allotments and of the sink, but not of the clock
-pub in_part_batch : (opens opened : PlantCall) (bays : ℕ) (mode : SinkMode) (allots : List ℕ) (a b c : Option (List PlantCall)) → mode ≡ Batch
-    → length allots ≡ bays → Joined a (allot_calls 0 allots) b → Joined b (opened ∷ []) c → opened ≡ opens
-    → CalledInPart opens bays mode a c
-in_part_batch opens opened bays mode allots a b c e n p q o = record {
+pub in_part_batch : (opens : PlantCall) (bays : ℕ) (mode : SinkMode) (allots : List ℕ) (a b c : Option (List PlantCall)) → mode ≡ Batch
+    → length allots ≡ bays → Joined a (allot_calls 0 allots) b → Joined b (opens ∷ []) c → CalledInPart opens bays mode a c
+in_part_batch opens bays mode allots a b c e n p q = record {
   allots = allots;
   count = n;
   part = subst (λ m. CallsPart (sink_calls opens bays allots m) a c) (sym e)
       (part_more a b c (allot_calls 0 allots) (opens ∷ Clock ∷ []) p
-      (part_less b c (opens ∷ []) (Clock ∷ []) (part_whole b c (opens ∷ []) (subst (λ z. Joined b (z ∷ []) c) o q))));
+      (part_less b c (opens ∷ []) (Clock ∷ []) (part_whole b c (opens ∷ []) q)));
 }
 
 pub in_part_own : (opens : PlantCall) (bays : ℕ) (mode : SinkMode) (a b : Option (List PlantCall)) → (mode ≡ Blocking) ⊎ (mode ≡ Strict)

@@ -4,6 +4,3 @@ use Rattle.std.proofs.lemmas.List.Elements.{All-append, All-cons, All-nil}
 
 pub all_more : {A : Type 0} (P : A → Type 0) (xs ys : List A) (x : A) → ys ≡ xs ++ x ∷ [] → All P xs → P x → All P ys
 all_more P xs ys x e h p = subst (All P) (sym e) (All-append P xs (x ∷ []) h (All-cons P x [] p (All-nil P)))
-
-pub all_none : {A : Type 0} (P : A → Type 0) (xs : List A) → xs ≡ [] → All P xs
-all_none P xs e = subst (All P) (sym e) (All-nil P)

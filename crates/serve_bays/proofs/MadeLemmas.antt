@@ -1,15 +1,19 @@
 -- The lanes of a sink, with the calls that were made for them.
-use Rattle.std.proofs.Common.{◌≡◌, ◌⊎◌, inl, inr, ℕ, zero, suc, ◌-◌, List, [], ◌∷◌, ◌++◌, length, map, slice_get, Option, None, IfSome, All, sym, subst, arith}
+use Rattle.std.proofs.Common.{◌≡◌, ◌⊎◌, inl, inr, ℕ, List, length, map, Option, None, All, refl, sym, subst}
 use Rattle.std.specs.Prelude.{replicate}
 use Rattle.any_lane.specs.declared.lane.AnyLane.{AnyLane}
+use Rattle.audit_core.specs.declared.sinks.Sink.{Sink}
+use Rattle.audit_core.specs.declared.sinks.Sink.TheVariants.{Log, Webhook}
 use Rattle.audit_core.specs.declared.sinks.SinkMode.{SinkMode}
 use Rattle.audit_core.specs.declared.sinks.SinkMode.TheVariants.{Off, Batch, Blocking, Strict}
 use Rattle.batch_backend.specs.declared.limits.Limits.{Limits}
-use Rattle.front_plants.specs.Fresh.{SinkOpens, IsNewSink}
+use Rattle.front_plants.specs.Fresh.{Openings, SinkOpens, IsNewSink}
 use Rattle.front_plants.specs.declared.call.PlantCall.{PlantCall}
 use Rattle.front_ports.specs.declared.clock.Clock as clocks
 use Rattle.serve_bays.specs.LaneCalls.{CalledFor}
 use Rattle.serve_bays.specs.Lanes.{AreAllotted, AreOwn, LanesFor, MadeFor}
+use Rattle.serve_bays.specs.Sides.{side_opens}
+use Rattle.serve_bays.specs.declared.options.RunOptions.{RunOptions}
 use Rattle.serve_bays.proofs.CallLemmas.{called_none, called_own}
 use Rattle.queue_drain.specs.declared.drain.QueueDrain.{QueueDrain}
 use Rattle.sink_lanes.specs.Lanes.{AllOff, AreQueued, own_lane}
@@ -17,16 +21,10 @@ use Rattle.truncate_backend.specs.Told.{Joined}
 use Rattle.truncate_backend.specs.Tries.{SinkTells}
 use Rattle.truncate_backend.specs.declared.sink.BatchSink as sinks
 
--- one more at the end of a list
-pub placed_more : (P : ℕ → ℕ → Type 0) (xs : List ℕ) (x m : ℕ) → m ≡ length xs → ((k : ℕ) → IfSome (slice_get xs k) (P k)) → P m x
-    → (k : ℕ) → IfSome (slice_get (xs ++ x ∷ []) k) (P k)
-placed_more P [] x m e h p zero = subst (λ k. P k x) e p
-placed_more P [] x m e h p (suc k) = tt
-placed_more P (y ∷ xs) x m e h p zero = h zero
-placed_more P (y ∷ xs) x m e h p (suc k) =
-    let own : m ≡ suc (m - 1) = omega (arith, e) in
-    let rest : m - 1 ≡ length xs = omega (arith, e) in
-    placed_more (λ j. P (suc j)) xs x (m - 1) rest (λ j. h (suc j)) (subst (λ j. P j x) own p) k
+-- a bay is allotted as much for either sink
+pub same_allots : (opens : Openings) (options : RunOptions) (sink : Sink) → (side_opens opens options sink).allots ≡ opens.allots
+same_allots opens options Log = refl
+same_allots opens options Webhook = refl
 
 module _ {S R K : Type 0} (s : sinks.Ghosts S) (clock : clocks.Ghosts K) (opens : SinkOpens) (call : PlantCall) (mode : SinkMode) (bays capacity : ℕ)
     (limits : Limits) (lanes : List (AnyLane S R)) (drain : Option (QueueDrain S R K)) where

@@ -4,7 +4,6 @@ use Rattle.std.proofs.lemmas.List.Sums.{sum_by-cons}
 use Rattle.any_lane.specs.Lanes.{any_queued, any_tells}
 use Rattle.any_lane.specs.declared.lane.AnyLane.{AnyLane}
 use Rattle.any_lane.specs.declared.lane.AnyLane.TheVariants as lane
-use Rattle.audit_core.specs.declared.sinks.SinkMode.{SinkMode}
 use Rattle.audit_core.specs.declared.sinks.SinkMode.TheVariants.{Off, Batch, Blocking, Strict}
 use Rattle.batch_backend.specs.Batches.{WithinLimits}
 use Rattle.batch_backend.specs.Closes.{FullButLast}
@@ -14,12 +13,12 @@ use Rattle.front_plants.specs.Fresh.{Openings, SinkOpens, IsNewSink, SentAll, Se
 use Rattle.log_sink.specs.Texts.{log_text}
 use Rattle.serve_bays.specs.Lanes.{AreAllotted, AreShared, AreOwn}
 use Rattle.serve_bays.specs.Served.{IsDrained, IsOwn, CanAllEnd, AreAllServed}
+use Rattle.serve_bays.proofs.Walks.{image_count}
 use Rattle.front_ports.specs.declared.clock.Clock as clocks
 use Rattle.queue_drain.specs.Drains.{RanDrain, drain_state}
 use Rattle.queue_drain.specs.declared.drain.QueueDrain.{QueueDrain}
 use Rattle.queue_drain.specs.declared.drain_end.DrainEnd.{DrainEnd}
 use Rattle.role_threads.specs.Lists.{AllPairs, IfBoth}
-use Rattle.shared_queue.specs.Bays.{of_bay}
 use Rattle.shared_queue.specs.Lanes.{lane_accepted, lane_fulls}
 use Rattle.shared_queue.specs.declared.lane.QueueLane.{QueueLane}
 use Rattle.sink_lanes.specs.Ends.{CanEnd, Ends, own_parts, queued_part, queued_parts, some_first}
@@ -35,10 +34,6 @@ pairs_count T [] [] p = refl
 pairs_count T [] (y ∷ ys) p = absurd p
 pairs_count T (x ∷ xs) [] p = absurd p
 pairs_count T (x ∷ xs) (y ∷ ys) p = ap suc (pairs_count T xs ys p.1)
-
-image_count : {A B : Type 0} (f : A → B) (ys : List A) → length (map f ys) ≡ length ys
-image_count f [] = refl
-image_count f (y ∷ ys) = ap suc (image_count f ys)
 
 past : {A : Type 0} (xs : List A) (k : ℕ) (d : A) → length xs ≤ k → get_or xs k d ≡ d
 past [] k d h = refl

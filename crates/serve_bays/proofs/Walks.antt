@@ -1,6 +1,5 @@
 -- Lists that are walked by value, beside what was made of them.
-use Rattle.std.proofs.Common.{◌≡◌, ◌<◌, ◌≤◌, ◌+◌, ℕ, zero, suc, List, [], ◌∷◌, ◌++◌, length, length-append, map, slice_get, IfSome, append_assoc, append-nil, refl, sym, ap, subst, ◌∙◌, arith}
-use Rattle.std.specs.Prelude.{Result, Ok, Err, OnErr}
+use Rattle.std.proofs.Common.{◌≡◌, ◌<◌, ◌+◌, ℕ, zero, suc, List, [], ◌∷◌, ◌++◌, length, length-append, map, slice_get, IfSome, append_assoc, append-nil, refl, sym, ap, subst, ◌∙◌, arith}
 use Rattle.std.proofs.lemmas.List.{map-append}
 use Rattle.front_base.specs.declared.address.Address.{Address}
 use Rattle.serve_bays.specs.BayCalls.{bay_calls, bays_calls}
@@ -34,10 +33,6 @@ pub walk_end : {A B : Type 0} (f : A → B) (done : List A) (rest items : List B
     → map f done ≡ items
 walk_end f done [] items e r = sym (append-nil (map f done)) ∙ e
 walk_end f done (z ∷ rest) items e r = absurd (omega arith)
-
-pub walk_count : {A B : Type 0} (f : A → B) (done : List A) (rest items : List B) → map f done ++ rest ≡ items → length rest ≡ 0
-    → length done ≡ length items
-walk_count f done rest items e r = sym (image_count f done) ∙ ap length (walk_end f done rest items e r)
 
 pub next_whole : {A : Type 0} (xs ys rest zs : List A) (x : A) → xs ≡ ys ++ rest → rest ≡ x ∷ zs → xs ≡ (ys ++ x ∷ []) ++ zs
 next_whole xs ys rest zs x e r = (e ∙ ap (λ l. ys ++ l) r) ∙ sym (append_assoc ys (x ∷ []) zs)
@@ -114,7 +109,3 @@ image_more f done more a ys y e p q =
 
 pub one_longer : {T : Type 0} (ys : List T) (y : T) → length (ys ++ y ∷ []) ≡ suc (length ys)
 one_longer ys y = omega (arith, length-append ys (y ∷ []))
-
-pub on_err : {A E : Type 0} (r : Result A E) (P : Type 0) → P → OnErr r P
-on_err (Ok x) P p = tt
-on_err (Err x) P p = p

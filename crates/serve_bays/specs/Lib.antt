@@ -4,3 +4,4 @@ pub mod LaneCalls
 pub mod Lanes
 pub mod Options
 pub mod Served
+pub mod Sides

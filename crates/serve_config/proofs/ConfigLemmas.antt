@@ -1,6 +1,5 @@
 -- How a run of `serve` is refused by its words and files.
 use Rattle.std.proofs.Common.{◌≡◌, ℕ, false, List, Option, Some, Result, Ok, Err, refl, inl, inr}
-use Rattle.command_options.specs.declared.fault.WordsFault.{WordsFault}
 use Rattle.command_options.specs.declared.fault.WordsFault.TheVariants as words_fault
 use Rattle.front_config.specs.Load as load
 use Rattle.front_config.specs.Load.{Reads, AreRead, load_of}

@@ -15,7 +15,7 @@ use local_replies::LocalPaths;
 use queue_drain::QueueDrain;
 use role_threads::Roles;
 use serve_bays::{
-    RunOptions, SharedParts, calls_in_part, calls_join, hook_lanes, log_lanes, make_bays,
+    LogSide, RunOptions, SharedParts, WebhookSide, calls_in_part, calls_join, make_bays, side_lanes,
 };
 use serve_roles::BayRole;
 use sink_lanes::SinkLanes;
@@ -90,12 +90,12 @@ pub(crate) fn make_roles<P: Plant, R: Routes + Drop>(
     calls_in_part();
     let (log_mode, hook_mode) = (settings.log, settings.hook);
     let shared = share(alloc, plant, settings, paths)?;
-    let log_side = log_lanes(rt, alloc, plant, options, log_mode)?;
+    let log_side = side_lanes::<P, LogSide>(rt, alloc, plant, options, log_mode)?;
     let SinkLanes {
         lanes: logs,
         drain: log,
     } = log_side;
-    let hook_side = hook_lanes(rt, alloc, plant, options, hook_mode)?;
+    let hook_side = side_lanes::<P, WebhookSide>(rt, alloc, plant, options, hook_mode)?;
     let SinkLanes {
         lanes: hooks,
         drain: hook,

@@ -1,5 +1,5 @@
 -- A run whose routes share a table, told without the name of its history.
-use Rattle.std.proofs.Common.{◌≡◌, ◌⊎◌, List, [], All, map, inl, inr, ap, sym, subst, ◌∙◌}
+use Rattle.std.proofs.Common.{◌≡◌, ◌⊎◌, List, All, map, inl, inr, ap, sym, subst, ◌∙◌}
 use Rattle.apiservice_rows.specs.Row.{Row}
 use Rattle.apiservice_table.specs.declared.change.Change.{Change}
 use Rattle.audit_core.specs.declared.settings.Settings.{Settings}

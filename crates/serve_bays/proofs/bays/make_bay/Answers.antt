@@ -1,5 +1,5 @@
 use Rattle.std.proofs.Common.{◌∷◌, []}
-use Rattle.serve_bays.proofs.Walks.{on_err}
+use Rattle.serve_bays.proofs.CallLemmas.{on_err}
 use Rattle.front_plants.specs.declared.call.PlantCall.TheVariants.{Dial, Door, Clock, Diary}
 use Rattle.serve_bays.proofs.bays.make_bay.Goals as goal
 

@@ -1,9 +1,10 @@
-use Rattle.std.proofs.Common.{rules, arith, refl, sym, ap, subst, ◌∙◌, ◌≡◌, ◌≤◌, ◌+◌, ◌-◌, ◌++◌, ◌∷◌, [], ℕ, suc, length, length-append, map, slice_get, IfSome, Option, List}
+use Rattle.std.proofs.Common.{rules, arith, refl, sym, ap, subst, ◌∙◌, ◌≡◌, ◌+◌, ◌-◌, ◌++◌, ◌∷◌, [], suc, length, length-append, map, slice_get, IfSome}
 use Rattle.std.specs.Arc.{arc_value}
 use Rattle.serve_bays.specs.LaneCalls.{CallsPart}
 use Rattle.serve_bays.specs.Bays.{IsNewBay, routes_of}
 use Rattle.serve_bays.specs.BayCalls.{bay_calls, bays_calls}
-use Rattle.serve_bays.proofs.Walks.{walk_next, walk_more, walk_end, next_whole, next_below, all_of, each_more, some_left, none_left, image_more, one_longer, bays_more, bays_split, on_err}
+use Rattle.serve_bays.proofs.CallLemmas.{on_err}
+use Rattle.serve_bays.proofs.Walks.{walk_next, walk_more, walk_end, next_whole, next_below, all_of, each_more, some_left, none_left, image_more, one_longer, bays_more, bays_split}
 use Rattle.serve_bays.proofs.bays.make_bays.Goals as goal
 use Rattle.serve_roles.specs.Doors.{bay_handles}
 use Rattle.serve_roles.specs.Ends.{log_lane, hook_lane}

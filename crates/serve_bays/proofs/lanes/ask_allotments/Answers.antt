@@ -1,9 +1,9 @@
-use Rattle.std.proofs.Common.{rules, arith, ap, refl, sym, subst, ◌∙◌, ◌≡◌, ℕ, ◌∷◌, [], ◌≤◌, length, length-append, slice_get, IfSome}
+use Rattle.std.proofs.Common.{rules, arith, ap, sym, subst, ◌∙◌, ◌≡◌, ◌∷◌, [], ◌≤◌, length, length-append, IfSome}
 use Rattle.shared_queue.specs.declared.making.TheConstants.{MOST_ALLOTTED}
 use Rattle.serve_bays.specs.LaneCalls.{allot_calls}
 use Rattle.serve_bays.proofs.CallLemmas.{joins_as, allot_more}
 use Rattle.serve_bays.proofs.Lists.{all_more}
-use Rattle.serve_bays.proofs.MadeLemmas.{placed_more}
+use Rattle.serve_bays.proofs.Walks.{each_more}
 use Rattle.serve_bays.proofs.lanes.ask_allotments.Goals as goal
 
 pub loop-bay-preserved : goal.loop-bay-preserved
@@ -14,9 +14,8 @@ loop-bay-preserved g c =
       count = omega (arith, ap length e.items, length-append c.loop-bay.allots.items (c.allot.result ∷ []), i.count);
       room = search (rules, e.capacity, i.room);
       most = all_more (λ n. n ≤ MOST_ALLOTTED) _ _ c.allot.result e.items i.most c.allot.ensures.most;
-      fixed = subst (λ items. (bay : ℕ) → IfSome (slice_get items bay) (λ allotment. IfSome (g.P.Plant.opens.allots bay) (λ own. allotment ≡ own))) (sym e.items)
-          (placed_more (λ bay allotment. IfSome (g.P.Plant.opens.allots bay) (λ own. allotment ≡ own)) c.loop-bay.allots.items c.allot.result c.loop-bay.bay
-          (sym i.count) i.fixed c.allot.ensures.fixed);
+      fixed = each_more (λ bay allotment. IfSome (g.P.Plant.opens.allots bay) (λ own. allotment ≡ own)) c.loop-bay.allots.items _ c.allot.result e.items i.fixed
+          (subst (λ bay. IfSome (g.P.Plant.opens.allots bay) (λ own. c.allot.result ≡ own)) (sym i.count) c.allot.ensures.fixed);
       faults = c.allot.ensures.faults ∙ i.faults;
       made = joins_as _ _ _ _ _ _ i.made c.allot.ensures.called.made
           (ap (allot_calls 0) e.items ∙ allot_more 0 c.loop-bay.bay c.loop-bay.allots.items c.allot.result (omega (arith, i.count)));

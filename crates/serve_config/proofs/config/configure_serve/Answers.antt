@@ -1,4 +1,4 @@
-use Rattle.std.proofs.Common.{Ok, sym, subst, map, string_bytes}
+use Rattle.std.proofs.Common.{sym, subst, map, string_bytes}
 use Rattle.command_ends.specs.Ports.{FilesPort, files_port}
 use Rattle.command_ends.specs.Why.{status_of_load}
 use Rattle.serve_config.specs.Config as spec

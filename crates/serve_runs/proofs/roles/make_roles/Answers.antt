@@ -57,7 +57,7 @@ returns-clause-made g c =
     let due = c.in_ok-hook_side.ensures.due ∙ (c.in_ok-log_side.ensures.due ∙ c.in_ok-shared.ensures.plant.1) in
     let lm = c.in_ok-log_side.ensures.made in
     let hm = c.in_ok-hook_side.ensures.made in
-    let bc = subst (λ n. Joined (g.P.Plant.tells c.hook_lanes.new.plant).made (bays_calls o.listen o.connections 0 n) (g.P.Plant.tells c.make_bays.new.plant).made)
+    let bc = subst (λ n. Joined (g.P.Plant.tells c.side_lanes-2.new.plant).made (bays_calls o.listen o.connections 0 n) (g.P.Plant.tells c.make_bays.new.plant).made)
     c.requires.routes says.called in
     let join = c.calls_join.ensures.join in
     record {
@@ -72,7 +72,7 @@ returns-clause-made g c =
           ∙ lanes_count g.P.W.BatchSink g.P.K.Clock (log_opens g.P.Plant.opens) c.args.settings.log o.bays o.buffer c.in_ok-log_side.ensures.made.allots o.limits l.lanes.items l.drain c.in_ok-log_side.ensures.made.made);
       each = λ k.
           subst (λ q. IfSome (slice_get bays k) (λ role. IsNewBay h c.args.settings shared.boot (q k) k role)) due
-          (subst (λ z. IfSome (slice_get bays k) (λ role. IsNewBay h z shared.boot ((g.P.Plant.tells c.hook_lanes.new.plant).due k) k role)) c.in_ok-shared.ensures.settings
+          (subst (λ z. IfSome (slice_get bays k) (λ role. IsNewBay h z shared.boot ((g.P.Plant.tells c.side_lanes-2.new.plant).due k) k role)) c.in_ok-shared.ensures.settings
           (says.new k));
       routes = says.routes;
       log = subst (λ z. LanesFor g.P.W.BatchSink g.P.K.Clock (log_opens g.P.Plant.opens) c.args.settings.log o.bays o.buffer lm.allots o.limits z l.drain) (sym says.lanes.0) lm.made;
@@ -112,5 +112,5 @@ returns-in_err-bays-clause-stopped g c =
     let o = c.args.options.now in
     on_err _ _ (bays_part law c.args.settings o c.in_ok-shared.shared.boot c.in_ok-log_side.ensures.made.allots c.in_ok-hook_side.ensures.made.allots
     _ _ _ _ _ c.in_ok-shared.ensures.called c.in_ok-log_side.ensures.made.called c.in_ok-hook_side.ensures.made.called
-    (subst (λ n. CallsPart (bays_calls o.listen o.connections 0 n) (g.P.Plant.tells c.hook_lanes.new.plant).made (g.P.Plant.tells c.make_bays.new.plant).made)
+    (subst (λ n. CallsPart (bays_calls o.listen o.connections 0 n) (g.P.Plant.tells c.side_lanes-2.new.plant).made (g.P.Plant.tells c.make_bays.new.plant).made)
     c.requires.routes c.in_err-bays.ensures.stopped))

@@ -1,4 +1,4 @@
-use Rattle.std.proofs.Common.{◌≡◌, ◌⊎◌, inr, [], refl, sym, subst}
+use Rattle.std.proofs.Common.{◌⊎◌, inr, refl, sym, subst}
 use Rattle.serve_bays.specs.declared.options.RunOptions.{RunOptions}
 use Rattle.shared_runs.proofs.configured.run_configured.Goals as goal
 use Rattle.serve_roles.specs.Doors.{bay_handles}
