@@ -1,0 +1,4 @@
+mod JoinLemmas
+mod GoesLemmas
+mod ExtendsLemmas
+mod TurnLemmas
