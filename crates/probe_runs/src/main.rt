@@ -1,0 +1,80 @@
+//! Runs of `apiaggd probe` over the files of this folder's `data` and a dial in memory: what each ends with, what it writes, and what standard
+//! error says of it, on standard output, where it is compared byte by byte. `data/runs.txt` has a command line a row, and after `|` what is
+//! answered to each call, one after another, and after `>` how many bytes the output takes, if there is such a limit.
+//!
+//! What is wanted was worked out by hand from the rules that stand above the rows.
+#![tactic(auto)]
+
+mod peers;
+
+use case_rows::{fields, is_row, read_cases};
+use command_ends::{Ended, Outcome, SystemFiles};
+use front_base::Moment;
+use front_ports::{MemBytes, MemClock};
+use peers::peer_of;
+use probe_command::run_probe;
+use std::alloc::{AllocError, Global};
+use std::process::ExitCode;
+
+/// More than any run writes.
+const MOST_WRITTEN: u64 = 4096;
+
+fn words_of(alloc: Global, line: &str) -> Result<Vec<String>, AllocError> {
+    let mut words = Vec::new(alloc);
+    for word in line.split_whitespace() {
+        words.push(String::from_str(alloc, word)?)?;
+    }
+    Ok(words)
+}
+
+// One run whose calls are answered so, and whose output takes so many bytes: its status, what it wrote, and what is told.
+fn told(rt: &HostRuntime, words: &Vec<String>, answers: &str, most: u64) -> Option<String> {
+    let alloc = rt.alloc();
+    let mut files = SystemFiles::new(rt);
+    let mut dial = peer_of(alloc, answers).ok()?;
+    let mut clock = MemClock::new(Moment::epoch(), 1);
+    let mut out = MemBytes::new(alloc, most, Vec::new(alloc)).ok()?;
+    let Outcome { status, why } = run_probe(
+        alloc, words, &mut files, &mut dial, &mut clock, &mut out,
+    );
+    let ended = Ended::of(status, why);
+    let reason = ended.reason(files.reason(), None, None);
+    let text = ended.told(alloc, words.as_slice(), reason).ok()?;
+    let written = str::from_utf8(out.bytes()).unwrap_or("?");
+    format!(in alloc; "{}\n{written}{text}", ended.status.code()).ok()
+}
+
+// How many bytes the output of a run takes.
+fn most_of(text: &str) -> u64 {
+    match text.parse::<u64>() {
+        Ok(most) if most < MOST_WRITTEN => most,
+        _ => MOST_WRITTEN,
+    }
+}
+
+fn show(rt: &HostRuntime, row: &str) -> bool {
+    let (line, rest) = fields(row);
+    let (answers, most) = match rest.split_once(" > ") {
+        Some(parts) => parts,
+        None => (rest, ""),
+    };
+    let Ok(words) = words_of(rt.alloc(), line) else {
+        return false;
+    };
+    match told(rt, &words, answers, most_of(most)) {
+        Some(text) => print!(rt; "apiaggd {row}\n{text}").is_ok(),
+        None => false,
+    }
+}
+
+fn main(rt: HostRuntime) -> ExitCode {
+    let Ok(runs) = read_cases(&rt, "runs.txt") else {
+        return ExitCode::from(1);
+    };
+    for row in runs.lines() {
+        if is_row(row) && !show(&rt, row) {
+            return ExitCode::from(1);
+        }
+    }
+    ExitCode::from(0)
+}
