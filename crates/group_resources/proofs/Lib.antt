@@ -1,0 +1,4 @@
+pub mod LineLemmas
+pub mod DocumentLemmas
+pub mod MemberLemmas
+pub mod ReadingLemmas
