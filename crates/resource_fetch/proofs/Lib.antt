@@ -1,0 +1,3 @@
+pub mod FetchLemmas
+pub mod LinkLemmas
+pub mod SaysLemmas
