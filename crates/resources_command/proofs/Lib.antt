@@ -1,0 +1,4 @@
+pub mod RunLemmas
+pub mod ConfigLemmas
+pub mod OrderLemmas
+pub mod WordsLemmas

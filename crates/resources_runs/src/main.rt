@@ -1,0 +1,121 @@
+//! Runs of `apiaggd resources` over the files of this folder's `data` and servers in memory: what each ends with, what it writes, whom it asked
+//! with which bytes, and what standard error says of it, on standard output, where it is compared byte by byte. A row of `data/runs.txt` is a
+//! command line and, after `<`, the file with the reply of each server that is asked, `refused` for one that isn't reached, or `fault` before a
+//! file whose link fails at its first read; and after `>` how many bytes the output takes, if there is such a limit.
+//!
+//! What is wanted was worked out by hand from the order of discovery and the shape of a line.
+#![tactic(auto)]
+
+mod servers;
+
+use case_rows::{is_row, read_cases, spelled};
+use front_base::NoMemory;
+use front_ports::{MemBytes, MemDial};
+use command_ends::{Ended, SystemFiles};
+use resources_command::{PreviousRefusal, previous_text, run_resources};
+use servers::dial_of;
+use std::alloc::{AllocError, Global};
+use std::process::ExitCode;
+
+/// More than any document has.
+const MOST_WRITTEN: u64 = 65536;
+
+fn words_of(alloc: Global, line: &str) -> Result<Vec<String>, AllocError> {
+    let mut words = Vec::new(alloc);
+    for word in line.split_whitespace() {
+        words.push(String::from_str(alloc, word)?)?;
+    }
+    Ok(words)
+}
+
+// Whom was asked, with which bytes.
+fn calls_text(alloc: Global, dial: &MemDial) -> Result<String, AllocError> {
+    let mut text = String::new(alloc);
+    let Some(calls) = dial.calls() else {
+        return String::from_str(alloc, "asked more than there are\n");
+    };
+    for call in calls {
+        let sent = spelled(alloc, call.sent.as_slice());
+        let port = call.to.port;
+        let line = format!(in alloc; "asked {port}: {sent}\n")?;
+        text.push_str(line.as_str())?;
+    }
+    Ok(text)
+}
+
+fn refusal_line(
+    alloc: Global,
+    refused: &Option<PreviousRefusal>,
+    reason: Option<&str>,
+) -> Result<String, AllocError> {
+    match refused {
+        Some(refused) => previous_text(alloc, refused, reason),
+        None => Ok(String::new(alloc)),
+    }
+}
+
+// One run over these servers, whose output takes so many bytes: its status, what it wrote, whom it asked, and what is told.
+fn told(
+    rt: &HostRuntime,
+    words: &Vec<String>,
+    dial: &mut MemDial,
+    most: u64,
+) -> Result<String, AllocError> {
+    let alloc = rt.alloc();
+    let mut files = SystemFiles::new(rt);
+    let Ok(mut out) = MemBytes::new(alloc, most, Vec::new(alloc)) else {
+        return Ok(String::new(alloc));
+    };
+    let done = run_resources(alloc, words, &mut files, dial, &mut out);
+    let line = refusal_line(alloc, &done.previous, files.reason())?;
+    let ended = Ended::of(done.status, done.why);
+    let reason = ended.reason(files.reason(), None, None);
+    let text = ended.told(alloc, words.as_slice(), reason)?;
+    let calls = calls_text(alloc, dial)?;
+    let written = str::from_utf8(out.bytes()).unwrap_or("?");
+    format!(in alloc; "{}\n{written}{calls}{text}{line}", ended.status.code())
+}
+
+// The parts of a row before and after some text, where it has it.
+fn parts_at<'r>(row: &'r str, text: &str) -> (&'r str, &'r str) {
+    match row.split_once(text) {
+        Some(parts) => parts,
+        None => (row, ""),
+    }
+}
+
+// How many bytes the output of a run takes.
+fn most_of(text: &str) -> u64 {
+    match text.parse::<u64>() {
+        Ok(most) if most < MOST_WRITTEN => most,
+        _ => MOST_WRITTEN,
+    }
+}
+
+fn show(rt: &HostRuntime, row: &str) -> bool {
+    let (rest, most) = parts_at(row, " > ");
+    let (line, servers) = parts_at(rest, " < ");
+    let Ok(words) = words_of(rt.alloc(), line) else {
+        return false;
+    };
+    let mut dial = match dial_of(rt, servers) {
+        Ok(dial) => dial,
+        Err(NoMemory) => return false,
+    };
+    match told(rt, &words, &mut dial, most_of(most)) {
+        Ok(text) => print!(rt; "apiaggd {row}\n{text}").is_ok(),
+        Err(_) => false,
+    }
+}
+
+fn main(rt: HostRuntime) -> ExitCode {
+    let Ok(runs) = read_cases(&rt, "runs.txt") else {
+        return ExitCode::from(1);
+    };
+    for row in runs.lines() {
+        if is_row(row) && !show(&rt, row) {
+            return ExitCode::from(1);
+        }
+    }
+    ExitCode::from(0)
+}
