@@ -7,7 +7,9 @@ mod streams;
 
 use command_options::Asked;
 use explain_command::{VERSION, checked, explained, finish_told, help_on, print_text, words_of};
+use probe_process::probed;
 use rehearse::rehearsed;
+use resources_process::fetched;
 use serve_process::served;
 use ship_process::shipped;
 use std::process::ExitCode;
@@ -26,6 +28,8 @@ fn main(rt: HostRuntime) -> ExitCode {
         Asked::Check => checked(&rt, &words),
         Asked::Rehearse => rehearsed(&rt, &rt, &words),
         Asked::Ship => shipped(&rt, &rt, &words),
+        Asked::Resources => fetched(&rt, &rt, &words),
+        Asked::Probe => probed(&rt, &rt, &words),
         Asked::Serve => served(&rt, &rt, &words),
     }
 }
