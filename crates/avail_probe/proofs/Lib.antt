@@ -1,2 +1,3 @@
 mod FloatLemmas
 mod LastLemmas
+mod StatusLemmas

@@ -1,9 +1,10 @@
 -- The object of an APIService that says whether it is available (Kubernetes, "Aggregation Layer": the condition `Available` of
 -- `apiregistration.k8s.io/v1`).
-use Rattle.std.specs.Prelude.{ℕ, Bool, if◌then◌else◌, List, Option, Some, None, codes}
+use Rattle.std.specs.Prelude.{◌≡◌, ℕ, Bool, if◌then◌else◌, List, Option, Some, None, Ok, codes}
 use Rattle.serde_json.specs.Data.{Data, null, boolean, number, string, array, object, item, no_items, member, no_members, put}
 use Rattle.serde_json.specs.Written.{compact_text, has_float}
 use Rattle.json_value.specs.Read.{value_of}
+use Rattle.apiservice_rows.specs.Object.{read_row}
 use Rattle.apiservice_rows.specs.Row.{Row}
 
 abbrev pub word_of : Bool → List ℕ
@@ -33,3 +34,20 @@ text_with up text (Some d) = if has_float d then text else compact_text (with_st
 -- the text of a row's object with that status
 abbrev pub object_with : Row → Bool → List ℕ
 object_with row up = text_with up row.object (value_of row.object)
+
+-- a row with that condition and that object
+abbrev pub with_condition : Row → Bool → List ℕ → Row
+with_condition row up text = record {
+  name = row.name;
+  group = row.group;
+  version = row.version;
+  group_priority = row.group_priority;
+  version_priority = row.version_priority;
+  service = row.service;
+  available = up;
+  object = text;
+}
+
+-- the text is read as that row, if the row is that of its own object
+abbrev pub IsReadBack : Row → Bool → List ℕ → Type 0
+IsReadBack row up text = read_row row.object ≡ Ok row → read_row text ≡ Ok (with_condition row up text)

@@ -1,7 +1,9 @@
 // The object that says whether an APIService is available.
-ghost use Rattle.std.specs.Prelude.{◌≡◌, false, Some, IfOk, OnOk, codes, option_map};
+ghost use Rattle.std.specs.Prelude.{◌≡◌, ◌≤◌, false, Some, IfOk, OnOk, codes, option_map};
+ghost use Rattle.apiservice_rows.specs.Row as rows;
 ghost use Rattle.json_value.specs.Read.{value_of};
-ghost use Rattle.serde_json.specs.Data.{put};
+ghost use Rattle.serde_json.specs.Data.{depth, put};
+ghost use Rattle.serde_json.specs.Read.{max_depth};
 ghost use Rattle.serde_json.specs.View.{members_view, view};
 ghost use Rattle.serde_json.specs.Written.{compact_text, has_float};
 ghost use Rattle.avail_probe.specs.Status as spec;
@@ -66,7 +68,8 @@ fn value_in(alloc: Global, text: &[u8]) -> Result<Option<Value>, NoMemory>
 
 fn changed_text(alloc: Global, up: bool, value: Value) -> Result<Bytes, NoMemory>
     requires { has_float (view value) ≡ false }
-    ensures { IfOk result (λ text. text ≡ compact_text (spec.with_status up (view value))) }
+    ensures text { IfOk result (λ text. text ≡ compact_text (spec.with_status up (view value))) }
+    ensures back { IfOk result (λ text. depth (view value) ≤ max_depth → value_of text ≡ Some (spec.with_status up (view value))) }
 {
     let changed = with_status(alloc, up, value)?;
     let text = changed.to_string(alloc)?;
@@ -74,7 +77,9 @@ fn changed_text(alloc: Global, up: bool, value: Value) -> Result<Bytes, NoMemory
 }
 
 fn text_with(alloc: Global, up: bool, text: &Bytes, value: Value) -> Result<Bytes, NoMemory>
-    ensures { IfOk result (λ changed. changed ≡ spec.text_with up text.now (Some (view value))) }
+    ensures text { IfOk result (λ changed. changed ≡ spec.text_with up text.now (Some (view value))) }
+    ensures back { IfOk result (λ changed. (row : rows.Row) → row.object ≡ text.now → value_of text.now ≡ Some (view value)
+        → spec.IsReadBack row up changed) }
 {
     if has_float(&value) {
         return text.copy(alloc);
@@ -83,9 +88,11 @@ fn text_with(alloc: Global, up: bool, text: &Bytes, value: Value) -> Result<Byte
 }
 
 /// The object of a row as JSON, with a status in the place of its own whose one condition says that it is available, or that it
-/// isn't. The text is that of a value, as `serde_json` writes it. A text that is no object of an APIService stays as it is.
+/// isn't. The text is that of a value, as `serde_json` writes it. A text that is no object of an APIService stays as it is. Where the
+/// row is that of its own object, as one that was read alone is, the text is read back as the same row but for condition and object.
 pub fn object_with(alloc: Global, row: &Row, up: bool) -> Result<Bytes, NoMemory>
-    ensures { IfOk result (λ text. text ≡ spec.object_with row.now up) }
+    ensures text { IfOk result (λ text. text ≡ spec.object_with row.now up) }
+    ensures back { IfOk result (λ text. spec.IsReadBack row.now up text) }
 {
     match value_in(alloc, row.object.as_slice())? {
         Some(value) => text_with(alloc, up, &row.object, value),
