@@ -9,10 +9,10 @@
 mod servers;
 
 use case_rows::{is_row, read_cases, spelled};
+use command_ends::{Ended, SystemFiles};
 use front_base::NoMemory;
 use front_ports::{MemBytes, MemDial};
-use command_ends::{Ended, SystemFiles};
-use resources_command::{PreviousRefusal, previous_text, run_resources};
+use resources_command::{PreviousRefusal, ResourcesEnded, previous_text, run_resources};
 use servers::dial_of;
 use std::alloc::{AllocError, Global};
 use std::process::ExitCode;
@@ -54,6 +54,23 @@ fn refusal_line(
     }
 }
 
+// What is shown of a run that ended so, by whom it asked and what it wrote. `reason` is the system's for a file that could not be read.
+fn shown(
+    alloc: Global,
+    words: &[String],
+    ended: &Ended,
+    previous: &Option<PreviousRefusal>,
+    reason: Option<&'static str>,
+    dial: &MemDial,
+    written: &[u8],
+) -> Result<String, AllocError> {
+    let calls = calls_text(alloc, dial)?;
+    let text = ended.told(alloc, words, ended.reason(reason, None, None))?;
+    let line = refusal_line(alloc, previous, reason)?;
+    let written = str::from_utf8(written).unwrap_or("?");
+    format!(in alloc; "{}\n{written}{calls}{text}{line}", ended.status.code())
+}
+
 // One run over these servers, whose output takes so many bytes: its status, what it wrote, whom it asked, and what is told.
 fn told(
     rt: &HostRuntime,
@@ -66,14 +83,21 @@ fn told(
     let Ok(mut out) = MemBytes::new(alloc, most, Vec::new(alloc)) else {
         return Ok(String::new(alloc));
     };
-    let done = run_resources(alloc, words, &mut files, dial, &mut out);
-    let line = refusal_line(alloc, &done.previous, files.reason())?;
-    let ended = Ended::of(done.status, done.why);
-    let reason = ended.reason(files.reason(), None, None);
-    let text = ended.told(alloc, words.as_slice(), reason)?;
-    let calls = calls_text(alloc, dial)?;
-    let written = str::from_utf8(out.bytes()).unwrap_or("?");
-    format!(in alloc; "{}\n{written}{calls}{text}{line}", ended.status.code())
+    let ResourcesEnded {
+        status,
+        why,
+        previous,
+    } = run_resources(alloc, words, &mut files, dial, &mut out);
+    let ended = Ended::of(status, why);
+    shown(
+        alloc,
+        words.as_slice(),
+        &ended,
+        &previous,
+        files.reason(),
+        dial,
+        out.bytes(),
+    )
 }
 
 // The parts of a row before and after some text, where it has it.

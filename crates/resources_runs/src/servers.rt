@@ -3,9 +3,9 @@ ghost use Rattle.std.specs.Prelude.{IfOk};
 ghost use Rattle.std.specs.List.{All};
 ghost use Rattle.front_ports.specs.Memory.{IsUnused};
 
+use command_ends::SystemFiles;
 use front_base::{Bytes, NoMemory};
 use front_ports::{Files, MemDial, MemLink, Script};
-use command_ends::SystemFiles;
 use std::alloc::Global;
 
 /// More than any request has.
