@@ -10,10 +10,12 @@ use explain_command::{VERSION, checked, explained, finish_told, help_on, print_t
 use probe_process::probed;
 use rehearse::rehearsed;
 use resources_process::fetched;
-use serve_process::served;
+use serve_process::{no_boot_word, run_over};
+use serve_start::{Ready, finish, prepare};
 use ship_process::shipped;
 use std::process::ExitCode;
 use streams::hold_streams;
+use tcp_plant::TcpPlant;
 
 fn main(rt: HostRuntime) -> ExitCode {
     let _streams = hold_streams(&rt);
@@ -21,15 +23,32 @@ fn main(rt: HostRuntime) -> ExitCode {
         Ok(words) => words,
         Err(ended) => return finish_told(&rt, &[], &ended, None),
     };
-    match Asked::of(words.as_slice()) {
-        Asked::Help(topic) => print_text(&rt, help_on(topic)),
-        Asked::Version => print_text(&rt, VERSION),
-        Asked::Explain | Asked::Unknown => explained(&rt, &words),
-        Asked::Check => checked(&rt, &words),
-        Asked::Rehearse => rehearsed(&rt, &rt, &words),
-        Asked::Ship => shipped(&rt, &rt, &words),
-        Asked::Resources => fetched(&rt, &rt, &words),
-        Asked::Probe => probed(&rt, &rt, &words),
-        Asked::Serve => served(&rt, &rt, &words),
-    }
+    let ready = match Asked::of(words.as_slice()) {
+        Asked::Help(topic) => return print_text(&rt, help_on(topic)),
+        Asked::Version => return print_text(&rt, VERSION),
+        Asked::Explain | Asked::Unknown => return explained(&rt, &words),
+        Asked::Check => return checked(&rt, &words),
+        Asked::Rehearse => return rehearsed(&rt, &rt, &words),
+        Asked::Ship => return shipped(&rt, &rt, &words),
+        Asked::Resources => return fetched(&rt, &rt, &words),
+        Asked::Probe => return probed(&rt, &rt, &words),
+        Asked::Serve => prepare(&rt, &rt, &words),
+    };
+    let Ready {
+        words: told,
+        settings,
+        routes,
+        gate,
+        watcher,
+    } = match ready {
+        Ok(ready) => ready,
+        Err(code) => return code,
+    };
+    let ending = match TcpPlant::new(&rt, &gate) {
+        Ok(mut plant) => run_over(&rt, &rt, &told, settings, routes, &gate, &mut plant),
+        Err(error) => no_boot_word(rt.alloc(), &error),
+    };
+    gate.close();
+    watcher.join(&rt);
+    finish(&rt, &ending)
 }
