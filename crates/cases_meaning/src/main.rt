@@ -21,6 +21,7 @@ use std::io;
 const MATTERS: &str = "\
 requests.txt
 recorded.txt
+selectors.txt
 tokens.txt
 acting.txt
 policies.txt
@@ -32,6 +33,7 @@ fn show(rt: &HostRuntime, matter: &str, row: &str) -> io::Result<()> {
     match matter {
         "requests.txt" => requests::show_asked(rt, row),
         "recorded.txt" => requests::show_recorded(rt, row),
+        "selectors.txt" => requests::show_selected(rt, row),
         "tokens.txt" => tokens::show_asker(rt, row),
         "acting.txt" => acting::show_act(rt, row),
         "policies.txt" => policies::show_policy(rt, row),

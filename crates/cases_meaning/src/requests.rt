@@ -1,6 +1,6 @@
 use case_rows::fields;
 use front_base::Info;
-use request_info::{audit_info, info, long_running};
+use request_info::{asks_else, audit_info, info, long_running, selected_name};
 use std::io;
 
 /// What a request asks for, by a row of its method and its target.
@@ -30,4 +30,13 @@ pub fn show_recorded(rt: &HostRuntime, row: &str) -> io::Result<()> {
         }
         Err(_) => println!(rt; "{row} => no memory"),
     }
+}
+
+/// Which one object a target's query selects by its name, and whether it asks for less in another way.
+pub fn show_selected(rt: &HostRuntime, row: &str) -> io::Result<()> {
+    let name = selected_name(rt.alloc(), row);
+    let other = asks_else(rt.alloc(), row);
+    let shown = println!(rt; "{row} => {name:?} {other:?}");
+    drop(name);
+    shown
 }

@@ -27,4 +27,4 @@ pub use laws::{
 pub use parts::{parts_of, split};
 pub use request::{audit_info, info};
 pub use running::long_running;
-pub use selection::asks_selection;
+pub use selection::{asks_else, asks_selection, selected_name};
