@@ -1,5 +1,5 @@
 // What is said over a link: the request, and the reply or its head.
-ghost use Rattle.std.specs.Prelude.{◌≡◌, ◌≤◌, ◌<◌, ◌+◌, ◌++◌, [], true, IfOk, OnOk, OnErr};
+ghost use Rattle.std.specs.Prelude.{◌≡◌, ◌≤◌, ◌<◌, ◌+◌, ◌++◌, [], true, IfOk, IfSome, OnOk, OnErr};
 ghost use Rattle.std.specs.Io.KnownBytes.{Appends};
 ghost use Rattle.front_ports.specs.Cause.{Rose};
 ghost use Rattle.front_ports.specs.Written.{AppendsFront};
@@ -11,7 +11,7 @@ use body_frames::Frame;
 use front_base::{Bytes, NoMemory};
 use front_ports::{Link, PortFault, Source, write_all};
 use http_head::ReplyHead;
-use std::alloc::Global;
+use std::alloc::{AllocError, Global};
 use wire_intake::{Intake, ReadStop};
 
 // What comes of a link that was opened.
@@ -31,8 +31,11 @@ pub enum Talk {
     LinkFault,
 }
 
-// Writes the head and the body.
-fn send<K: Link>(link: &mut K, head: &[u8], body: &[u8]) -> Result<(), PortFault>
+// A body of at most so many bytes is written together with its head.
+const MOST_JOINED_BYTES: usize = 16_384;
+
+// Writes the head, and then the body.
+fn send_apart<K: Link>(link: &mut K, head: &[u8], body: &[u8]) -> Result<(), PortFault>
     ensures ok { OnOk result (Appends (K.written link.old) (K.written link.new) (head.now ++ body.now)) }
     ensures err { OnErr result (AppendsFront (K.written link.old) (K.written link.new) (head.now ++ body.now)) }
     ensures fault { OnErr result (0 < K.write_faults link.new) }
@@ -46,6 +49,39 @@ fn send<K: Link>(link: &mut K, head: &[u8], body: &[u8]) -> Result<(), PortFault
     match write_all(link, body) {
         Ok(()) => Ok(()),
         Err(fault) => Err(fault),
+    }
+}
+
+fn joined(alloc: Global, head: &[u8], body: &[u8]) -> Result<Vec<u8>, AllocError>
+    ensures { IfOk result (λ text. text.items ≡ head.now ++ body.now) }
+{
+    let mut text = Vec::with_capacity(alloc, head.len().saturating_add(body.len()))?;
+    text.extend_from_slice(head)?;
+    text.extend_from_slice(body)?;
+    Ok(text)
+}
+
+// The head and the body as one text, where there is a body that isn't large, and memory for both.
+fn text_of(alloc: Global, head: &[u8], body: &[u8]) -> Option<Vec<u8>>
+    ensures { IfSome result (λ text. text.items ≡ head.now ++ body.now) }
+{
+    if body.is_empty() || body.len() > MOST_JOINED_BYTES {
+        return None;
+    }
+    joined(alloc, head, body).ok()
+}
+
+// Writes the head and the body, in one call where they are not large.
+fn send<K: Link>(alloc: Global, link: &mut K, head: &[u8], body: &[u8]) -> Result<(), PortFault>
+    ensures ok { OnOk result (Appends (K.written link.old) (K.written link.new) (head.now ++ body.now)) }
+    ensures err { OnErr result (AppendsFront (K.written link.old) (K.written link.new) (head.now ++ body.now)) }
+    ensures fault { OnErr result (0 < K.write_faults link.new) }
+    ensures calm { OnOk result (K.write_faults link.new ≡ K.write_faults link.old) }
+    ensures aside { K.inward link.new ≡ K.inward link.old }
+{
+    match text_of(alloc, head, body) {
+        Some(text) => write_all(link, text.as_slice()),
+        None => send_apart(link, head, body),
     }
 }
 
@@ -147,7 +183,7 @@ pub fn talk_over<K: Link>(
         × (K.write_faults link.new ≡ K.write_faults link.old)) }
     ensures number { K.number link.new ≡ K.number link.old }
 {
-    match send(link, head, body) {
+    match send(alloc, link, head, body) {
         Ok(()) => {}
         Err(_) => return Ok(Talk::LinkFault),
     }
