@@ -188,7 +188,7 @@ one_noted set peer r m text n end x h =
       decision_is = own.decision_is;
       request_is = own.request_is;
       facts_are = own.facts_are;
-      settled = by_rows set x (after m.opening h.routed.decided) (errand_after set x.offers (errand_in set r)) (link_of h.came) own.status_is h.link_is h.routed.routed_is;
+      settled = by_rows set x (after m.opening h.routed.decided) (errand_after set x.offers (errand_in set r x.facts.received)) (link_of h.came) own.status_is h.link_is h.routed.routed_is;
     }
 
 -- ---- of one that memory stopped
@@ -199,7 +199,7 @@ stopped_settled : (set : Settings) (r : Request) (m n : BayState) (w0 w : Option
 stopped_settled set r m n w0 w rose stamp due x (inl h) own = h.no_reply.status_is
 stopped_settled set r m n w0 w rose stamp due x (inr (inl h)) own = h.no_reply.status_is
 stopped_settled set r m n w0 w rose stamp due x (inr (inr h)) own =
-    by_rows set x (after m.opening h.routed.decided) (errand_after set x.offers (errand_in set r)) (link_of h.came) h.status_is h.link_is h.routed.routed_is
+    by_rows set x (after m.opening h.routed.decided) (errand_after set x.offers (errand_in set r x.facts.received)) (link_of h.came) h.status_is h.link_is h.routed.routed_is
 
 pub halted_noted : (set : Settings) (peer : List ℕ) (r : Request) (m n : BayState) (w0 w : Option (List ℕ)) (rose : Type 0) (x : Exchange)
     (h : Halted set peer r m n w0 w rose x) → IsNoted set (halted_of set peer r m n w0 w rose x h)
@@ -241,7 +241,7 @@ status_alike set s t None (Some other) h g o a = a.status
 status_alike set s t (Some by) None h g o a = a.status
 status_alike set s t (Some by) (Some other) h g o a =
     h
-    ∙ (same_status set by.rows other.rows s.exchange.offers t.exchange.offers (errand_in set s.request) (errand_in set t.request) by.link other.link
+    ∙ (same_status set by.rows other.rows s.exchange.offers t.exchange.offers (errand_in set s.request s.exchange.facts.received) (errand_in set t.request t.exchange.facts.received) by.link other.link
     a.wanted a.rows o a.link
     ∙ sym g)
 

@@ -12,7 +12,7 @@ use Rattle.stage_event.specs.declared.facts.Kept.{Kept}
 
 -- two requests that were answered want the same, the same rows decided, and their links gave the same status
 pub record AnsweredAlike (set : Settings) (s t : Seen) (by other : Settled) : Type 0 where
-  pub wanted : errand_in set s.request ≡ errand_in set t.request
+  pub wanted : errand_in set s.request s.exchange.facts.received ≡ errand_in set t.request t.exchange.facts.received
   pub rows : by.rows ≡ other.rows
   pub link : link_status by.link ≡ link_status other.link
 

@@ -43,7 +43,7 @@ abbrev pub IsSettled : Settings → Seen → Option Settled → Type 0
 IsSettled set s None = s.exchange.facts.status ≡ 0
 IsSettled set s (Some by) =
     s.exchange.facts.status
-    ≡ status_of (routed_by set.endpoints by.rows (errand_after set s.exchange.offers (errand_in set s.request))).handling by.link
+    ≡ status_of (routed_by set.endpoints by.rows (errand_after set s.exchange.offers (errand_in set s.request s.exchange.facts.received))).handling by.link
 
 -- what was noted is how that request is recorded, its facts, and what is kept of its body
 pub record IsNoted (set : Settings) (s : Seen) : Type 0 where

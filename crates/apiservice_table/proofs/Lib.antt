@@ -5,6 +5,7 @@ pub mod LawLemmas
 pub mod LentLemmas
 pub mod ManyLemmas
 pub mod OrderLemmas
+pub mod PatchLemmas
 pub mod PlaceLemmas
 pub mod RenewLemmas
 pub mod StoryLemmas

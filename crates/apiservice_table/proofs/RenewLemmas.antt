@@ -1,5 +1,5 @@
 -- A row in the place of another one of its name keeps its links.
-use Rattle.std.proofs.Common.{◌≡◌, ℕ, zero, suc, ◌+◌, ◌<◌, ◌≤◌, ◌==◌, Bool, true, false, List, [], ◌∷◌, ◌++◌, length, get_or, set, drop, Option, Some, None, Ok, Err, Result, refl, sym, ap, subst, ◌∙◌, arith}
+use Rattle.std.proofs.Common.{◌≡◌, ℕ, zero, suc, ◌+◌, ◌<◌, ◌==◌, Bool, true, false, List, [], ◌∷◌, ◌++◌, length, get_or, drop, Option, Some, None, Err, refl, sym, ap, ◌∙◌, arith}
 use Rattle.std.specs.Prelude.{⊤, ◌||◌, if◌then◌else◌, is_some}
 use Rattle.std.specs.Cmp.Lexicographic.{slice_cmp}
 use Rattle.std.specs.Ordering.{nat_cmp}
@@ -8,14 +8,13 @@ use Rattle.std.specs.declared.cmp.Ordering.{Ordering}
 use Rattle.std.specs.declared.cmp.Ordering.TheVariants.{Less, Equal, Greater}
 use Rattle.std.proofs.lemmas.List.{get_or_default}
 use Rattle.apiservice_rows.specs.Row.{Row, IsRowName, has_dot, own_name}
-use Rattle.apiservice_table.specs.Changes.{changed, moves_rows, refusal, IsNamed}
-use Rattle.apiservice_table.specs.Index.{Links, LinksAll, LinksFrom, first_in, slot_of}
+use Rattle.apiservice_table.specs.Changes.{changed, moves_rows, refusal, IsNamed, IsPlain}
+use Rattle.apiservice_table.specs.Index.{Links, LinksAll, first_in, slot_of}
 use Rattle.apiservice_table.specs.Order.{AllNamed, IsInOrder, place_of}
 use Rattle.apiservice_table.specs.Table.{row_named, with_row}
 use Rattle.apiservice_table.specs.declared.change.Change.{Change}
-use Rattle.apiservice_table.specs.declared.change.Change.TheVariants.{Create, Replace, Delete}
+use Rattle.apiservice_table.specs.declared.change.Change.TheVariants.{Create, Replace, Delete, Patch}
 use Rattle.apiservice_table.specs.declared.change.ChangeFault.TheVariants.{Missing}
-use Rattle.apiservice_table.specs.declared.index.TheConstants.{SLOTS}
 use Rattle.apiservice_table.proofs.OrderLemmas.{row_named-err, same, tells}
 
 -- ---- a name tells its version and its group
@@ -132,11 +131,12 @@ replaced : (there : Bool) → (if there then None else Some Missing) ≡ None �
 replaced true e = refl
 replaced false e = absurd (cc e)
 
--- a change that moves no row leaves the links right
-pub links_stay : (rows : List Row) (change : Change) (links : Links) → IsInOrder rows → AllNamed rows → IsNamed change
+-- a change that moves no row and is no patch leaves the links right
+pub links_stay : (rows : List Row) (change : Change) (links : Links) → IsPlain change → IsInOrder rows → AllNamed rows → IsNamed change
     → refusal rows change ≡ None → LinksAll rows links → moves_rows change ≡ false → LinksAll (changed rows change) links
-links_stay rows (Create r) links h n named due linked still = absurd (cc still)
-links_stay rows (Replace r) links h n named due linked still =
+links_stay rows (Create r) links plain h n named due linked still = absurd (cc still)
+links_stay rows (Replace r) links plain h n named due linked still =
     links_same rows (with_row r rows) links
     (keys_over r named rows h n (replaced (is_some (row_named r.name rows)) due)) linked
-links_stay rows (Delete name) links h n named due linked still = absurd (cc still)
+links_stay rows (Delete name) links plain h n named due linked still = absurd (cc still)
+links_stay rows (Patch name patch) links plain h n named due linked still = absurd plain

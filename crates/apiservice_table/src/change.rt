@@ -3,7 +3,7 @@ ghost use Rattle.apiservice_table.specs.Changes.{moves_rows};
 ghost use Rattle.apiservice_table.specs.declared.change.ChangeFault.TheVariants as fault;
 
 use apiservice_rows::Row;
-use front_base::{NoMemory, Text};
+use front_base::{Bytes, NoMemory, Text};
 use std::alloc::{AllocError, AllocFailed, Global};
 
 /// A change of the table, as a client of the API asks for it.
@@ -15,16 +15,19 @@ pub enum Change {
     Replace(Row),
     /// The row of that name goes.
     Delete(Text),
+    /// A merge patch (RFC 7396) of the object of that name. What it makes of it takes its place, where a PUT of that would be
+    /// read and has the same name.
+    Patch { name: Text, patch: Bytes },
 }
 
 impl Change {
-    // Whether rows stand at other places after it: a replaced row keeps its place.
+    // Whether rows stand at other places after it: a replaced row keeps its place, and so does a patched one.
     pub fn moves_rows(&self) -> bool
         ensures { result ≡ moves_rows self.now }
     {
         match self {
             Change::Create(_) | Change::Delete(_) => true,
-            Change::Replace(_) => false,
+            Change::Replace(_) | Change::Patch { .. } => false,
         }
     }
 
@@ -36,6 +39,10 @@ impl Change {
             Change::Create(row) => Change::Create(row.copy(alloc)?),
             Change::Replace(row) => Change::Replace(row.copy(alloc)?),
             Change::Delete(name) => Change::Delete(name.copy(alloc)?),
+            Change::Patch { name, patch } => Change::Patch {
+                name: name.copy(alloc)?,
+                patch: patch.copy(alloc)?,
+            },
         })
     }
 }
@@ -49,6 +56,8 @@ pub enum ChangeFault {
     Missing,
     /// The table holds as many rows as it may.
     Full,
+    /// The patch is no JSON, or what it makes of the object would not be read or has another name.
+    Invalid,
     NoMemory,
 }
 

@@ -1,6 +1,6 @@
 ghost use Rattle.std.specs.Prelude.{◌≡◌, ℕ, ◌-◌, ◌^◌, List, min, length, is_some, IfOk, IfErr, OnOk, OnErr};
 ghost use Rattle.apiservice_rows.specs.Row.{Row};
-ghost use Rattle.apiservice_table.specs.Changes.{after, refusal, IsDue, IsLater, Took};
+ghost use Rattle.apiservice_table.specs.Changes.{after, left_by, refusal, IsDue, IsLater, Took};
 ghost use Rattle.apiservice_table.specs.Services as services;
 ghost use Rattle.apiservice_table.specs.Table as spec;
 ghost use Rattle.discovery_merge.specs.Documents.{group_list_text, group_text};
@@ -51,6 +51,13 @@ pub trait Routes {
         ensures later { IsLater (seen self.old) (seen self.new) }
         ensures keeps { (opening self.new ≡ opening self.old) × (own self.new ≡ own self.old) };
 
+    /// A copy of the row of the APIService of that name, after the changes that are seen then.
+    fn named(&mut self, alloc: Global, name: &str) -> Result<Option<Row>, NoMemory>
+        ensures found { IfOk result (λ found.
+            found ≡ spec.row_named name.now (after (opening self.new) (seen self.new))) }
+        ensures later { IsLater (seen self.old) (seen self.new) }
+        ensures keeps { (opening self.new ≡ opening self.old) × (own self.new ≡ own self.old) };
+
     /// The `APIServiceList` of all rows, after the changes that are seen then.
     fn service_list(&mut self, alloc: Global) -> Result<Bytes, NoMemory>
         ensures text { IfOk result (λ text.
@@ -71,8 +78,9 @@ pub trait Routes {
         ensures later { IsLater (seen self.old) (seen self.new) }
         ensures keeps { (opening self.new ≡ opening self.old) × (own self.new ≡ own self.old) };
 
-    /// Makes a change, or refuses it by what is seen then.
-    fn change(&mut self, alloc: Global, change: Change) -> Result<(), ChangeFault>
+    /// Makes a change, or refuses it by what is seen then. A patch answers the object that it left, copied before it was made.
+    fn change(&mut self, alloc: Global, change: Change) -> Result<Option<Bytes>, ChangeFault>
+        ensures left { IfOk result (λ left. left ≡ left_by change (after (opening self.new) (seen self.new))) }
         ensures took { OnOk result
             (Took (opening self.old) (seen self.old) (own self.old) change (seen self.new) (own self.new)) }
         ensures refused { IfErr result (λ e.

@@ -1,6 +1,6 @@
 // Rows in order of names: what is found in them, and what a change makes of them.
 ghost use Rattle.std.specs.Prelude.{◌≡◌, if◌then◌else◌, None, Some, IfOk, OnOk, OnErr, is_some, option_map};
-ghost use Rattle.apiservice_table.specs.Changes.{changed, refusal, IsNamed};
+ghost use Rattle.apiservice_table.specs.Changes.{changed, refusal, IsNamed, IsPlain};
 ghost use Rattle.apiservice_table.specs.Order.{AllNamed, IsInOrder};
 ghost use Rattle.apiservice_table.specs.Table as spec;
 ghost use Rattle.discovery_merge.specs.Lent.{lent_rows};
@@ -76,15 +76,17 @@ fn unfit(rows: &[Row], row: &Row) -> Option<ChangeFault>
     }
 }
 
-// Why rows don't take a change, if they don't.
+// Why rows don't take a change that is no patch, if they don't.
 pub fn refusal_of(rows: &[Row], change: &Change) -> Option<ChangeFault>
-    requires { IsInOrder rows.now }
+    requires order { IsInOrder rows.now }
+    requires plain { IsPlain change.now }
     ensures { result ≡ refusal rows.now change.now }
 {
     match change {
         Change::Create(row) => unfit(rows, row),
         Change::Replace(row) => missing(rows, row.name.as_str()),
         Change::Delete(name) => missing(rows, name.as_str()),
+        Change::Patch { .. } => unreachable!(),
     }
 }
 
@@ -96,6 +98,7 @@ pub fn tells_names(change: &Change)
         Change::Create(row) => row.tells_its_name(),
         Change::Replace(row) => row.tells_its_name(),
         Change::Delete(_) => (),
+        Change::Patch { .. } => (),
     }
 }
 
@@ -128,9 +131,10 @@ fn take_out(rows: &mut Vec<Row>, name: &str) -> Option<Row>
     }
 }
 
-// Makes a change that rows take.
+// Makes a change that rows take and that is no patch.
 pub fn change_rows(rows: &mut Vec<Row>, change: Change) -> Result<(), NoMemory>
-    requires { IsInOrder rows.old.items }
+    requires order { IsInOrder rows.old.items }
+    requires plain { IsPlain change }
     ensures done { OnOk result (rows.new.items ≡ changed rows.old.items change) }
     ensures kept { OnErr result (rows.new.items ≡ rows.old.items) }
 {
@@ -141,6 +145,7 @@ pub fn change_rows(rows: &mut Vec<Row>, change: Change) -> Result<(), NoMemory>
             drop(take_out(rows, name.as_str()));
             Ok(())
         }
+        Change::Patch { .. } => unreachable!(),
     }
 }
 
@@ -185,18 +190,20 @@ fn lent_without<'a>(alloc: Global, rows: &'a [Row], name: &str) -> Result<Vec<&'
     }
 }
 
-// The rows as a change would make them, borrowed.
+// The rows as a change that is no patch would make them, borrowed.
 pub fn lent_after<'a>(
     alloc: Global,
     rows: &'a [Row],
     change: &'a Change,
 ) -> Result<Vec<&'a Row>, NoMemory>
-    requires { IsInOrder rows.now }
+    requires order { IsInOrder rows.now }
+    requires plain { IsPlain change.now }
     ensures { IfOk result (λ lent. lent_rows lent.items ≡ changed rows.now change.now) }
 {
     match change {
         Change::Create(row) => lent_with(alloc, rows, row),
         Change::Replace(row) => lent_with(alloc, rows, row),
         Change::Delete(name) => lent_without(alloc, rows, name.as_str()),
+        Change::Patch { .. } => unreachable!(),
     }
 }

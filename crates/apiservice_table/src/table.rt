@@ -1,19 +1,21 @@
 ghost use Rattle.std.specs.Prelude.{◌≡◌, ◌≤◌, ℕ, List, [], length, None, IfOk, IfErr, OnOk, OnErr, option_map};
 ghost use Rattle.apiservice_rows.specs.declared.row_list.TheConstants.{MOST_ROWS};
-ghost use Rattle.apiservice_table.specs.Changes.{changed, changed_table, refusal, IsDue};
+ghost use Rattle.apiservice_table.specs.Changes.{changed, changed_table, left_by, refusal, IsDue, IsPlain};
 ghost use Rattle.apiservice_table.specs.Order.{IsInOrder};
 ghost use Rattle.apiservice_table.specs.Table as spec;
+ghost use Rattle.apiservice_table.specs.declared.change.Change.TheVariants as asked;
 ghost use Rattle.discovery_merge.specs.Documents.{group_list_text, group_text};
 ghost use Rattle.discovery_merge.specs.Kept.{AreOf};
 
 use crate::change::{Change, ChangeFault};
 use crate::index::Index;
+use crate::patching::{patched, try_change};
 use crate::rows::{
     change_rows, find_by_name, lent, lent_after, put, refusal_of, row_named, tells_names,
 };
 use apiservice_rows::{Row, Rows};
 use discovery_merge::Documents;
-use front_base::NoMemory;
+use front_base::{Bytes, NoMemory, Text};
 use std::alloc::Global;
 use std::marker::Model;
 
@@ -56,9 +58,10 @@ fn documents_of(alloc: Global, rows: &[Row]) -> Result<Documents, NoMemory>
     Ok(documents)
 }
 
-// The documents of the rows as a change would make them.
+// The documents of the rows as a change that is no patch would make them.
 fn documents_after(alloc: Global, rows: &[Row], change: &Change) -> Result<Documents, NoMemory>
-    requires { IsInOrder rows.now }
+    requires order { IsInOrder rows.now }
+    requires plain { IsPlain change.now }
     ensures { IfOk result (λ documents. AreOf (changed rows.now change.now) documents) }
 {
     let lent = lent_after(alloc, rows, change)?;
@@ -140,9 +143,18 @@ impl RouteTable {
         self.count
     }
 
-    /// Makes a change, or refuses it and stays as it was. `Exists` is the answer to a row whose name is there already, and
-    /// comes before `Full`; `Missing` is the answer to a name that isn't there. A change makes all documents anew.
-    pub fn apply(&mut self, alloc: Global, change: Change) -> Result<(), ChangeFault>
+    /// The object that a change would leave where it is a patch, or why the table doesn't take it. It makes none.
+    pub fn try_change(&self, alloc: Global, change: &Change) -> Result<Option<Bytes>, ChangeFault>
+        ensures left { IfOk result (λ left. left ≡ left_by change.now (changed self.now.rows change.now)) }
+        ensures due { OnOk result (refusal self.now.rows change.now ≡ None) }
+        ensures refused { IfErr result (λ e. IsDue e (refusal self.now.rows change.now)) }
+    {
+        try_change(alloc, self.rows.as_slice(), change)
+    }
+
+    // Makes a change that is no patch.
+    fn apply_plain(&mut self, alloc: Global, change: Change) -> Result<(), ChangeFault>
+        requires { IsPlain change }
         ensures done { OnOk result (self.new ≡ changed_table self.old change) }
         ensures due { OnOk result (refusal self.old.rows change ≡ None) }
         ensures refused { IfErr result (λ e. IsDue e (refusal self.old.rows change)) }
@@ -161,5 +173,37 @@ impl RouteTable {
         self.documents = documents;
         self.count = self.count.saturating_add(1);
         Ok(())
+    }
+
+    // Puts the row that a patch makes into the place of the one of that name.
+    #[tactic(auto, using(crate::proofs::PatchLemmas::taken_so, crate::proofs::PatchLemmas::table_so, crate::proofs::PatchLemmas::due_so))]
+    fn apply_patch(&mut self, alloc: Global, name: &Text, patch: &Bytes) -> Result<(), ChangeFault>
+        ensures done { OnOk result (self.new ≡ changed_table self.old (asked.Patch name.now patch.now)) }
+        ensures due { OnOk result (refusal self.old.rows (asked.Patch name.now patch.now) ≡ None) }
+        ensures refused { IfErr result (λ e. IsDue e (refusal self.old.rows (asked.Patch name.now patch.now))) }
+        ensures kept { OnErr result (self.new ≡ self.old) }
+    {
+        let row = patched(alloc, self.rows.as_slice(), name, patch)?;
+        match self.apply_plain(alloc, Change::Replace(row)) {
+            Ok(()) => Ok(()),
+            Err(fault) => Err(fault),
+        }
+    }
+
+    /// Makes a change, or refuses it and stays as it was. `Exists` is the answer to a row whose name is there already, and
+    /// comes before `Full`; `Missing` is the answer to a name that isn't there, and comes before `Invalid`, which answers a patch
+    /// that makes no row of that name. A change makes all documents anew.
+    pub fn apply(&mut self, alloc: Global, change: Change) -> Result<(), ChangeFault>
+        ensures done { OnOk result (self.new ≡ changed_table self.old change) }
+        ensures due { OnOk result (refusal self.old.rows change ≡ None) }
+        ensures refused { IfErr result (λ e. IsDue e (refusal self.old.rows change)) }
+        ensures kept { OnErr result (self.new ≡ self.old) }
+    {
+        match change {
+            Change::Create(row) => self.apply_plain(alloc, Change::Create(row)),
+            Change::Replace(row) => self.apply_plain(alloc, Change::Replace(row)),
+            Change::Delete(name) => self.apply_plain(alloc, Change::Delete(name)),
+            Change::Patch { name, patch } => self.apply_patch(alloc, &name, &patch),
+        }
     }
 }

@@ -1,5 +1,5 @@
 ghost use Rattle.std.specs.Prelude.{◌≡◌, ◌∷◌, ◌++◌, [], None, IfOk, IfErr, OnOk, OnErr};
-ghost use Rattle.apiservice_table.specs.Changes.{changed_table, refusal, IsDue};
+ghost use Rattle.apiservice_table.specs.Changes.{changed, changed_table, left_by, refusal, IsDue};
 ghost use Rattle.apiservice_table.specs.Table as spec;
 
 use crate::change::{Change, ChangeFault};
@@ -49,13 +49,14 @@ fn note(alloc: Global, seen: &mut Vec<Change>, change: &Change) -> Result<(), No
     Ok(seen.push(change.copy(alloc)?)?)
 }
 
-// Makes a change of a table, and keeps a copy of it after the others.
+// Makes a change of a table, and keeps a copy of it after the others. What it left is copied before.
 fn keep_change(
     alloc: Global,
     table: &mut RouteTable,
     seen: &mut Vec<Change>,
     change: Change,
-) -> Result<(), ChangeFault>
+) -> Result<Option<Bytes>, ChangeFault>
+    ensures left { IfOk result (λ left. left ≡ left_by change (changed table.old.rows change)) }
     ensures done { OnOk result (table.new ≡ changed_table table.old change) }
     ensures noted { OnOk result (seen.new.items ≡ seen.old.items ++ change ∷ []) }
     ensures due { OnOk result (refusal table.old.rows change ≡ None) }
@@ -64,12 +65,19 @@ fn keep_change(
     ensures same { OnErr result (seen.new.items ≡ seen.old.items) }
 {
     let len = seen.len();
+    let left = match table.try_change(alloc, &change) {
+        Ok(left) => left,
+        Err(fault) => {
+            drop(change);
+            return Err(fault);
+        }
+    };
     if note(alloc, seen, &change).is_err() {
         drop(change);
         return Err(ChangeFault::NoMemory);
     }
     match table.apply(alloc, change) {
-        Ok(()) => Ok(()),
+        Ok(()) => Ok(left),
         Err(fault) => {
             seen.truncate(len);
             Err(fault)
@@ -126,6 +134,13 @@ impl Routes for TableRoutes {
         }
     }
 
+    fn named(&mut self, alloc: Global, name: &str) -> Result<Option<Row>, NoMemory> {
+        match self.table.named(name) {
+            Some(row) => Ok(Some(row.copy(alloc)?)),
+            None => Ok(None),
+        }
+    }
+
     fn service_list(&mut self, alloc: Global) -> Result<Bytes, NoMemory> {
         service_list(alloc, self.table.rows())
     }
@@ -141,9 +156,9 @@ impl Routes for TableRoutes {
         }
     }
 
-    fn change(&mut self, alloc: Global, change: Change) -> Result<(), ChangeFault> {
-        keep_change(alloc, &mut self.table, &mut self.seen, change)?;
-        Ok(())
+    fn change(&mut self, alloc: Global, change: Change) -> Result<Option<Bytes>, ChangeFault> {
+        let left = keep_change(alloc, &mut self.table, &mut self.seen, change)?;
+        Ok(left)
     }
 
     fn seen_count(&self) -> u64 {

@@ -5,7 +5,6 @@ use Rattle.std.specs.Prelude.{◌==◌}
 use Rattle.front_base.specs.declared.info.Info.{Info}
 use Rattle.front_base.specs.declared.user.User.{User}
 use Rattle.http_edge.specs.declared.request.Request.{Request}
-use Rattle.local_replies.specs.Paths.{local_of}
 use Rattle.policy_rules.specs.Policy.{first}
 use Rattle.policy_rules.specs.declared.decision.Decision.{Decision}
 use Rattle.request_info.specs.Parts.{from_first, to_last, parts_of}
@@ -17,7 +16,7 @@ use Rattle.token_users.specs.declared.acting.Act.{Act}
 use Rattle.token_users.specs.declared.acting.Act.TheVariants.{Own, As, Unserved, Bad, Forbidden}
 use Rattle.token_users.specs.Who.{user_of}
 use Rattle.token_users.specs.declared.asker.Who.{Who}
-use Rattle.audit_core.specs.Errand.{asker, user_in, act_in, other_of, info_in, attributes_in, is_bad, is_refused, is_unknown, is_upgrade, act_refusal, path_errand, first_errand, own_errand, errand_in}
+use Rattle.audit_core.specs.Errand.{asker, user_in, act_in, other_of, info_in, attributes_in, is_bad, is_refused, is_unknown, is_upgrade, act_refusal, path_errand, first_errand, own_errand, local_in, errand_in}
 use Rattle.audit_core.specs.Exchange.{IsAsked, decision_in}
 use Rattle.audit_core.specs.Route.{Route, route_by, route_of}
 use Rattle.audit_core.specs.Unread.{is_unread}
@@ -36,10 +35,10 @@ unfolding user_in
 user_is set r who user e f = f ∙ ap user_of e
 
 -- what the code takes a request's errand from
-abbrev errand_from : Request → Bool → Bool → Act → User → Info → Errand
-errand_from r bad unknown act user info =
+abbrev errand_from : Request → ℕ → Bool → Bool → Act → User → Info → Errand
+errand_from r moment bad unknown act user info =
     first_errand bad unknown (list_any is_upgrade r.head.headers) (act_refusal act)
-    (path_errand info r.head.method r.body (user_acting act user) (local_of info.path))
+    (path_errand info r.head moment r.body (user_acting act user) (local_in info.path r.head.target))
 
 pub effective_is : (act : Act) (own : User) → user_acting act own ≡ or_own (other_of act) own
 effective_is Own own = refl
@@ -52,19 +51,19 @@ pub act_is : (set : Settings) (r : Request) (who : Who) (act : Act) → who ≡ 
 unfolding act_in
 act_is set r who act w e = e ∙ ap (λ x. act_of x r.head) w
 
-pub errand_is : (set : Settings) (r : Request) (bad unknown : Bool) (act : Act) (user : User) (info : Info) (errand : Errand)
+pub errand_is : (set : Settings) (r : Request) (moment : ℕ) (bad unknown : Bool) (act : Act) (user : User) (info : Info) (errand : Errand)
     → bad ≡ is_bad r → unknown ≡ is_unknown (asker set r) → act ≡ act_in set r → user ≡ user_in set r → info ≡ info_in r
-    → errand ≡ errand_from r bad unknown act user info → errand ≡ errand_in set r
+    → errand ≡ errand_from r moment bad unknown act user info → errand ≡ errand_in set r moment
 unfolding errand_in
-errand_is set r bad unknown act user info errand b k a u i e =
+errand_is set r moment bad unknown act user info errand b k a u i e =
     e
-    ∙ ap (λ x. errand_from r x unknown act user info) b
-    ∙ ap (λ x. errand_from r (is_bad r) x act user info) k
-    ∙ ap (λ x. errand_from r (is_bad r) (is_unknown (asker set r)) x user info) a
-    ∙ ap (λ x. errand_from r (is_bad r) (is_unknown (asker set r)) (act_in set r) x info) u
-    ∙ ap (λ x. errand_from r (is_bad r) (is_unknown (asker set r)) (act_in set r) (user_in set r) x) i
+    ∙ ap (λ x. errand_from r moment x unknown act user info) b
+    ∙ ap (λ x. errand_from r moment (is_bad r) x act user info) k
+    ∙ ap (λ x. errand_from r moment (is_bad r) (is_unknown (asker set r)) x user info) a
+    ∙ ap (λ x. errand_from r moment (is_bad r) (is_unknown (asker set r)) (act_in set r) x info) u
+    ∙ ap (λ x. errand_from r moment (is_bad r) (is_unknown (asker set r)) (act_in set r) (user_in set r) x) i
     ∙ ap (λ x. first_errand (is_bad r) (is_unknown (asker set r)) (list_any is_upgrade r.head.headers) (act_refusal (act_in set r))
-    (path_errand (info_in r) r.head.method r.body x (local_of (info_in r).path))) (effective_is (act_in set r) (user_in set r))
+    (path_errand (info_in r) r.head moment r.body x (local_in (info_in r).path r.head.target))) (effective_is (act_in set r) (user_in set r))
 
 pub attributes_are : (set : Settings) (r : Request) (info : Info) (user : User) (act : Act) (other : Option User) → info ≡ info_in r
     → user ≡ user_in set r → act ≡ act_in set r → other ≡ other_of act
@@ -110,13 +109,13 @@ or_true : (a b : Bool) → b ≡ true → (a || b) ≡ true
 or_true true b e = refl
 or_true false b e = e
 
-module _ (set : Settings) (r : Request) where
+module _ (set : Settings) (r : Request) (moment : ℕ) where
   abbrev pub from_here : Bool → Bool → Bool → Option ℕ → Errand
-  from_here bad unknown upgrade refused = first_errand bad unknown upgrade refused (own_errand set r)
+  from_here bad unknown upgrade refused = first_errand bad unknown upgrade refused (own_errand set r moment)
 
   pub in_order : (bad unknown upgrade : Bool) (refused : Option ℕ) → is_bad r ≡ bad → is_unknown (asker set r) ≡ unknown
       → list_any is_upgrade r.head.headers ≡ upgrade → act_refusal (act_in set r) ≡ refused
-      → errand_in set r ≡ from_here bad unknown upgrade refused
+      → errand_in set r moment ≡ from_here bad unknown upgrade refused
   unfolding errand_in
   in_order bad unknown upgrade refused b k u a =
       ap (λ x. from_here x (is_unknown (asker set r)) (list_any is_upgrade r.head.headers) (act_refusal (act_in set r))) b

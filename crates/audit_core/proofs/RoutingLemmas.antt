@@ -1,14 +1,14 @@
 -- How each errand is handled, over any routes.
-use Rattle.std.proofs.Common.{◌≡◌, ℕ, List, [], ◌++◌, length, Option, Some, None, refl, sym, ap, ◌∙◌, append-nil}
+use Rattle.std.proofs.Common.{◌≡◌, ℕ, List, [], ◌∷◌, ◌++◌, length, Option, Some, None, refl, sym, ap, ◌∙◌, append-nil}
 use Rattle.apiservice_rows.specs.Row.{Row}
 use Rattle.apiservice_table.specs.Changes as table
-use Rattle.apiservice_table.specs.Changes.{after, placed, IsLater}
+use Rattle.apiservice_table.specs.Changes.{after, changed, placed, IsLater}
 use Rattle.apiservice_table.specs.Table.{row}
 use Rattle.apiservice_table.specs.declared.change.Change.{Change}
-use Rattle.local_replies.specs.Serve.{IsServed, IsDecided, local_reply, change_reply}
+use Rattle.local_replies.specs.Serve.{IsServed, IsDecided, local_reply, change_reply, done_in}
 use Rattle.local_replies.specs.Status.{refusal}
 use Rattle.local_replies.specs.declared.errand.LocalErrand.{LocalErrand}
-use Rattle.local_replies.specs.declared.errand.LocalErrand.TheVariants.{Deny, Look, Write}
+use Rattle.local_replies.specs.declared.errand.LocalErrand.TheVariants.{Deny, Look, Tabulate, Write}
 use Rattle.local_replies.specs.declared.local.Local.{Local}
 use Rattle.local_replies.specs.declared.reply.LocalReply.{LocalReply}
 use Rattle.service_endpoints.specs.Find.{others_of}
@@ -19,6 +19,10 @@ use Rattle.audit_core.specs.declared.errand.Errand.TheVariants as errand
 use Rattle.audit_core.specs.declared.routed.Handling.{Handling}
 use Rattle.audit_core.specs.declared.routed.Handling.TheVariants.{Refused, Served}
 use Rattle.audit_core.specs.declared.routed.Routed.{Routed}
+
+-- what the table's law says of the last change
+abbrev pub LastCounts : Type 0
+LastCounts = (rows : List Row) (changes : List Change) (change : Change) → after rows (changes ++ change ∷ []) ≡ changed (after rows changes) change
 
 module _ (ends : List Endpoint) (opening : List Row) (seen : List Change) (own : List (ℕ × Change)) (now : List Change) (new_own : List (ℕ × Change)) where
   -- what makes no change is decided on what is seen then
@@ -49,7 +53,7 @@ module _ (ends : List Endpoint) (opening : List Row) (seen : List Change) (own :
   other_so handling s o h =
       unchanged errand.Other _ ([], s ∙ sym (append-nil seen)) (ap (λ x. record { row = None; handling = x }) h) refl o
 
-  module _ (local : Local) (later : IsLater seen now) where
+  module _ (the_last : LastCounts) (local : Local) (later : IsLater seen now) where
     abbrev pub served : LocalReply → Option Change → Routed
     served reply change = record { row = None; handling = Served local reply change }
 
@@ -59,19 +63,22 @@ module _ (ends : List Endpoint) (opening : List Row) (seen : List Change) (own :
         let due = h.1 in
         unchanged
         (errand.Serve local (Write asked)) _ later
-        (ap (λ x. served x None) (h.2 ∙ sym (ap (change_reply asked) due))
-        ∙ ap (served (change_reply asked (table.refusal (after opening now) asked))) (sym (ap (made_by asked) due)))
+        (ap (λ x. served x None) (h.2 ∙ sym (ap (change_reply (after opening now) asked) due))
+        ∙ ap (served (change_reply (after opening now) asked (table.refusal (after opening now) asked))) (sym (ap (made_by asked) due)))
         (ap (made_by asked) due) h.3
     changed_so asked reply (Some one) h =
         let took = h.2 in
         let before = took.0 in
-        let none = took.3 in record {
+        let none = took.3 in
+        let left : after opening now ≡ changed (after opening before) asked =
+        ap (after opening) took.2 ∙ the_last opening before asked in record {
           decided = before;
           later = took.1;
           routed_is =
-              ap (λ x. served x (Some one)) (h.1 ∙ sym (ap (change_reply asked) none))
-              ∙ ap (λ x. served (change_reply asked (table.refusal (after opening before) asked)) (Some x)) h.0
-              ∙ ap (served (change_reply asked (table.refusal (after opening before) asked))) (sym (ap (made_by asked) none));
+              ap (λ x. served x (Some one))
+              (h.1 ∙ ap (λ (rows : List Row). done_in rows asked) left ∙ sym (ap (change_reply (after opening before) asked) none))
+              ∙ ap (λ x. served (change_reply (after opening before) asked (table.refusal (after opening before) asked)) (Some x)) h.0
+              ∙ ap (served (change_reply (after opening before) asked (table.refusal (after opening before) asked))) (sym (ap (made_by asked) none));
           seen_is = took.2 ∙ sym (ap (λ l. before ++ changes_in (made_by asked l)) none);
           own_is = took.4 ∙ sym (ap (λ l. own ++ placed (length before) (changes_in (made_by asked l))) none);
         }
@@ -86,4 +93,8 @@ module _ (ends : List Endpoint) (opening : List Row) (seen : List Change) (own :
         unchanged
         (errand.Serve local Look) _ later
         (ap (λ x. served x change) h.0 ∙ ap (served (local_reply (after opening now) local Look)) h.1) refl h.2
+    served_so (Tabulate moment) reply change h =
+        unchanged
+        (errand.Serve local (Tabulate moment)) _ later
+        (ap (λ x. served x change) h.0 ∙ ap (served (local_reply (after opening now) local (Tabulate moment))) h.1) refl h.2
     served_so (Write asked) reply change h = changed_so asked reply change h

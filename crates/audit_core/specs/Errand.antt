@@ -7,10 +7,14 @@ use Rattle.http_edge.specs.declared.request.Request.{Request}
 use Rattle.http_head.specs.Connection.{has_only}
 use Rattle.http_head.specs.Name.{is_named}
 use Rattle.http_head.specs.declared.header.Header.{Header}
+use Rattle.http_head.specs.declared.request.Head.{Head}
 use Rattle.local_replies.specs.Errand.{local_errand}
 use Rattle.local_replies.specs.Paths.{local_of}
 use Rattle.local_replies.specs.declared.local.Local.{Local}
+use Rattle.local_replies.specs.declared.local.Local.TheVariants as local
+use Rattle.local_replies.specs.declared.local.Local.TheVariants.{Health, GroupList, OneGroup, ResourceList, AllServices, OneService, ServicesNamed}
 use Rattle.request_info.specs.Request.{info_of, audit_info}
+use Rattle.request_info.specs.Selection.{selected_name}
 use Rattle.request_info.specs.declared.fault.InfoFault.{InfoFault}
 use Rattle.stage_event.specs.Views.{or_own}
 use Rattle.token_users.specs.Act.{act_of}
@@ -99,9 +103,9 @@ route_errand None = errand.Other
 route_errand (Some route) = errand.Route route.group route.version
 
 -- what this server does itself for that user, and an API otherwise
-abbrev pub path_errand : Info → List ℕ → List ℕ → User → Option Local → Errand
-path_errand info method body user (Some local) = errand.Serve local (local_errand local info method body user)
-path_errand info method body user None = route_errand (route_of info.path)
+abbrev pub path_errand : Info → Head → ℕ → List ℕ → User → Option Local → Errand
+path_errand info head moment body user (Some local) = errand.Serve local (local_errand local info head moment body user)
+path_errand info head moment body user None = route_errand (route_of info.path)
 
 abbrev pub unless_refused : Option ℕ → Errand → Errand
 unless_refused None own = own
@@ -115,16 +119,40 @@ first_errand bad unknown upgrade refused own =
     else if upgrade then errand.Refuse 501
     else unless_refused refused own
 
--- what its path names
-abbrev pub own_errand : Settings → Request → Errand
-own_errand set r =
-    path_errand (info_in r) r.head.method r.body (effective_in set r) (local_of (info_in r).path)
+-- a selector of one name narrows the list of APIServices
+abbrev pub services_by : Option (List ℕ) → Local
+services_by None = AllServices
+services_by (Some name) = ServicesNamed name
 
-unfoldable pub errand_in : Settings → Request → Errand
-errand_in set r =
+abbrev pub narrowed : List ℕ → Local → Local
+narrowed target Health = Health
+narrowed target GroupList = GroupList
+narrowed target (OneGroup name) = OneGroup name
+narrowed target ResourceList = ResourceList
+narrowed target AllServices = services_by (selected_name target)
+narrowed target (OneService name) = OneService name
+narrowed target (ServicesNamed name) = ServicesNamed name
+narrowed target local.Unserved = local.Unserved
+
+abbrev pub narrowed_if_any : List ℕ → Option Local → Option Local
+narrowed_if_any target None = None
+narrowed_if_any target (Some local) = Some (narrowed target local)
+
+-- the local path that a target is, by its path and what its query selects
+unfoldable pub local_in : List ℕ → List ℕ → Option Local
+local_in path target = narrowed_if_any target (local_of path)
+
+-- what its path names
+abbrev pub own_errand : Settings → Request → ℕ → Errand
+own_errand set r moment =
+    path_errand (info_in r) r.head moment r.body (effective_in set r) (local_in (info_in r).path r.head.target)
+
+-- what a request wants that was read at that moment: the moment is part of it where it asks for a Table
+unfoldable pub errand_in : Settings → Request → ℕ → Errand
+errand_in set r moment =
     first_errand
     (is_bad r)
     (is_unknown (asker set r))
     (list_any is_upgrade r.head.headers)
     (act_refusal (act_in set r))
-    (own_errand set r)
+    (own_errand set r moment)

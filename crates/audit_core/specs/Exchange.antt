@@ -96,7 +96,7 @@ pub record IsAnswered (set : Settings) (stamp : Stamp) (r : Request) (handling :
 abbrev pub Settles : Settings → Stamp → Request → LinkNote → List ℕ → List Row → List Change → List (ℕ × Change)
     → List Change → List (ℕ × Change) → Answered → Type 0
 Settles set stamp r note body opening seen own new_seen new_own x =
-    (routed : Routed) × Decides set.endpoints (errand_in set r) opening seen own new_seen new_own routed
+    (routed : Routed) × Decides set.endpoints (errand_in set r stamp.received) opening seen own new_seen new_own routed
     × IsAnswered set stamp r routed.handling note body x
 
 -- ---- what the code learns on the way
@@ -105,8 +105,8 @@ abbrev pub IsAsked : Request → Asked → Type 0
 IsAsked r asked =
     (asked.info ≡ info_in r) × (asked.refused ≡ is_bad r)
 
-abbrev pub IsJudged : Settings → Request → Judged → Type 0
-IsJudged set r judged =
+abbrev pub IsJudged : Settings → Request → ℕ → Judged → Type 0
+IsJudged set r moment judged =
     (judged.attributes ≡ attributes_in set r)
-    × (judged.errand ≡ errand_in set r)
+    × (judged.errand ≡ errand_in set r moment)
     × (judged.decision ≡ decision_in set r)

@@ -1,16 +1,22 @@
 -- Which requests ask for less than is read of them here. Who lists APIServices by a selector, and deletes each that came back, would
 -- delete all of them if the selector were taken for none; and a change that was only to be tried would be made.
-use Rattle.std.specs.Prelude.{ℕ, eqb, Bool, ◌||◌, ◌&&◌, List, codes, bytes_eq}
+use Rattle.std.specs.Prelude.{ℕ, eqb, Bool, ◌&&◌, List, codes, bytes_eq, if◌then◌else◌}
 use Rattle.std.specs.List.{starts_with}
 use Rattle.front_base.specs.Ends.{trimmed}
-use Rattle.request_info.specs.Selection.{asks_selection}
+use Rattle.request_info.specs.Selection.{asks_else, asks_selection}
 
--- the text is the path of the list of APIServices, or stands below it
-abbrev pub is_services : List ℕ → Bool
-is_services text =
-    bytes_eq text (codes "apis/apiregistration.k8s.io/v1/apiservices")
-    || starts_with eqb text (codes "apis/apiregistration.k8s.io/v1/apiservices/")
+-- the text is the path of the list of APIServices
+abbrev pub is_list : List ℕ → Bool
+is_list text = bytes_eq text (codes "apis/apiregistration.k8s.io/v1/apiservices")
 
--- a selector or `dryRun` on APIServices, none of which is read
+-- it stands below it
+abbrev pub is_below : List ℕ → Bool
+is_below text = starts_with eqb text (codes "apis/apiregistration.k8s.io/v1/apiservices/")
+
+-- a selector or `dryRun` on APIServices: of the list, a selector of one name is read, and elsewhere none is
+abbrev pub is_unread_at : List ℕ → List ℕ → Bool
+is_unread_at text target =
+    if is_list text then asks_else target else is_below text && asks_selection target
+
 unfoldable pub is_unread : List ℕ → List ℕ → Bool
-is_unread path target = is_services (trimmed path) && asks_selection target
+is_unread path target = is_unread_at (trimmed path) target

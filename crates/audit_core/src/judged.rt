@@ -1,7 +1,6 @@
 // Who asks for what, and what a request wants.
 ghost use Rattle.std.specs.Prelude.{◌≡◌, true, IfOk};
 ghost use Rattle.std.specs.List.{list_any};
-ghost use Rattle.local_replies.specs.Paths.{local_of};
 ghost use Rattle.request_info.specs.Request.{audit_info};
 ghost use Rattle.token_users.specs.Act.{user_acting};
 ghost use Rattle.audit_core.specs.Errand as spec;
@@ -11,7 +10,7 @@ use crate::attributes::Attributes;
 use crate::errand::{Errand, path_errand};
 use crate::settings::Settings;
 use crate::unread::is_unread;
-use front_base::{Info, NoMemory, User};
+use front_base::{Info, Moment, NoMemory, User};
 use http_edge::Request;
 use http_head::{Header, has_only};
 use local_replies::LocalPaths;
@@ -136,14 +135,15 @@ fn errand_of(
     alloc: Global,
     paths: &LocalPaths,
     request: &Request,
+    moment: Moment,
     asked: &Asked,
     caller: &Caller,
 ) -> Result<Errand, NoMemory>
     ensures { IfOk result (λ errand. errand ≡ spec.first_errand
         asked.now.refused caller.now.unknown (list_any spec.is_upgrade request.now.head.headers)
         (spec.act_refusal caller.now.act)
-        (spec.path_errand asked.now.info request.now.head.method request.now.body
-        (user_acting caller.now.act caller.now.user) (local_of asked.now.info.path))) }
+        (spec.path_errand asked.now.info request.now.head moment request.now.body
+        (user_acting caller.now.act caller.now.user) (spec.local_in asked.now.info.path request.now.head.target))) }
 {
     if asked.refused {
         return Ok(Errand::Refuse(400));
@@ -157,10 +157,9 @@ fn errand_of(
     if let Some(code) = act_refusal(&caller.act) {
         return Ok(Errand::Refuse(code));
     }
-    let method = request.head.method.as_str();
     let body = request.body.as_slice();
     let user = caller.act.user(&caller.user);
-    path_errand(alloc, paths, &asked.info, method, body, user)
+    path_errand(alloc, paths, &asked.info, &request.head, moment, body, user)
 }
 
 /// Who asks for what, what the request wants, and how it is recorded.
@@ -171,15 +170,16 @@ pub struct Judged {
     pub decision: Decision,
 }
 
-/// Judges a request, before any table is seen. The policy's rules go by the user that authenticated; what the request may
-/// do here goes by the user that it acts as.
+/// Judges a request that was read at that moment, before any table is seen. The policy's rules go by the user that authenticated;
+/// what the request may do here goes by the user that it acts as.
 pub fn judge(
     alloc: Global,
     settings: &Settings,
     paths: &LocalPaths,
     request: &Request,
+    moment: Moment,
 ) -> Result<Judged, NoMemory>
-    ensures { IfOk result (IsJudged settings.now request.now) }
+    ensures { IfOk result (IsJudged settings.now request.now moment) }
 {
     let asked = ask(alloc, request)?;
     let Ok(caller) = caller_of(alloc, settings, request) else {
@@ -187,7 +187,7 @@ pub fn judge(
         return Err(NoMemory);
     };
     let decision = decide(&settings.policy, &caller.user, &asked.info);
-    match errand_of(alloc, paths, request, &asked, &caller) {
+    match errand_of(alloc, paths, request, moment, &asked, &caller) {
         Ok(errand) => Ok(Judged {
             attributes: Attributes {
                 info: asked.info,

@@ -6,6 +6,8 @@ ghost use Rattle.apiservice_table.specs.Changes.{placed, rows_of, Story};
 ghost use Rattle.front_base.specs.declared.level.Level.TheVariants as level;
 ghost use Rattle.front_base.specs.declared.user.User.{User};
 ghost use Rattle.http_edge.specs.declared.request.Request.{Request};
+ghost use Rattle.http_head.specs.Name.{first_value};
+ghost use Rattle.local_replies.specs.Errand.{asks_table};
 ghost use Rattle.request_info.specs.Request.{info_of};
 ghost use Rattle.service_endpoints.specs.declared.endpoint.Endpoint.{Endpoint};
 ghost use Rattle.stage_event.specs.declared.event.Event.{Event};
@@ -27,6 +29,7 @@ ghost use Rattle.audit_core.specs.declared.settings.Settings.{Settings};
 ghost use Rattle.audit_core.specs.declared.stamp.Stamp.{Stamp};
 ghost use Rattle.audit_core.specs.Unread.{is_unread};
 
+use local_replies::moments_count_in_tables;
 use stage_event::{both_users_are_shown, levels_hide};
 use token_users::only_masters_act_as_others;
 use truncate_backend::what_fits;
@@ -34,18 +37,27 @@ use truncate_backend::what_fits;
 /// A target that is refused, or a selector on APIServices, counts before the token, an unknown token before the headers
 /// that ask for another protocol, these before those that ask to act as another user, and all of them before the path.
 pub fn refusals_come_in_order()
-    ensures target { (set : Settings) (r : Request) (fault : InfoFault)
-        → info_of r.head.method r.head.target ≡ Err fault → errand.errand_in set r ≡ want.Refuse 400 }
-    ensures selection { (set : Settings) (r : Request) → is_unread (errand.info_in r).path r.head.target ≡ true
-        → errand.errand_in set r ≡ want.Refuse 400 }
-    ensures token { (set : Settings) (r : Request) → errand.is_bad r ≡ false → errand.asker set r ≡ who.BadToken
-        → errand.errand_in set r ≡ want.Refuse 401 }
-    ensures upgrade { (set : Settings) (r : Request) → errand.is_bad r ≡ false → errand.is_unknown (errand.asker set r) ≡ false
-        → list_any errand.is_upgrade r.head.headers ≡ true → errand.errand_in set r ≡ want.Refuse 501 }
-    ensures acting { (set : Settings) (r : Request) (code : ℕ) → errand.is_bad r ≡ false
+    ensures target { (set : Settings) (r : Request) (moment : ℕ) (fault : InfoFault)
+        → info_of r.head.method r.head.target ≡ Err fault → errand.errand_in set r moment ≡ want.Refuse 400 }
+    ensures selection { (set : Settings) (r : Request) (moment : ℕ) → is_unread (errand.info_in r).path r.head.target ≡ true
+        → errand.errand_in set r moment ≡ want.Refuse 400 }
+    ensures token { (set : Settings) (r : Request) (moment : ℕ) → errand.is_bad r ≡ false → errand.asker set r ≡ who.BadToken
+        → errand.errand_in set r moment ≡ want.Refuse 401 }
+    ensures upgrade { (set : Settings) (r : Request) (moment : ℕ) → errand.is_bad r ≡ false → errand.is_unknown (errand.asker set r) ≡ false
+        → list_any errand.is_upgrade r.head.headers ≡ true → errand.errand_in set r moment ≡ want.Refuse 501 }
+    ensures acting { (set : Settings) (r : Request) (moment : ℕ) (code : ℕ) → errand.is_bad r ≡ false
         → errand.is_unknown (errand.asker set r) ≡ false → list_any errand.is_upgrade r.head.headers ≡ false
-        → errand.act_refusal (errand.act_in set r) ≡ Some code → errand.errand_in set r ≡ want.Refuse code }
+        → errand.act_refusal (errand.act_in set r) ≡ Some code → errand.errand_in set r moment ≡ want.Refuse code }
 {}
+
+/// At which moment a request was read counts for what it wants where its Accept header asks for a Table, and nowhere else.
+pub fn errands_have_moments_in_tables()
+    ensures { (set : Settings) (r : Request) (moment other : ℕ)
+        → asks_table (first_value (codes "accept") r.head.headers) ≡ false
+        → errand.errand_in set r moment ≡ errand.errand_in set r other }
+{
+    moments_count_in_tables();
+}
 
 /// A request is served as the user that it acts as, which is the one that authenticated where it acts as no other; it acts
 /// as another only where the one that authenticated is of `system:masters`; and each of its events shows both.

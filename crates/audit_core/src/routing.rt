@@ -8,7 +8,7 @@ ghost use Rattle.audit_core.specs.declared.errand.Errand.TheVariants as want;
 use crate::errand::Errand;
 use crate::routed::{Handling, Routed};
 use apiservice_rows::{Row, ServiceRef};
-use apiservice_table::Routes;
+use apiservice_table::{Routes, the_last_change_counts};
 use forward_link::Target;
 use front_base::{NoMemory, Text};
 use local_replies::{Local, LocalErrand, serve_errand};
@@ -111,6 +111,7 @@ fn route_local<R: Routes>(
     ensures later { IsLater (R.seen routes.old) (R.seen routes.new) }
     ensures fixed { R.opening routes.new ≡ R.opening routes.old }
 {
+    the_last_change_counts();
     match serve_errand(alloc, &local, own, routes) {
         Ok((reply, change)) => Ok(Routed {
             row: None,

@@ -33,7 +33,7 @@ pub fn settle<R: Routes>(
     ensures later { IsLater (R.seen routes.old) (R.seen routes.new) }
     ensures fixed { R.opening routes.new ≡ R.opening routes.old }
 {
-    let judged = judge(alloc, settings, paths, request)?;
+    let judged = judge(alloc, settings, paths, request, stamp.received)?;
     let Judged {
         attributes,
         errand,

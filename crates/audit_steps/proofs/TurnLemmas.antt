@@ -83,11 +83,11 @@ same_bays s place b new (Err e) at h =
 pub turned_begin : {E : Type 0} (taken : AreTaken) (own : Fixed) (s : State) (bay : ℕ) (peer : List ℕ) (r : Request)
     (moment : ℕ) (b new : Bay) (result : Result StepAnswer E) → slice_get s.bays bay ≡ Some b
     → IfOk result (λ answer. (keep : Bool → List ℕ → Kept) → Keeps keep → (any : Shared)
-    → TurnsTo (begin (setup_of own keep) bay (wish_of (setup_of own keep) peer r) moment any b) any b any new answer)
+    → TurnsTo (begin (setup_of own keep) bay (wish_of (setup_of own keep) peer r moment) moment any b) any b any new answer)
     → IfOk result (StepsTo own s (Begin bay r peer moment)
     (record { shared = s.shared; bays = slice_set s.bays bay new }))
 unfolding step
 turned_begin taken own s bay peer r moment b new (Ok answer) at h = λ keep k.
-    taken s bay (begin (setup_of own keep) bay (wish_of (setup_of own keep) peer r) moment) b new s.shared answer at
+    taken s bay (begin (setup_of own keep) bay (wish_of (setup_of own keep) peer r moment) moment) b new s.shared answer at
     (h keep k s.shared)
 turned_begin taken own s bay peer r moment b new (Err e) at h = tt

@@ -40,27 +40,27 @@ abbrev stamp_at : AuditId → List ℕ → ℕ → Stamp
 stamp_at id peer moment = record { id = id; peer = peer; received = moment; started = moment; complete = moment }
 
 facts_as : (setup : Setup) → Keeps setup.keep → (id : AuditId) (peer : List ℕ) (r : Request) (moment : ℕ) (judged : Judged)
-    (facts : Facts) → id.boot ≡ setup.boot → IsJudged setup.set r judged
+    (facts : Facts) → id.boot ≡ setup.boot → IsJudged setup.set r moment judged
     → AreFirstFacts (stamp_at id peer moment) r judged.attributes judged.decision facts
-    → facts ≡ facts_begun setup id.bay id.number (wish_of setup peer r) moment
+    → facts ≡ facts_begun setup id.bay id.number (wish_of setup peer r moment) moment
 unfolding wish_of
 facts_as setup k id peer r moment judged facts boot (attributes, errand, decision) (kept, keeps, is) =
     let so = kept_so (request_due judged.decision.level judged.attributes.info) judged.decision.omit_managed setup.keep k r.body kept keeps in
     rw (is, so, attributes, decision, sym boot) refl
 
 pub bare_as : (setup : Setup) → Keeps setup.keep → (id : AuditId) (peer : List ℕ) (r : Request) (moment : ℕ) (judged : Judged)
-    (x : Exchange) (dues : List Due) → dues ≡ [] → id.boot ≡ setup.boot → IsJudged setup.set r judged
+    (x : Exchange) (dues : List Due) → dues ≡ [] → id.boot ≡ setup.boot → IsJudged setup.set r moment judged
     → IsBare (stamp_at id peer moment) r judged x
     → record { exchange = x; phase = phase_begun moment; waiting = dues }
-    ≡ bare setup id.bay id.number (wish_of setup peer r) moment
+    ≡ bare setup id.bay id.number (wish_of setup peer r moment) moment
 unfolding wish_of
 bare_as setup k id peer r moment judged x dues none boot h (facts, first, is) =
     let same = facts_as setup k id peer r moment judged facts boot h first in
     rw (none, is, same, h.1, h.2) refl
 
 begun_as : (setup : Setup) (bay number : ℕ) (peer : List ℕ) (r : Request) (moment : ℕ)
-    → begun setup bay number (wish_of setup peer r) moment
-    ≡ completed setup (bare setup bay number (wish_of setup peer r) moment)
+    → begun setup bay number (wish_of setup peer r moment) moment
+    ≡ completed setup (bare setup bay number (wish_of setup peer r moment) moment)
 unfolding wish_of
 begun_as setup bay number peer r moment = refl
 
@@ -99,16 +99,16 @@ same_none b current none h =
 
 pub begin_turn : (setup : Setup) (bay : ℕ) (peer : List ℕ) (r : Request) (moment : ℕ) (sh : Shared) (b : Bay) (o : Open)
     (current : Option Open) → is_some b.current ≡ false → b.number < MOST_REQUESTS
-    → o ≡ bare setup bay b.number (wish_of setup peer r) moment → current ≡ Some (completed setup o)
-    → TurnsTo (begin setup bay (wish_of setup peer r) moment sh b) sh b sh
+    → o ≡ bare setup bay b.number (wish_of setup peer r moment) moment → current ≡ Some (completed setup o)
+    → TurnsTo (begin setup bay (wish_of setup peer r moment) moment sh b) sh b sh
     (record b { number = b.number + 1; current = current }) Begun
 begin_turn setup bay peer r moment sh b o current none below is now =
     let few : nat_lt b.number MOST_REQUESTS ≡ true = grind (arith, nat_tests) in
     subst
-    (λ (c : Option Open). TurnsTo (begin setup bay (wish_of setup peer r) moment sh b) sh b sh
+    (λ (c : Option Open). TurnsTo (begin setup bay (wish_of setup peer r moment) moment sh b) sh b sh
     (record b { number = b.number + 1; current = c }) Begun)
     (sym now)
-    (turn_of setup bay (wish_of setup peer r) moment sh b (completed setup o) (none_by b.current none) few
+    (turn_of setup bay (wish_of setup peer r moment) moment sh b (completed setup o) (none_by b.current none) few
     (begun_as setup bay b.number peer r moment ∙ ap (completed setup) (sym is)))
 
 idle_if : (can : Bool) (t : Turn) (sh : Shared) (b : Bay) → can ≡ false

@@ -29,6 +29,7 @@ fn asked_by(alloc: Global, errand: &Errand) -> Result<Option<Change>, NoMemory>
         Errand::Serve(_, LocalErrand::Write(change)) => Ok(Some(change.copy(alloc)?)),
         Errand::Serve(_, LocalErrand::Deny(_)) => Ok(None),
         Errand::Serve(_, LocalErrand::Look) => Ok(None),
+        Errand::Serve(_, LocalErrand::Tabulate(_)) => Ok(None),
         Errand::Refuse(_) => Ok(None),
         Errand::Route { .. } => Ok(None),
         Errand::Other => Ok(None),
@@ -100,7 +101,7 @@ fn bare_open(
     requires { id.boot ≡ setup.now.boot }
     ensures { IfOk result (λ opened. (keep : Bool → List ℕ → declared.Kept) → Keeps keep
         → opened ≡ bare (setup_of setup.now keep) id.bay id.number
-        (asks.wish_of (setup_of setup.now keep) peer request.now) moment) }
+        (asks.wish_of (setup_of setup.now keep) peer request.now moment) moment) }
 {
     let stamp = Stamp {
         id,
@@ -109,7 +110,7 @@ fn bare_open(
         started: moment,
         complete: moment,
     };
-    let judged = judge(alloc, setup.settings(), paths, request)?;
+    let judged = judge(alloc, setup.settings(), paths, request, moment)?;
     Ok(Open {
         exchange: judged_exchange(alloc, request, &stamp, judged)?,
         phase: Phase {
@@ -171,7 +172,7 @@ pub fn begin(
     b: &mut Bay,
 ) -> Result<StepAnswer, NoMemory>
     ensures ok { IfOk result (λ answer. (keep : Bool → List ℕ → declared.Kept) → Keeps keep → (sh : Shared)
-        → TurnsTo (spec.begin (setup_of setup.now keep) bay (asks.wish_of (setup_of setup.now keep) peer request.now)
+        → TurnsTo (spec.begin (setup_of setup.now keep) bay (asks.wish_of (setup_of setup.now keep) peer request.now moment)
         moment sh b.old) sh b.old sh b.new answer) }
     ensures err { OnErr result (b.new ≡ b.old) }
 {

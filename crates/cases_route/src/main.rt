@@ -37,6 +37,8 @@ table.txt
 full-table.txt
 requests.txt
 replies.txt
+patches.txt
+tables.txt
 ";
 
 // Shows the answer to a case of a file.

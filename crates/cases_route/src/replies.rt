@@ -1,8 +1,9 @@
 // Local paths, and the replies to requests on them.
 use crate::fixtures::object;
 use apiservice_table::{Change, TableRoutes};
-use case_rows::{bytes_of, fields};
-use front_base::{Info, NoMemory, Text, Texts, User};
+use case_rows::fields;
+use front_base::{Bytes, Info, Moment, NoMemory, Text, Texts, User};
+use http_head::{Head, Header, Headers};
 use local_replies::{Local, LocalPaths, LocalReply, refusal, serve_local, status_reply};
 use std::alloc::Global;
 
@@ -87,18 +88,87 @@ fn show_made(rt: &HostRuntime, change: &Option<Change>) {
         Some(Change::Create(row)) => println!(rt; "    create {}", row.name.as_str()),
         Some(Change::Replace(row)) => println!(rt; "    replace {}", row.name.as_str()),
         Some(Change::Delete(name)) => println!(rt; "    delete {}", name.as_str()),
+        Some(Change::Patch { name, .. }) => println!(rt; "    patch {}", name.as_str()),
     };
+}
+
+fn head_with(alloc: Global, method: &str, headers: Vec<Header>) -> Head {
+    Head {
+        method: text(alloc, method),
+        target: empty(alloc),
+        minor: 1,
+        headers: Headers::new(headers),
+    }
+}
+
+fn bytes(alloc: Global, text: &str) -> Bytes {
+    match text.as_bytes().to_vec(alloc) {
+        Ok(bytes) => Bytes::new(bytes),
+        Err(_) => Bytes::new(Vec::new(alloc)),
+    }
+}
+
+// What a media type is told as: as what a look wants, and as what else brings.
+fn media_header(method: &str) -> &'static str {
+    match method {
+        "GET" | "HEAD" => "Accept",
+        _ => "Content-Type",
+    }
+}
+
+// A head with that media type.
+fn typed_head(alloc: Global, method: &str, media_type: &str) -> Head {
+    let header = Header {
+        name: text(alloc, media_header(method)),
+        value: bytes(alloc, media_type),
+    };
+    match vec![in alloc; header] {
+        Ok(headers) => head_with(alloc, method, headers),
+        Err(_) => head_with(alloc, method, Vec::new(alloc)),
+    }
+}
+
+// A head of a method, with the media type that follows it after a blank, if one does.
+fn head_of(alloc: Global, sent: &str) -> Head {
+    match sent.split_once(' ') {
+        Some((method, media_type)) => typed_head(alloc, method, media_type),
+        None => head_with(alloc, sent, Vec::new(alloc)),
+    }
+}
+
+// The body itself where a media type is sent, and otherwise the object of a group.
+fn body_of(alloc: Global, sent: &str, last: &str) -> String {
+    match sent.split_once(' ') {
+        Some(_) => text(alloc, last).into_string(),
+        None => object(alloc, "v1", last),
+    }
+}
+
+// When all requests are read: as 2025 began.
+fn new_year() -> Moment {
+    Moment::new(1_735_689_600_000_000).unwrap_or(Moment::epoch())
 }
 
 // Serves a request with the verb, the method and the body of a case, and shows the reply and the change that was made.
 fn show_served(rt: &HostRuntime, routes: &mut TableRoutes, local: &Local, user: &User, asks: &str) {
     let alloc = rt.alloc();
     let (verb, rest) = fields(asks);
-    let (method, group) = fields(rest);
+    let (sent, last) = fields(rest);
     let info = asked(alloc, verb);
-    let body = object(alloc, "v1", group);
-    let served = serve_local(alloc, local, &info, method, body.as_bytes(), user, routes);
+    let head = head_of(alloc, sent);
+    let body = body_of(alloc, sent, last);
+    let served = serve_local(
+        alloc,
+        local,
+        &info,
+        &head,
+        new_year(),
+        body.as_bytes(),
+        user,
+        routes,
+    );
     drop(info);
+    drop(head);
     if let Ok((reply, change)) = served {
         show_reply(rt, &reply);
         show_made(rt, &change);
@@ -108,7 +178,7 @@ fn show_served(rt: &HostRuntime, routes: &mut TableRoutes, local: &Local, user: 
 }
 
 /// Shows the reply to a request, and the change that was made. The case is a path, the group of the user, the verb, the
-/// method, and the group of the object in the body.
+/// method, and the group of the object in the body; or the method and a media type, and the body.
 pub fn show_request(rt: &HostRuntime, paths: &LocalPaths, routes: &mut TableRoutes, row: &str) {
     let alloc = rt.alloc();
     let (path, rest) = fields(row);

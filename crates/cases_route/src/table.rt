@@ -2,7 +2,7 @@
 use crate::fixtures::object;
 use crate::objects::{show_row, show_text};
 use apiservice_rows::{Row, read_row};
-use apiservice_table::{Change, Routes, TableRoutes};
+use apiservice_table::{Change, ChangeFault, Routes, TableRoutes};
 use case_rows::fields;
 use front_base::{Bytes, NoMemory, Text};
 use std::alloc::Global;
@@ -18,22 +18,44 @@ fn row_of(alloc: Global, version: &str, group: &str) -> Option<Row> {
     read_row(alloc, object(alloc, version, group).as_bytes()).ok()
 }
 
+// A patch of the APIService of a group, after which the patch stands.
+fn patch_of(alloc: Global, version: &str, rest: &str) -> Option<Change> {
+    let (group, patch) = fields(rest);
+    let patch = Bytes::new(patch.as_bytes().to_vec(alloc).ok()?);
+    Some(Change::Patch {
+        name: name_of(alloc, version, group),
+        patch,
+    })
+}
+
 // The change that a call asks for, where it asks for one.
 fn change_of(alloc: Global, call: &str, version: &str, group: &str) -> Option<Change> {
     match call {
         "create" => Some(Change::Create(row_of(alloc, version, group)?)),
         "replace" => Some(Change::Replace(row_of(alloc, version, group)?)),
         "delete" => Some(Change::Delete(name_of(alloc, version, group))),
+        "patch" => patch_of(alloc, version, group),
         _ => None,
+    }
+}
+
+// Shows the object that a patch left, and that another change was made.
+fn show_done(rt: &HostRuntime, done: Result<Option<Bytes>, ChangeFault>) {
+    match done {
+        Ok(Some(object)) => {
+            show_text(rt, object.as_slice());
+            drop(object);
+        }
+        Ok(None) => show_text(rt, b"done"),
+        Err(fault) => {
+            let _shown = println!(rt; "{fault:?}");
+        }
     }
 }
 
 fn show_change(rt: &HostRuntime, routes: &mut TableRoutes, change: Option<Change>) {
     match change {
-        Some(change) => {
-            let done = routes.change(rt.alloc(), change);
-            let _shown = println!(rt; "{done:?}");
-        }
+        Some(change) => show_done(rt, routes.change(rt.alloc(), change)),
         None => {
             let _shown = println!(rt; "no change");
         }
@@ -76,7 +98,8 @@ fn show_names(rt: &HostRuntime, routes: &mut TableRoutes) {
     }
 }
 
-/// Makes a call, and shows what comes of it. The case is the call, a version and a group, a dash for the core group.
+/// Makes a call, and shows what comes of it. The case is the call, a version and a group, a dash for the core group, and after
+/// those of a patch the patch.
 pub fn show_call(rt: &HostRuntime, routes: &mut TableRoutes, row: &str) {
     let alloc = rt.alloc();
     let (call, rest) = fields(row);

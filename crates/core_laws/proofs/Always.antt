@@ -174,7 +174,7 @@ step-ok : (setup : Setup) (bays : ℕ) (s : State) (own : Step) → AllOk setup 
     → AllOk setup bays (Steps.step setup s own).state
 unfolding Steps.step
 step-ok setup bays s (step.Begin i r peer m) h =
-    at_bay-ok setup bays (Steps.begin setup i (wish_of setup peer r) m) s i h
+    at_bay-ok setup bays (Steps.begin setup i (wish_of setup peer r m) m) s i h
     (λ b k. quietly setup bays i s.shared b _ k (begin_quiet setup i m peer r s.shared b k.bay))
 step-ok setup bays s (step.Find i seen) h =
     at_bay-ok setup bays (Steps.in_exchange (Steps.found setup seen)) s i h

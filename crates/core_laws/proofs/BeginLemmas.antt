@@ -1,5 +1,5 @@
 -- Each step leaves the exchanges of a bay what they have of their Begins, and a Begin that is taken adds one.
-use Rattle.std.proofs.Common.{◌≡◌, ◌≢◌, ℕ, zero, suc, ◌+◌, ◌<◌, Bool, true, false, ◌&&◌, List, [], ◌∷◌, ◌++◌, length, map, Option, Some, None, refl, ap, sym, ◌∙◌, subst, get_or, append_assoc, length-append, arith}
+use Rattle.std.proofs.Common.{◌≡◌, ℕ, zero, suc, ◌+◌, ◌<◌, Bool, true, false, ◌&&◌, List, [], ◌∷◌, ◌++◌, length, map, Option, Some, None, refl, ap, sym, ◌∙◌, subst, get_or, append_assoc, length-append, arith}
 use Rattle.std.proofs.lemmas.List.{append-nil, map-append, get_or-set_same, get_or-set_other}
 use Rattle.std.proofs.lemmas.Option.{slice_get_within, get_or_from_slice_get}
 use Rattle.std.specs.Prelude.{if◌then◌else◌, is_none, nat_lt, ◌==◌, slice_get, slice_set, IfSome}
@@ -9,7 +9,7 @@ use Rattle.audit_core.specs.Offers.{Due}
 use Rattle.audit_core.specs.declared.link_note.LinkNote.{LinkNote}
 use Rattle.audit_core.specs.declared.sinks.Sink.{Sink}
 use Rattle.core_laws.proofs.Logic.{both, same_number, other_number, none_of, and_first, some_if, get_replicated}
-use Rattle.core_laws.specs.Begins.{Arrival, is_begun, arrivals_at, arrivals, arrivals_in, open_exchange, exchanges_of, wished, HasRequest, Began}
+use Rattle.core_laws.specs.Begins.{Arrival, is_begun, arrivals_at, arrivals, arrivals_in, open_exchange, exchanges_of, wished, Began}
 use Rattle.core_laws.specs.Offered.{bay_at}
 use Rattle.front_base.specs.AuditId.{AuditId}
 use Rattle.front_base.specs.declared.audit_id.TheConstants.{MOST_REQUESTS}
@@ -52,7 +52,7 @@ id_of setup bay number = record { boot = setup.boot; bay = bay; number = number 
 -- what a Begin gives to an exchange of that number
 abbrev birth_by : Setup → ℕ → ℕ → Arrival → Birth
 birth_by setup bay number a =
-    record { wish = wish_of setup a.peer a.request; id = id_of setup bay number; received = a.moment }
+    record { wish = wish_of setup a.peer a.request a.moment; id = id_of setup bay number; received = a.moment }
 
 abbrev births_by : Setup → ℕ → ℕ → List Arrival → List Birth
 births_by setup bay number [] = []
@@ -211,7 +211,7 @@ drained_stays s sink (Some d) j = stay (bay_at s j)
 began : (setup : Setup) (i m place : ℕ) (peer : List ℕ) (r : Request) (past : List Arrival) (b : Bay)
     → b.current ≡ None → Holds setup i past b
     → Holds setup i (past ++ record { place = place; request = r; peer = peer; moment = m } ∷ [])
-    (record b { number = b.number + 1; current = Some (Steps.begun setup i b.number (wish_of setup peer r) m) })
+    (record b { number = b.number + 1; current = Some (Steps.begun setup i b.number (wish_of setup peer r m) m) })
 began setup i m place peer r past b none h =
     let a : Arrival = record { place = place; request = r; peer = peer; moment = m } in
     let before : map birth b.closed ≡ births_by setup i 0 past =
@@ -269,15 +269,15 @@ begun_turn setup s past i j a (Some t) lt k h = begun_place setup s past i j a t
 begun_by : (setup : Setup) (s : State) (past : ℕ → List Arrival) (i j m place : ℕ) (peer : List ℕ) (r : Request)
     (c : Option Bay) → slice_get s.bays i ≡ c → AllHold setup past s
     → Holds setup j
-    (past j ++ added (i == j) (Steps.turned s i (Steps.try_at (Steps.begin setup i (wish_of setup peer r) m) s.shared c)).answer
+    (past j ++ added (i == j) (Steps.turned s i (Steps.try_at (Steps.begin setup i (wish_of setup peer r m) m) s.shared c)).answer
     (record { place = place; request = r; peer = peer; moment = m }))
-    (bay_at (Steps.turned s i (Steps.try_at (Steps.begin setup i (wish_of setup peer r) m) s.shared c)).state j)
+    (bay_at (Steps.turned s i (Steps.try_at (Steps.begin setup i (wish_of setup peer r m) m) s.shared c)).state j)
 begun_by setup s past i j m place peer r None at h =
     let a : Arrival = record { place = place; request = r; peer = peer; moment = m } in
     with_none setup j (past j) (added (i == j) Idle a) (bay_at s j) (idle_adds (i == j) a) (h j)
 begun_by setup s past i j m place peer r (Some b) at h =
     let a : Arrival = record { place = place; request = r; peer = peer; moment = m } in
-    begun_turn setup s past i j a (Steps.begin setup i (wish_of setup peer r) m s.shared b) (slice_get_within s.bays i b at)
+    begun_turn setup s past i j a (Steps.begin setup i (wish_of setup peer r m) m s.shared b) (slice_get_within s.bays i b at)
     (some_if (λ (t : Steps.Turn). (t.answer ≡ Begun) × Holds setup i (past i ++ a ∷ []) t.bay)
     (is_none b.current && nat_lt b.number MOST_REQUESTS) _
     (λ c. (

@@ -134,12 +134,12 @@ bay-more setup ch more b h =
 -- ---- Begin
 
 begun_level : (setup : Setup) (bay n m : ℕ) (peer : List ℕ) (r : Request)
-    → HasLevel setup (Steps.begun setup bay n (wish_of setup peer r) m).exchange
+    → HasLevel setup (Steps.begun setup bay n (wish_of setup peer r m) m).exchange
 unfolding wish_of decision_in
 begun_level setup bay n m peer r = refl
 
 pub begun-ok : (setup : Setup) (ch : List Change) (bay n m : ℕ) (peer : List ℕ) (r : Request)
-    → SettledSoFar setup ch (Steps.begun setup bay n (wish_of setup peer r) m)
+    → SettledSoFar setup ch (Steps.begun setup bay n (wish_of setup peer r m) m)
 begun-ok setup ch bay n m peer r =
     record {
       recorded = begun_level setup bay n m peer r;

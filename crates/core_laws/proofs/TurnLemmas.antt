@@ -169,12 +169,12 @@ notes_with b o e = ap (λ c. flat_map (λ x. x.notes) b.closed ++ open_notes c) 
 
 pub begin_quiet : (setup : Setup) (bay m : ℕ) (peer : List ℕ) (r : Request) (sh : Shared) (b : Bay)
     → BayOk setup sh.changes b
-    → IfSome (Steps.begin setup bay (wish_of setup peer r) m sh b) (Quiet setup sh b)
+    → IfSome (Steps.begin setup bay (wish_of setup peer r m) m sh b) (Quiet setup sh b)
 begin_quiet setup bay m peer r sh b h =
     some_if (Quiet setup sh b) (is_none b.current && nat_lt b.number MOST_REQUESTS) _
     (λ c.
     let none = none_of b.current (and_first (is_none b.current) (nat_lt b.number MOST_REQUESTS) c) in
-    let o = Steps.begun setup bay b.number (wish_of setup peer r) m in
+    let o = Steps.begun setup bay b.number (wish_of setup peer r m) m in
     record {
       sinks = λ sink. refl;
       more = [];

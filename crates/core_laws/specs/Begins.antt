@@ -87,7 +87,7 @@ wished x =
 
 -- it is what the request means that this Begin brought in, and was received at that moment
 pub record HasRequest (setup : Setup) (begin : Arrival) (x : Exchange) : Type 0 where
-  pub means : wished x ≡ wish_of setup begin.peer begin.request
+  pub means : wished x ≡ wish_of setup begin.peer begin.request begin.moment
   pub received : x.facts.received ≡ begin.moment
 
 -- each of these Begins began one of these exchanges, in order, and there are no others

@@ -4,13 +4,14 @@ use Rattle.std.specs.List.{list_any}
 use Rattle.apiservice_rows.specs.Row.{Row}
 use Rattle.apiservice_rows.specs.declared.service.ServiceRef.{ServiceRef}
 use Rattle.apiservice_table.specs.Changes as table
+use Rattle.apiservice_table.specs.Changes.{changed, left_by}
 use Rattle.apiservice_table.specs.Services.{object_named}
-use Rattle.apiservice_table.specs.Table.{row}
+use Rattle.apiservice_table.specs.Table.{row, row_named}
 use Rattle.apiservice_table.specs.declared.change.Change.{Change}
-use Rattle.apiservice_table.specs.declared.change.Change.TheVariants.{Create, Replace, Delete}
+use Rattle.apiservice_table.specs.declared.change.Change.TheVariants.{Create, Replace, Delete, Patch}
 use Rattle.apiservice_table.specs.declared.change.ChangeFault.{ChangeFault}
-use Rattle.apiservice_table.specs.declared.change.ChangeFault.TheVariants.{Exists, Missing, Full, NoMemory}
-use Rattle.audit_core.specs.Errand.{errand_in, first_errand, unless_refused, act_refusal, own_errand, path_errand, route_errand, is_bad, is_unknown, is_upgrade, asker, info_in, act_in, effective_in}
+use Rattle.apiservice_table.specs.declared.change.ChangeFault.TheVariants.{Exists, Missing, Full, Invalid, NoMemory}
+use Rattle.audit_core.specs.Errand.{errand_in, first_errand, unless_refused, act_refusal, own_errand, path_errand, route_errand, is_bad, is_unknown, is_upgrade, asker, info_in, act_in, effective_in, local_in}
 use Rattle.audit_core.specs.Route.{Route, route_of}
 use Rattle.audit_core.specs.Routing.{handling_of, api_of, backend_of, service_at, delegate_at, others_at}
 use Rattle.audit_core.specs.declared.errand.Errand.{Errand}
@@ -22,14 +23,16 @@ use Rattle.front_base.specs.declared.address.Address.{Address}
 use Rattle.front_base.specs.declared.info.Info.{Info}
 use Rattle.front_base.specs.declared.user.User.{User}
 use Rattle.http_edge.specs.declared.request.Request.{Request}
-use Rattle.local_replies.specs.Errand.{local_errand, look_only, looks, by_master, is_master, create, replace, row_in, list_errand, name_errand}
+use Rattle.http_head.specs.Name.{first_value}
+use Rattle.http_head.specs.declared.request.Head.{Head}
+use Rattle.local_replies.specs.Errand.{asks_table, local_errand, look_services, looks, by_master, is_master, is_merge_patch, create, patch, replace, row_in, list_errand, name_errand, seen_as}
 use Rattle.local_replies.specs.Looked.{looked, found}
-use Rattle.local_replies.specs.Paths.{local_of}
 use Rattle.local_replies.specs.Serve.{local_reply, change_reply, done, refused}
+use Rattle.local_replies.specs.Tabulated.{one_table, tabulated}
 use Rattle.local_replies.specs.declared.errand.LocalErrand.{LocalErrand}
-use Rattle.local_replies.specs.declared.errand.LocalErrand.TheVariants.{Deny, Look, Write}
+use Rattle.local_replies.specs.declared.errand.LocalErrand.TheVariants.{Deny, Look, Tabulate, Write}
 use Rattle.local_replies.specs.declared.local.Local.{Local}
-use Rattle.local_replies.specs.declared.local.Local.TheVariants.{Health, GroupList, OneGroup, ResourceList, AllServices, OneService, Unserved}
+use Rattle.local_replies.specs.declared.local.Local.TheVariants.{Health, GroupList, OneGroup, ResourceList, AllServices, OneService, ServicesNamed, Unserved}
 use Rattle.service_endpoints.specs.Find.{endpoint_of, others_of}
 use Rattle.service_endpoints.specs.declared.endpoint.Endpoint.{Endpoint}
 use Rattle.token_users.specs.declared.acting.Act.{Act}
@@ -40,6 +43,13 @@ use Rattle.token_users.specs.declared.acting.Act.TheVariants.{Own, As, Unserved,
 look_by : (b : Bool) → IsFinalLocal (if b then Look else Deny 405)
 look_by true = tt
 look_by false = (omega arith, omega arith)
+
+seen_if : (b : Bool) (moment : ℕ) → IsFinalLocal (if b then Tabulate moment else Look)
+seen_if true moment = tt
+seen_if false moment = tt
+
+seen_by : (head : Head) (moment : ℕ) → IsFinalLocal (seen_as head moment)
+seen_by head moment = seen_if (asks_table (first_value (codes "accept") head.headers)) moment
 
 master_by : (b : Bool) (own : LocalErrand) → IsFinalLocal own → IsFinalLocal (if b then own else Deny 403)
 master_by true own h = h
@@ -61,38 +71,51 @@ if_by : (b : Bool) (these those : LocalErrand) → IsFinalLocal these → IsFina
 if_by true these those h k = h
 if_by false these those h k = k
 
-list_by : (info : Info) (method body : List ℕ) (user : User) → IsFinalLocal (list_errand info method body user)
+services_by : (head : Head) (moment : ℕ) → IsFinalLocal (look_services head moment)
+services_by head moment = if_by (looks head.method) (seen_as head moment) (Deny 405) (seen_by head moment) (omega arith, omega arith)
+
+list_by : (info : Info) (head : Head) (moment : ℕ) (body : List ℕ) (user : User) → IsFinalLocal (list_errand info head moment body user)
 unfolding list_errand
-list_by info method body user =
+list_by info head moment body user =
     if_by (bytes_eq info.verb (codes "watch")) (Deny 405) _ (omega arith, omega arith)
-    (if_by (bytes_eq method (codes "POST")) (by_master user (create (row_in body))) (look_only method)
-    (master_by (is_master user) (create (row_in body)) (create_by (row_in body))) (look_by (looks method)))
+    (if_by (bytes_eq head.method (codes "POST")) (by_master user (create (row_in body))) (look_services head moment)
+    (master_by (is_master user) (create (row_in body)) (create_by (row_in body))) (services_by head moment))
 
-name_by : (name : List ℕ) (method body : List ℕ) (user : User) → IsFinalLocal (name_errand name method body user)
+patch_by : (is : Bool) (name body : List ℕ) (user : User) → IsFinalLocal (patch is name body user)
+patch_by true name body user = master_by (is_master user) (Write (Patch name body)) tt
+patch_by false name body user = (omega arith, omega arith)
+
+name_by : (name : List ℕ) (head : Head) (moment : ℕ) (body : List ℕ) (user : User) → IsFinalLocal (name_errand name head moment body user)
 unfolding name_errand
-name_by name method body user =
-    if_by (bytes_eq method (codes "PUT")) (by_master user (replace name (row_in body))) _
+name_by name head moment body user =
+    let is : Bool = is_merge_patch (first_value (codes "content-type") head.headers) in
+    if_by (bytes_eq head.method (codes "PUT")) (by_master user (replace name (row_in body))) _
     (master_by (is_master user) (replace name (row_in body)) (replace_by name (row_in body)))
-    (if_by (bytes_eq method (codes "DELETE")) (by_master user (Write (Delete name))) (look_only method)
-    (master_by (is_master user) (Write (Delete name)) tt) (look_by (looks method)))
+    (if_by (bytes_eq head.method (codes "DELETE")) (by_master user (Write (Delete name))) _
+    (master_by (is_master user) (Write (Delete name)) tt)
+    (if_by (bytes_eq head.method (codes "PATCH")) (patch is name body user) (look_services head moment)
+    (patch_by is name body user) (services_by head moment)))
 
-local_by : (local : Local) (info : Info) (method body : List ℕ) (user : User) → IsFinalLocal (local_errand local info method body user)
-local_by Health info method body user = look_by (looks method)
-local_by GroupList info method body user = look_by (looks method)
-local_by (OneGroup name) info method body user = look_by (looks method)
-local_by ResourceList info method body user = look_by (looks method)
-local_by AllServices info method body user = list_by info method body user
-local_by (OneService name) info method body user = name_by name method body user
-local_by Unserved info method body user = (omega arith, omega arith)
+local_by : (local : Local) (info : Info) (head : Head) (moment : ℕ) (body : List ℕ) (user : User) → IsFinalLocal (local_errand local info head moment body user)
+local_by Health info head moment body user = look_by (looks head.method)
+local_by GroupList info head moment body user = look_by (looks head.method)
+local_by (OneGroup name) info head moment body user = look_by (looks head.method)
+local_by ResourceList info head moment body user = look_by (looks head.method)
+local_by AllServices info head moment body user = list_by info head moment body user
+local_by (OneService name) info head moment body user = name_by name head moment body user
+local_by (ServicesNamed name) info head moment body user =
+    if_by (bytes_eq info.verb (codes "watch")) (Deny 405) _ (omega arith, omega arith)
+    (if_by (looks head.method) (seen_as head moment) (Deny 400) (seen_by head moment) (omega arith, omega arith))
+local_by Unserved info head moment body user = (omega arith, omega arith)
 
 route_by : (route : Option Route) → IsFinalErrand (route_errand route)
 route_by None = tt
 route_by (Some route) = tt
 
-path_by : (info : Info) (method body : List ℕ) (user : User) (local : Option Local)
-    → IsFinalErrand (path_errand info method body user local)
-path_by info method body user None = route_by (route_of info.path)
-path_by info method body user (Some local) = local_by local info method body user
+path_by : (info : Info) (head : Head) (moment : ℕ) (body : List ℕ) (user : User) (local : Option Local)
+    → IsFinalErrand (path_errand info head moment body user local)
+path_by info head moment body user None = route_by (route_of info.path)
+path_by info head moment body user (Some local) = local_by local info head moment body user
 
 act_by : (act : Act) (own : Errand) → IsFinalErrand own → IsFinalErrand (unless_refused (act_refusal act) own)
 act_by Own own h = h
@@ -107,11 +130,11 @@ first_by false true c act own h = (omega arith, omega arith)
 first_by false false true act own h = (omega arith, omega arith)
 first_by false false false act own h = act_by act own h
 
-pub errand_final : (set : Settings) (r : Request) → IsFinalErrand (errand_in set r)
+pub errand_final : (set : Settings) (r : Request) (moment : ℕ) → IsFinalErrand (errand_in set r moment)
 unfolding errand_in
-errand_final set r =
-    first_by (is_bad r) (is_unknown (asker set r)) (list_any is_upgrade r.head.headers) (act_in set r) (own_errand set r)
-    (path_by (info_in r) r.head.method r.body (effective_in set r) (local_of (info_in r).path))
+errand_final set r moment =
+    first_by (is_bad r) (is_unknown (asker set r)) (list_any is_upgrade r.head.headers) (act_in set r) (own_errand set r moment)
+    (path_by (info_in r) r.head moment r.body (effective_in set r) (local_in (info_in r).path r.head.target))
 
 -- ---- replies
 
@@ -126,27 +149,45 @@ looked_by (OneGroup name) rows = found_by (group_text name rows)
 looked_by ResourceList rows = (omega arith, omega arith)
 looked_by AllServices rows = (omega arith, omega arith)
 looked_by (OneService name) rows = found_by (object_named name rows)
+looked_by (ServicesNamed name) rows = (omega arith, omega arith)
 looked_by Unserved rows = (omega arith, omega arith)
 
-done_by : (change : Change) → IsStatus (done change).status
-done_by (Create row) = (omega arith, omega arith)
-done_by (Replace row) = (omega arith, omega arith)
-done_by (Delete name) = (omega arith, omega arith)
+one_by : (moment : ℕ) (own : Option Row) → IsStatus (one_table moment own).status
+one_by moment None = (omega arith, omega arith)
+one_by moment (Some own) = (omega arith, omega arith)
+
+tabulated_by : (local : Local) (moment : ℕ) (rows : List Row) → IsStatus (tabulated local moment rows).status
+tabulated_by Health moment rows = looked_by Health rows
+tabulated_by GroupList moment rows = looked_by GroupList rows
+tabulated_by (OneGroup name) moment rows = looked_by (OneGroup name) rows
+tabulated_by ResourceList moment rows = looked_by ResourceList rows
+tabulated_by AllServices moment rows = (omega arith, omega arith)
+tabulated_by (OneService name) moment rows = one_by moment (row_named name rows)
+tabulated_by (ServicesNamed name) moment rows = (omega arith, omega arith)
+tabulated_by Unserved moment rows = looked_by Unserved rows
+
+done_by : (change : Change) (left : Option (List ℕ)) → IsStatus (done change left).status
+done_by (Create row) left = (omega arith, omega arith)
+done_by (Replace row) left = (omega arith, omega arith)
+done_by (Delete name) left = (omega arith, omega arith)
+done_by (Patch name text) left = (omega arith, omega arith)
 
 refused_by : (fault : ChangeFault) → IsStatus (refused fault).status
 refused_by Exists = (omega arith, omega arith)
 refused_by Missing = (omega arith, omega arith)
 refused_by Full = (omega arith, omega arith)
+refused_by Invalid = (omega arith, omega arith)
 refused_by NoMemory = (omega arith, omega arith)
 
-change_by : (change : Change) (fault : Option ChangeFault) → IsStatus (change_reply change fault).status
-change_by change None = done_by change
-change_by change (Some fault) = refused_by fault
+change_by : (rows : List Row) (change : Change) (fault : Option ChangeFault) → IsStatus (change_reply rows change fault).status
+change_by rows change None = done_by change (left_by change (changed rows change))
+change_by rows change (Some fault) = refused_by fault
 
 reply_by : (rows : List Row) (local : Local) (own : LocalErrand) → IsFinalLocal own → IsStatus (local_reply rows local own).status
 reply_by rows local (Deny code) h = h
 reply_by rows local Look h = looked_by local rows
-reply_by rows local (Write change) h = change_by change (table.refusal rows change)
+reply_by rows local (Tabulate moment) h = tabulated_by local moment rows
+reply_by rows local (Write change) h = change_by rows change (table.refusal rows change)
 
 service_by : (to : ServiceRef) (address : Option Address) → IsFinalHandling (service_at to address)
 service_by to None = (omega arith, omega arith)

@@ -7,7 +7,7 @@ use Rattle.audit_core.specs.declared.routed.Handling.TheVariants.{Refused, Serve
 use Rattle.exchange_replies.specs.declared.reached.Reached.{Reached}
 use Rattle.exchange_replies.specs.declared.reached.Reached.TheVariants as reached
 use Rattle.local_replies.specs.declared.errand.LocalErrand.{LocalErrand}
-use Rattle.local_replies.specs.declared.errand.LocalErrand.TheVariants.{Deny, Look, Write}
+use Rattle.local_replies.specs.declared.errand.LocalErrand.TheVariants.{Deny, Look, Tabulate, Write}
 
 abbrev pub IsStatus : ℕ → Type 0
 IsStatus code = (200 ≤ code) × (code < 1000)
@@ -16,6 +16,7 @@ IsStatus code = (200 ≤ code) × (code < 1000)
 abbrev pub IsFinalLocal : LocalErrand → Type 0
 IsFinalLocal (Deny code) = IsStatus code
 IsFinalLocal Look = ⊤
+IsFinalLocal (Tabulate moment) = ⊤
 IsFinalLocal (Write change) = ⊤
 
 abbrev pub IsFinalErrand : Errand → Type 0

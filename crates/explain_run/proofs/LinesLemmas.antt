@@ -30,14 +30,16 @@ pub adds_here : DecidesHere → ChangesHere → (set : Setup) (n : ℕ) (r : Req
     → lines_now ≡ lines ++ text_of set n x → large ≡ too_large_of set x → Adds set n r (rows_of old) (rows_of new) lines lines_now large
 unfolding rows_after
 adds_here decides changes set n r old new stamp x body lines lines_now large none s fixed h e l =
-    let own = errand_in set.settings r in
+    let own = errand_in set.settings r set.moment in
     let ends = set.settings.endpoints in
+    let here : Decides ends own old.opening old.seen (placed 0 old.seen) new.seen (placed 0 new.seen) h.0 =
+    subst (λ (t : Stamp). Decides ends (errand_in set.settings r t.received) old.opening old.seen (placed 0 old.seen) new.seen (placed 0 new.seen) h.0) s h.1 in
     let is : IsAnswered set.settings (stamp_of set.moment n) r (handling_of ends (rows_of old) own) empty_reply [] x =
     subst (λ t. IsAnswered set.settings t r (handling_of ends (rows_of old) own) empty_reply [] x) s
-    (subst (λ (a : Routed). IsAnswered set.settings stamp r a.handling empty_reply [] x) (decides ends own old new h.0 h.1)
+    (subst (λ (a : Routed). IsAnswered set.settings stamp r a.handling empty_reply [] x) (decides ends own old new h.0 here)
     (subst (λ b. IsAnswered set.settings stamp r h.0.handling empty_reply b x) none h.2)) in (
       text_of set n x,
       record { answered = x; is = is; text_is = refl; large_is = l },
       e,
-      changes ends own old new h.0 h.1 fixed,
+      changes ends own old new h.0 here fixed,
     )

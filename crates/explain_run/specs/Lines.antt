@@ -34,7 +34,7 @@ stamp_of moment number = record {
 
 -- the rows after a request
 unfoldable pub rows_after : Setup → List Row → Request → List Row
-rows_after set rows r = rows_by rows (errand_in set.settings r)
+rows_after set rows r = rows_by rows (errand_in set.settings r set.moment)
 
 -- the rows after requests, one after another
 abbrev pub rows_after_all : Setup → List Row → List Request → List Row
@@ -67,7 +67,7 @@ Writes set number x old new large = (new ≡ old ++ text_of set number x) × (la
 pub record IsLines (set : Setup) (rows : List Row) (number : ℕ) (r : Request) (text : List ℕ) (large : ℕ) : Type 0 where
   pub answered : Answered
   pub is : IsAnswered set.settings (stamp_of set.moment number) r
-      (handling_of set.settings.endpoints rows (errand_in set.settings r)) empty_reply [] answered
+      (handling_of set.settings.endpoints rows (errand_in set.settings r set.moment)) empty_reply [] answered
   pub text_is : text ≡ text_of set number answered
   pub large_is : large ≡ too_large_of set answered
 

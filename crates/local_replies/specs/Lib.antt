@@ -6,3 +6,4 @@ pub mod Paths
 pub mod Router
 pub mod Serve
 pub mod Status
+pub mod Tabulated

@@ -23,6 +23,7 @@ cause_of code =
     else if code == 405 then because (codes "MethodNotAllowed") (codes "the method is not served here")
     else if code == 409 then because (codes "AlreadyExists") (codes "the APIService exists")
     else if code == 413 then because (codes "RequestEntityTooLarge") (codes "the request body is too large")
+    else if code == 415 then because (codes "UnsupportedMediaType") (codes "only merge patches are served")
     else if code == 422 then because (codes "Invalid") (codes "the APIService is not accepted")
     else if code == 431 then because (codes "RequestHeaderTooLarge") (codes "the request head is too large")
     else if code == 500 then because (codes "InternalError") (codes "the audit event was not stored")
@@ -33,7 +34,7 @@ cause_of code =
 
 -- the codes that have a cause of their own
 abbrev pub told_codes : List ℕ
-told_codes = 400 ∷ 401 ∷ 403 ∷ 404 ∷ 405 ∷ 409 ∷ 413 ∷ 422 ∷ 431 ∷ 500 ∷ 501 ∷ 502 ∷ 503 ∷ []
+told_codes = 400 ∷ 401 ∷ 403 ∷ 404 ∷ 405 ∷ 409 ∷ 413 ∷ 415 ∷ 422 ∷ 431 ∷ 500 ∷ 501 ∷ 502 ∷ 503 ∷ []
 
 -- the Status of a failure
 unfoldable pub status_text : ℕ → List ℕ → List ℕ → List ℕ

@@ -1,11 +1,14 @@
 // What requests on local paths want.
-ghost use Rattle.std.specs.Prelude.{◌≡◌, IfOk};
+ghost use Rattle.std.specs.Prelude.{◌≡◌, IfOk, codes};
+ghost use Rattle.http_head.specs.Name.{first_value};
 ghost use Rattle.local_replies.specs.Errand as spec;
 
 use crate::local::Local;
+use apiservice_columns::asks_for_table;
 use apiservice_rows::{Row, RowFault, read_row};
 use apiservice_table::Change;
-use front_base::{Info, NoMemory, Text, User};
+use front_base::{Bytes, Info, Moment, NoMemory, Text, User};
+use http_head::Head;
 use std::alloc::Global;
 
 /// What a request on a local path wants, before any row is looked at.
@@ -15,6 +18,8 @@ pub enum LocalErrand {
     Deny(u16),
     /// What the path names is looked up.
     Look,
+    /// The APIServices that the path names are looked up, as a Table at that moment.
+    Tabulate(Moment),
     /// A change of the table of APIs, which the user may make.
     Write(Change),
 }
@@ -30,6 +35,36 @@ fn look_only(method: &str) -> LocalErrand
 {
     if looks(method) {
         LocalErrand::Look
+    } else {
+        LocalErrand::Deny(405)
+    }
+}
+
+fn asks_table(head: &Head) -> bool
+    ensures { result ≡ spec.asks_table (first_value (codes "accept") head.now.headers) }
+{
+    match head.headers.first_value("accept") {
+        Some(value) => asks_for_table(value),
+        None => false,
+    }
+}
+
+// A look at APIServices, in the form that is asked for.
+fn seen_as(head: &Head, moment: Moment) -> LocalErrand
+    ensures { result ≡ spec.seen_as head.now moment }
+{
+    if asks_table(head) {
+        LocalErrand::Tabulate(moment)
+    } else {
+        LocalErrand::Look
+    }
+}
+
+fn look_services(head: &Head, moment: Moment) -> LocalErrand
+    ensures { result ≡ spec.look_services head.now moment }
+{
+    if looks(head.method.as_str()) {
+        seen_as(head, moment)
     } else {
         LocalErrand::Deny(405)
     }
@@ -97,23 +132,73 @@ fn delete(alloc: Global, name: &Text, user: &User) -> Result<LocalErrand, NoMemo
     }
 }
 
+// The media type of a Content-Type, its parameters apart.
+fn type_of(value: &[u8]) -> &[u8]
+    ensures { result.now ≡ spec.type_of value.now }
+{
+    match value.iter().position(|b| *b == b';') {
+        Some(i) => &value[..i],
+        None => value,
+    }
+}
+
+fn sends_merge_patch(head: &Head) -> bool
+    ensures { result ≡ spec.is_merge_patch (first_value (codes "content-type") head.now.headers) }
+{
+    match head.headers.first_value("content-type") {
+        Some(value) => type_of(value) == b"application/merge-patch+json".as_slice(),
+        None => false,
+    }
+}
+
+fn patch_of(alloc: Global, name: &Text, body: &[u8]) -> Result<Change, NoMemory>
+    ensures { IfOk result (λ change. change ≡ Change.Patch name.now body.now) }
+{
+    let patch = body.to_vec(alloc)?;
+    Ok(Change::Patch {
+        name: name.copy(alloc)?,
+        patch: Bytes::new(patch),
+    })
+}
+
+// A merge patch of the APIService of a name. What it makes of the object is read once it is known which object that is.
+fn patch(
+    alloc: Global,
+    name: &Text,
+    head: &Head,
+    body: &[u8],
+    user: &User,
+) -> Result<LocalErrand, NoMemory>
+    ensures { IfOk result (λ errand. errand ≡ spec.patch
+        (spec.is_merge_patch (first_value (codes "content-type") head.now.headers)) name.now body.now user.now) }
+{
+    if !sends_merge_patch(head) {
+        return Ok(LocalErrand::Deny(415));
+    }
+    if !is_master(user) {
+        return Ok(LocalErrand::Deny(403));
+    }
+    Ok(LocalErrand::Write(patch_of(alloc, name, body)?))
+}
+
 // What is wanted of all APIServices.
 #[tactic(auto, unfolding(crate::specs::Errand::list_errand))]
 fn list_errand(
     alloc: Global,
     info: &Info,
-    method: &str,
+    head: &Head,
+    moment: Moment,
     body: &[u8],
     user: &User,
 ) -> Result<LocalErrand, NoMemory>
-    ensures { IfOk result (λ errand. errand ≡ spec.list_errand info.now method.now body.now user.now) }
+    ensures { IfOk result (λ errand. errand ≡ spec.list_errand info.now head.now moment body.now user.now) }
 {
     if info.verb.as_str() == "watch" {
         return Ok(LocalErrand::Deny(405));
     }
-    match method {
+    match head.method.as_str() {
         "POST" => create(alloc, body, user),
-        _ => Ok(look_only(method)),
+        _ => Ok(look_services(head, moment)),
     }
 }
 
@@ -122,38 +207,57 @@ fn list_errand(
 fn name_errand(
     alloc: Global,
     name: &Text,
-    method: &str,
+    head: &Head,
+    moment: Moment,
     body: &[u8],
     user: &User,
 ) -> Result<LocalErrand, NoMemory>
-    ensures { IfOk result (λ errand. errand ≡ spec.name_errand name.now method.now body.now user.now) }
+    ensures { IfOk result (λ errand. errand ≡ spec.name_errand name.now head.now moment body.now user.now) }
 {
-    match method {
+    match head.method.as_str() {
         "PUT" => replace(alloc, name.as_str(), body, user),
         "DELETE" => delete(alloc, name, user),
-        _ => Ok(look_only(method)),
+        "PATCH" => patch(alloc, name, head, body, user),
+        _ => Ok(look_services(head, moment)),
     }
 }
 
-/// What a request on a local path wants. A refusal by the method (404 where the path isn't served, 405) comes before one
-/// by the user (403), and that before one by the body (422).
+// What is wanted of the list of one APIService. A selector is read of looks alone.
+fn listed_errand(info: &Info, head: &Head, moment: Moment) -> LocalErrand
+    ensures { result ≡ spec.listed_errand info.now head.now moment }
+{
+    let watches = info.verb.as_str() == "watch";
+    if watches {
+        LocalErrand::Deny(405)
+    } else if looks(head.method.as_str()) {
+        seen_as(head, moment)
+    } else {
+        LocalErrand::Deny(400)
+    }
+}
+
+/// What a request on a local path wants, which was read at that moment: the ages in a Table count to it. A refusal by the method (404 where the path isn't served, 405, and 400 where
+/// a selector is no part of it) and by the type of a patch (415) comes before one by the user (403), and that before one by the
+/// body (422). What a patch makes of an object is read where the change is made.
 pub fn local_errand(
     alloc: Global,
     local: &Local,
     info: &Info,
-    method: &str,
+    head: &Head,
+    moment: Moment,
     body: &[u8],
     user: &User,
 ) -> Result<LocalErrand, NoMemory>
     ensures { IfOk result (λ errand.
-        errand ≡ spec.local_errand local.now info.now method.now body.now user.now) }
+        errand ≡ spec.local_errand local.now info.now head.now moment body.now user.now) }
 {
     match local {
         Local::Health | Local::GroupList | Local::OneGroup(_) | Local::ResourceList => {
-            Ok(look_only(method))
+            Ok(look_only(head.method.as_str()))
         }
-        Local::AllServices => list_errand(alloc, info, method, body, user),
-        Local::OneService(name) => name_errand(alloc, name, method, body, user),
+        Local::AllServices => list_errand(alloc, info, head, moment, body, user),
+        Local::OneService(name) => name_errand(alloc, name, head, moment, body, user),
+        Local::ServicesNamed(_) => Ok(listed_errand(info, head, moment)),
         Local::Unserved => Ok(LocalErrand::Deny(404)),
     }
 }

@@ -16,10 +16,12 @@ mod paths;
 mod reply;
 mod serve;
 mod status;
+mod tabulated;
 
 pub use errand::{LocalErrand, local_errand};
 pub use laws::{
-    lengths_of_refusals, one_user_is_served, only_masters_write, refusals_in_order,
+    a_named_list_has_one_at_most, a_patch_is_answered_its_object, lengths_of_refusals,
+    moments_count_in_tables, one_user_is_served, only_masters_write, refusals_in_order,
     slashes_at_ends_do_not_count,
 };
 pub use local::Local;

@@ -15,6 +15,8 @@ pub enum Local {
     AllServices,
     /// One APIService, by its name.
     OneService(Text),
+    /// The list of the APIService of that name, if there is one.
+    ServicesNamed(Text),
     /// Something in the API `apiregistration.k8s.io/v1` that isn't there.
     Unserved,
 }

@@ -1,6 +1,7 @@
 // Replies to requests on local paths.
-ghost use Rattle.std.specs.Prelude.{◌≡◌, Some, Option, IfOk, OnErr};
-ghost use Rattle.apiservice_table.specs.Changes.{IsDue, IsLater};
+ghost use Rattle.std.specs.Prelude.{◌≡◌, Some, None, Option, List, IfOk, OnErr};
+ghost use Rattle.apiservice_rows.specs.Row.{Row};
+ghost use Rattle.apiservice_table.specs.Changes.{left_by, IsDue, IsLater};
 ghost use Rattle.apiservice_table.specs.declared.change.ChangeFault.{ChangeFault};
 ghost use Rattle.local_replies.specs.Errand.{local_errand};
 ghost use Rattle.local_replies.specs.Serve as spec;
@@ -10,18 +11,35 @@ use crate::local::Local;
 use crate::looked::look;
 use crate::reply::LocalReply;
 use crate::status::{json_reply, refusal, success};
+use crate::tabulated::tabulate;
 use apiservice_table::{Change, ChangeFault, Routes};
-use front_base::{Info, NoMemory, User};
+use front_base::{Bytes, Info, Moment, NoMemory, User};
+use http_head::Head;
 use std::alloc::Global;
 
-// The reply to a change that is made.
+// The reply to a change that is made, but for the object that a patch leaves.
 fn done(alloc: Global, change: &Change) -> Result<LocalReply, NoMemory>
-    ensures { IfOk result (λ reply. reply ≡ spec.done change.now) }
+    ensures { IfOk result (λ reply. reply ≡ spec.done change.now None) }
 {
     match change {
         Change::Create(row) => Ok(json_reply(201, row.object.copy(alloc)?)),
         Change::Replace(row) => Ok(json_reply(200, row.object.copy(alloc)?)),
         Change::Delete(_) => success(alloc),
+        Change::Patch { .. } => Ok(json_reply(200, Bytes::new(Vec::new(alloc)))),
+    }
+}
+
+// The reply to a change with the object that it left, where it is a patch.
+fn with_left(reply: LocalReply, left: Option<Bytes>) -> LocalReply
+    ensures { (change : Change) (rows : List Row) → reply ≡ spec.done change None → left ≡ left_by change rows
+        → result ≡ spec.done_in rows change }
+{
+    match left {
+        Some(object) => {
+            drop(reply);
+            json_reply(200, object)
+        }
+        None => reply,
     }
 }
 
@@ -33,7 +51,7 @@ fn refused(alloc: Global, fault: ChangeFault) -> Result<LocalReply, NoMemory>
     match fault {
         ChangeFault::Exists => refusal(alloc, 409),
         ChangeFault::Missing => refusal(alloc, 404),
-        ChangeFault::Full => refusal(alloc, 422),
+        ChangeFault::Full | ChangeFault::Invalid => refusal(alloc, 422),
         ChangeFault::NoMemory => Err(NoMemory),
     }
 }
@@ -46,7 +64,7 @@ struct Prepared {
 }
 
 fn reply_and_copy(alloc: Global, change: &Change) -> Result<(LocalReply, Change), NoMemory>
-    ensures { IfOk result (λ both. (both.0 ≡ spec.done change.now) × (both.1 ≡ change.now)) }
+    ensures { IfOk result (λ both. (both.0 ≡ spec.done change.now None) × (both.1 ≡ change.now)) }
 {
     let reply = done(alloc, change)?;
     match change.copy(alloc) {
@@ -59,7 +77,7 @@ fn reply_and_copy(alloc: Global, change: &Change) -> Result<(LocalReply, Change)
 }
 
 fn prepare(alloc: Global, change: Change) -> Result<Prepared, NoMemory>
-    ensures { IfOk result (λ it. (it.reply ≡ spec.done change) × (it.made ≡ change) × (it.change ≡ change)) }
+    ensures { IfOk result (λ it. (it.reply ≡ spec.done change None) × (it.made ≡ change) × (it.change ≡ change)) }
 {
     match reply_and_copy(alloc, &change) {
         Ok((reply, made)) => Ok(Prepared {
@@ -89,7 +107,8 @@ fn instead(
     refused(alloc, fault)
 }
 
-// Makes a change. The reply and the copy that is handed out are made before it, so that none is made where memory runs out.
+// Makes a change. The reply and the copy that is handed out are made before it, so that none is made where memory runs out; the
+// object that a patch leaves comes from the routes, which copy it before they make the patch.
 fn write<R: Routes>(
     alloc: Global,
     change: Change,
@@ -108,7 +127,7 @@ fn write<R: Routes>(
         change,
     } = prepare(alloc, change)?;
     match routes.change(alloc, change) {
-        Ok(()) => Ok((reply, Some(made))),
+        Ok(left) => Ok((with_left(reply, left), Some(made))),
         Err(fault) => Ok((instead(alloc, fault, reply, made)?, None)),
     }
 }
@@ -131,30 +150,32 @@ pub fn serve_errand<R: Routes>(
     match errand {
         LocalErrand::Deny(code) => Ok((refusal(alloc, code)?, None)),
         LocalErrand::Look => Ok((look(alloc, local, routes)?, None)),
+        LocalErrand::Tabulate(moment) => Ok((tabulate(alloc, local, moment, routes)?, None)),
         LocalErrand::Write(change) => write(alloc, change, routes),
     }
 }
 
-/// Serves a request on a local path, whose information is that of its method and target: the reply, and the change that
+/// Serves a request on a local path, which was read at that moment, and whose information is that of its head: the reply, and the change that
 /// was made, if one was. A HEAD request is given the reply that GET would get, since its Content-Length is needed; its
 /// body isn't to be sent. Where memory ran out, no change was made.
 pub fn serve_local<R: Routes>(
     alloc: Global,
     local: &Local,
     info: &Info,
-    method: &str,
+    head: &Head,
+    moment: Moment,
     body: &[u8],
     user: &User,
     routes: &mut R,
 ) -> Result<(LocalReply, Option<Change>), NoMemory>
     ensures served { IfOk result (λ served. spec.IsServed local.now
-        (local_errand local.now info.now method.now body.now user.now)
+        (local_errand local.now info.now head.now moment body.now user.now)
         (R.opening routes.old) (R.seen routes.old) (R.own routes.old) (R.seen routes.new) (R.own routes.new)
         served.0 served.1) }
     ensures kept { OnErr result (R.own routes.new ≡ R.own routes.old) }
     ensures later { IsLater (R.seen routes.old) (R.seen routes.new) }
     ensures fixed { R.opening routes.new ≡ R.opening routes.old }
 {
-    let errand = local_errand(alloc, local, info, method, body, user)?;
+    let errand = local_errand(alloc, local, info, head, moment, body, user)?;
     serve_errand(alloc, local, errand, routes)
 }

@@ -34,6 +34,7 @@ impl Cause {
             405 => Cause::new("MethodNotAllowed", "the method is not served here"),
             409 => Cause::new("AlreadyExists", "the APIService exists"),
             413 => Cause::new("RequestEntityTooLarge", "the request body is too large"),
+            415 => Cause::new("UnsupportedMediaType", "only merge patches are served"),
             422 => Cause::new("Invalid", "the APIService is not accepted"),
             431 => Cause::new("RequestHeaderTooLarge", "the request head is too large"),
             500 => Cause::new("InternalError", "the audit event was not stored"),

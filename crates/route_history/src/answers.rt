@@ -1,16 +1,13 @@
 //! What one table answers to each question of the trait `Routes`.
-ghost use Rattle.std.specs.Prelude.{◌≡◌, ◌++◌, ◌∷◌, if◌then◌else◌, None, Some, IfOk, is_some};
+ghost use Rattle.std.specs.Prelude.{◌≡◌, ◌++◌, ◌∷◌, IfOk, is_some};
 ghost use Rattle.std.specs.List.{flat_map};
 ghost use Rattle.apiservice_rows.specs.Row.{Row};
-ghost use Rattle.apiservice_table.specs.Changes.{refusal};
 ghost use Rattle.apiservice_table.specs.Services as services;
 ghost use Rattle.apiservice_table.specs.Table as spec;
-ghost use Rattle.apiservice_table.specs.declared.change.Change.TheVariants as asked;
-ghost use Rattle.apiservice_table.specs.declared.change.ChangeFault.TheVariants as fault;
 ghost use Rattle.discovery_merge.specs.Documents.{group_list_text, group_text};
 
-use apiservice_rows::{MOST_ROWS, Row, Rows};
-use apiservice_table::{Change, ChangeFault, RouteTable};
+use apiservice_rows::{Row, Rows};
+use apiservice_table::RouteTable;
 use front_base::{Bytes, NoMemory};
 use std::alloc::{AllocError, Global};
 
@@ -59,6 +56,16 @@ pub fn object(alloc: Global, table: &RouteTable, name: &str) -> Result<Option<By
 {
     match table.named(name) {
         Some(row) => Ok(Some(row.object.copy(alloc)?)),
+        None => Ok(None),
+    }
+}
+
+/// A copy of the row of the APIService of that name.
+pub fn named(alloc: Global, table: &RouteTable, name: &str) -> Result<Option<Row>, NoMemory>
+    ensures { IfOk result (λ found. found ≡ spec.row_named name.now table.now.rows) }
+{
+    match table.named(name) {
+        Some(row) => Ok(Some(row.copy(alloc)?)),
         None => Ok(None),
     }
 }
@@ -112,47 +119,5 @@ pub fn group(alloc: Global, table: &RouteTable, name: &str) -> Result<Option<Byt
     match table.group(name) {
         Some(text) => Ok(Some(Bytes::new(text.to_vec(alloc)?))),
         None => Ok(None),
-    }
-}
-
-// Whether a row of that name is there.
-fn holds(table: &RouteTable, name: &str) -> bool
-    ensures { result ≡ is_some (spec.row_named name.now table.now.rows) }
-{
-    table.named(name).is_some()
-}
-
-// Missing, unless a row of that name is there.
-fn missing(table: &RouteTable, name: &str) -> Option<ChangeFault>
-    ensures { result ≡ (if is_some (spec.row_named name.now table.now.rows) then None else Some fault.Missing) }
-{
-    if holds(table, name) {
-        None
-    } else {
-        Some(ChangeFault::Missing)
-    }
-}
-
-// Why a table doesn't take a new row, if it doesn't.
-fn unfit(table: &RouteTable, row: &Row) -> Option<ChangeFault>
-    ensures { result ≡ refusal table.now.rows (asked.Create row.now) }
-{
-    if holds(table, row.name.as_str()) {
-        Some(ChangeFault::Exists)
-    } else if table.rows().len() < MOST_ROWS {
-        None
-    } else {
-        Some(ChangeFault::Full)
-    }
-}
-
-/// Why a table doesn't take a change, if it doesn't.
-pub fn refusal_of(table: &RouteTable, change: &Change) -> Option<ChangeFault>
-    ensures { result ≡ refusal table.now.rows change.now }
-{
-    match change {
-        Change::Create(row) => unfit(table, row),
-        Change::Replace(row) => missing(table, row.name.as_str()),
-        Change::Delete(name) => missing(table, name.as_str()),
     }
 }

@@ -15,7 +15,6 @@ mod open;
 mod prefix;
 mod rule;
 
-pub use answers::refusal_of;
 pub use copy::{NextChange, RouteCopy, TableCopy};
 pub use history::{HistoryHead, HistoryPrefix, RouteName, SeenHistory};
 pub use open::{NamedRoutes, NewRoutes};

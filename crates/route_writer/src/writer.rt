@@ -1,12 +1,14 @@
-ghost use Rattle.std.specs.Prelude.{◌≡◌, ◌<◌, ◌^◌, ◌++◌, ◌∷◌, [], false, List, None, length, IfErr, MatchBool, OnOk, OnErr};
-ghost use Rattle.apiservice_table.specs.Changes.{after, refusal, IsDue, IsLater};
+ghost use Rattle.std.specs.Prelude.{◌≡◌, ◌<◌, ◌^◌, ◌++◌, ◌∷◌, [], false, List, None, length, IfErr, IfOk, MatchBool, OnOk, OnErr};
+ghost use Rattle.apiservice_table.specs.Changes.{after, left_by, refusal, IsDue, IsLater};
 ghost use Rattle.apiservice_table.specs.declared.change.Change.{Change};
 ghost use Rattle.apiservice_table.specs.declared.change.ChangeFault.TheVariants as fault;
 ghost use Rattle.left_right.specs.Handles.{published, pending};
 
-use apiservice_table::{Change, ChangeFault};
+use apiservice_table::{Change, ChangeFault, the_last_change_counts};
+use front_base::Bytes;
 use left_right::{Absorb, WriteHandle};
-use route_history::{Prefix, TableCopy, refusal_of};
+use route_history::{Prefix, TableCopy};
+use std::alloc::Global;
 use std::sync::{Mutex, Wait};
 
 // The most changes of a history.
@@ -95,8 +97,15 @@ impl<
         Ok(())
     }
 
-    /// Makes a change after all that is published, or refuses it, and has the caller see what it was decided on.
-    pub fn change(&mut self, me: &mut P, change: Change) -> Result<(), ChangeFault>
+    /// Makes a change after all that is published, or refuses it, and has the caller see what it was decided on. A patch answers
+    /// the object that it left, copied before it was made.
+    pub fn change(
+        &mut self,
+        alloc: Global,
+        me: &mut P,
+        change: Change,
+    ) -> Result<Option<Bytes>, ChangeFault>
+        ensures left { IfOk result (λ left. left ≡ left_by change (after P.opening (P.history me.new).changes)) }
         ensures later { IsLater (P.history me.old).changes (P.history me.new).changes }
         ensures home { (P.history me.new).home ≡ P.home }
         ensures took { OnOk result ((before : List Change) × IsLater (P.history me.old).changes before
@@ -112,12 +121,16 @@ impl<
         if shown.size() >= MOST_CHANGES || len > shown.size() {
             return Err(ChangeFault::NoMemory);
         }
+        the_last_change_counts();
         let seen = me.later(shown);
-        let refused = refusal_of(copy.table(), &change);
+        let tried = copy.table().try_change(alloc, &change);
         *me = seen;
-        match refused {
-            Some(fault) => Err(fault),
-            None => self.add(me, change),
+        match tried {
+            Err(fault) => Err(fault),
+            Ok(left) => match self.add(me, change) {
+                Ok(()) => Ok(left),
+                Err(fault) => Err(fault),
+            },
         }
     }
 }
@@ -130,10 +143,12 @@ pub fn change_locked<
     R: Wait + Copy + Drop,
 >(
     rt: &R,
+    alloc: Global,
     writer: &Mutex<RouteWriter<P, T, O, R>>,
     prefix: &mut P,
     change: Change,
-) -> Result<(), ChangeFault>
+) -> Result<Option<Bytes>, ChangeFault>
+    ensures left { IfOk result (λ left. left ≡ left_by change (after P.opening (P.history prefix.new).changes)) }
     ensures later { IsLater (P.history prefix.old).changes (P.history prefix.new).changes }
     ensures home { (P.history prefix.new).home ≡ P.home }
     ensures took { OnOk result ((before : List Change) × IsLater (P.history prefix.old).changes before
@@ -142,5 +157,5 @@ pub fn change_locked<
     ensures refused { IfErr result (λ e. IsDue e (refusal (after P.opening (P.history prefix.new).changes) change)) }
 {
     let mut writer = writer.lock(rt);
-    writer.change(prefix, change)
+    writer.change(alloc, prefix, change)
 }

@@ -14,7 +14,7 @@ use Rattle.front_ports.specs.Side.{Side}
 use Rattle.front_ports.specs.Wishes.{GaveWishes, GivesWish}
 use Rattle.front_ports.specs.Written.{AppendsFront}
 use Rattle.http_edge.specs.Calls.{GotRequest, NoRequest, Stopped, Awaits}
-use Rattle.http_edge.specs.Requests.{StartsWith, asks, IsRequests, IsStop, ReadsTo, IsUnfinished}
+use Rattle.http_edge.specs.Requests.{StartsWith, asks, IsStop, ReadsTo, IsUnfinished}
 use Rattle.http_edge.specs.declared.request.End.{End}
 use Rattle.http_edge.specs.declared.request.End.TheVariants as end
 use Rattle.http_edge.specs.declared.request.Request.{Request}

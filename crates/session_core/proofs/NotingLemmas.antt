@@ -177,7 +177,7 @@ module _ (join : Join) (hides : HidesLater) (stages : Stages) (both : DueOfBoth)
   }
 
   abbrev pub Handles : WorkState → Routed → Type 0
-  Handles a routed = Handled set (errand_in set r) m.opening m.seen m.own m.lanes w seen own l1 a routed
+  Handles a routed = Handled set (errand_in set r last) m.opening m.seen m.own m.lanes w seen own l1 a routed
 
   -- what its arrival is due, whatever is known of it later
   due_first : (facts : Facts) (status started complete : ℕ) (reply : Kept)
@@ -242,9 +242,9 @@ module _ (join : Join) (hides : HidesLater) (stages : Stages) (both : DueOfBoth)
   module _ (routed : Routed) (a v : WorkState) (h : Handles a routed) (dial : DialState) (b : Recording) (w0 w1 : Option (List ℕ)) (rose : Type 0)
       (adds : Adds m.notes nn (exchange_of r routed v ∷ [])) where
     decides_by : has_refused set v.notes ≡ has_refused set a.notes
-        → Decides set.endpoints (errand_after set v.notes (errand_in set r)) m.opening m.seen m.own seen own routed
+        → Decides set.endpoints (errand_after set v.notes (errand_in set r last)) m.opening m.seen m.own seen own routed
     decides_by e =
-        subst (λ (x : Errand). Decides set.endpoints x m.opening m.seen m.own seen own routed) (after_same set (errand_in set r) a.notes v.notes e) h.decides
+        subst (λ (x : Errand). Decides set.endpoints x m.opening m.seen m.own seen own routed) (after_same set (errand_in set r last) a.notes v.notes e) h.decides
 
     -- the facts in the end
     abbrev pub final : Came → Kept → ℕ → ℕ → Facts
@@ -593,7 +593,7 @@ module _ (join : Join) (hides : HidesLater) (stages : Stages) (both : DueOfBoth)
   abbrev pub judged : WorkState
   judged = first_work (decision_in set r) (first_facts set (stamp_at peer m k.last) r arrived.is_begun.kept)
 
-  judged_by : (P : Errand → WorkState → Type 0) → P begun.errand begins → P (errand_in set r) judged
+  judged_by : (P : Errand → WorkState → Type 0) → P begun.errand begins → P (errand_in set r k.last) judged
   judged_by P h =
       subst (λ (x : Begun). P x.errand (first_work x.decision x.facts)) arrived.is_begun.is
       (subst (λ (t : WorkState). P begun.errand t) begins_is h)
@@ -608,7 +608,7 @@ module _ (join : Join) (hides : HidesLater) (stages : Stages) (both : DueOfBoth)
       → Outcomes set peer r m (after k dial b) w0 w1 rose v0 v1 ended
   answered_outcomes routed a v h dial b w0 w1 rose v0 v1 adds res closing ended is closing_is s f g may =
       subst (λ (o : Outcome). Outcomes set peer r m (after k dial b) w0 w1 rose v0 v1 o) (sym is)
-      (subst (λ (q : BayState). Handled set (errand_in set r) q.opening q.seen q.own q.lanes judged seen own l1 a routed → Adds q.notes nn (exchange_of r routed v ∷ [])
+      (subst (λ (q : BayState). Handled set (errand_in set r k.last) q.opening q.seen q.own q.lanes judged seen own l1 a routed → Adds q.notes nn (exchange_of r routed v ∷ [])
       → op ≡ q.opening → IfOk res (AnsweredTo set r routed.handling q.dial dial reads a b v w0 w1 rose)
       → OnErr res (AnswerHalts set r routed.handling q.dial dial reads a b v w0 w1 rose)
       → Outcomes set peer r m (after q dial b) w0 w1 rose v0 v1 (outcome_of res closing))

@@ -93,7 +93,7 @@ pub record ExchangedTo (set : Settings) (peer : List ℕ) (r : Request) (m : Bay
     (x : Exchange) : Type 0 where
   pub request_is : x.request ≡ r
   -- the rows that were seen decide, and the change that it makes stands next
-  pub routed : Decides set.endpoints (errand_after set x.offers (errand_in set r)) m.opening m.seen m.own n.seen n.own (routed_of x)
+  pub routed : Decides set.endpoints (errand_after set x.offers (errand_in set r x.facts.received)) m.opening m.seen m.own n.seen n.own (routed_of x)
   -- it was sent on where it is to be, its link was handed back, and what came is what all bytes of the link say
   pub came : Came
   pub sent : Comes (is_head r) (is_long r) (sent_on r (effective_in set r) (next_id m) x.handling) m.dial n.dial came
@@ -179,7 +179,7 @@ pub record Undecided (set : Settings) (m n : BayState) (w0 w : Option (List ℕ)
 -- it was handled after the events of its arrival, and memory ran out before it was sent on, or while it was
 pub record SendingStopped (set : Settings) (r : Request) (m n : BayState) (w0 w : Option (List ℕ)) (stamp : Stamp) (due : List Due)
     (x : Exchange) : Type 0 where
-  pub routed : Decides set.endpoints (errand_after set x.offers (errand_in set r)) m.opening m.seen m.own n.seen n.own (routed_of x)
+  pub routed : Decides set.endpoints (errand_after set x.offers (errand_in set r x.facts.received)) m.opening m.seen m.own n.seen n.own (routed_of x)
   pub sent : StopsSending (sent_on r (effective_in set r) (next_id m) x.handling) m.dial n.dial
   pub no_reply : HasNoReply m n w0 w stamp x
   pub due_is : due ≡ arrival_due set x
@@ -209,7 +209,7 @@ pub record StopsAtEnd (set : Settings) (r : Request) (m n : BayState) (w0 w : Op
 -- it was handled and sent on where it is to be, its link was handed back, and its status is that of its reply
 pub record ReplyStopped (set : Settings) (r : Request) (m n : BayState) (w0 w : Option (List ℕ)) (rose : Type 0) (stamp : Stamp)
     (due : List Due) (x : Exchange) : Type 0 where
-  pub routed : Decides set.endpoints (errand_after set x.offers (errand_in set r)) m.opening m.seen m.own n.seen n.own (routed_of x)
+  pub routed : Decides set.endpoints (errand_after set x.offers (errand_in set r x.facts.received)) m.opening m.seen m.own n.seen n.own (routed_of x)
   pub came : Came
   pub sent : Comes (is_head r) (is_long r) (sent_on r (effective_in set r) (next_id m) x.handling) m.dial n.dial came
   pub link_is : x.link ≡ link_of came

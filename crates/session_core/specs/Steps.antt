@@ -33,7 +33,7 @@ pub record IsBegun (set : Settings) (stamp : Stamp) (r : Request) (begun : Begun
   pub kept : Kept
   pub kept_is : KeepsRequest (decision_in set r) (attributes_in set r) r kept
   pub is : begun ≡ record {
-    errand = errand_in set r;
+    errand = errand_in set r stamp.received;
     decision = decision_in set r;
     facts = first_facts set stamp r kept;
   }

@@ -29,7 +29,7 @@ fn begin(
 ) -> Result<Begun, NoMemory>
     ensures { IfOk result (spec.IsBegun settings.now stamp.now request.now) }
 {
-    let judged = judge(alloc, settings, paths, request)?;
+    let judged = judge(alloc, settings, paths, request, stamp.received)?;
     let Judged {
         attributes,
         errand,

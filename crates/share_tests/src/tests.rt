@@ -2,7 +2,7 @@ ghost use Rattle.std.specs.Prelude.{◌≡◌};
 
 use apiservice_rows::{Rows, read_row};
 use apiservice_table::{Change, ChangeFault, RouteTable, Routes};
-use front_base::Text;
+use front_base::{Bytes, Text};
 use route_history::{NewRoutes, RouteName};
 use route_share::share_routes;
 use std::alloc::Global;
@@ -34,12 +34,13 @@ const B: Api = Api {
 "spec":{"group":"b","version":"v1","groupPriorityMinimum":1,"versionPriority":1}}"#,
 };
 
-fn came_of(done: Result<(), ChangeFault>) -> &'static str {
+fn came_of(done: Result<Option<Bytes>, ChangeFault>) -> &'static str {
     match done {
-        Ok(()) => "done",
+        Ok(_) => "done",
         Err(ChangeFault::Exists) => "exists",
         Err(ChangeFault::Missing) => "missing",
         Err(ChangeFault::Full) => "full",
+        Err(ChangeFault::Invalid) => "invalid",
         Err(ChangeFault::NoMemory) => "no memory",
     }
 }

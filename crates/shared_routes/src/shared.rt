@@ -1,6 +1,6 @@
 ghost use Rattle.std.specs.Prelude.{◌≡◌, ◌^◌, ◌++◌, ◌∷◌, [], List, length, min, is_some, None, IfOk, IfErr, IfSome, OnOk, OnErr};
 ghost use Rattle.std.specs.Fn.{FnReturnsAt};
-ghost use Rattle.apiservice_table.specs.Changes.{after, refusal, IsDue, IsLater, Took};
+ghost use Rattle.apiservice_table.specs.Changes.{after, left_by, refusal, IsDue, IsLater, Took};
 ghost use Rattle.apiservice_table.specs.Table.{Table};
 ghost use Rattle.apiservice_table.specs.declared.change.Change.{Change};
 
@@ -149,6 +149,10 @@ impl<P: Prefix, T: TableCopy<P, O> + Absorb<O, State = P>, O: Drop, R: Wait + Co
         self.look(|table| answers::object(alloc, table, name))
     }
 
+    fn named(&mut self, alloc: Global, name: &str) -> Result<Option<Row>, NoMemory> {
+        self.look(|table| answers::named(alloc, table, name))
+    }
+
     fn service_list(&mut self, alloc: Global) -> Result<Bytes, NoMemory> {
         self.look(|table| answers::service_list(alloc, table))
     }
@@ -161,7 +165,7 @@ impl<P: Prefix, T: TableCopy<P, O> + Absorb<O, State = P>, O: Drop, R: Wait + Co
         self.look(|table| answers::group(alloc, table, name))
     }
 
-    fn change(&mut self, _alloc: Global, change: Change) -> Result<(), ChangeFault> {
+    fn change(&mut self, alloc: Global, change: Change) -> Result<Option<Bytes>, ChangeFault> {
         let SharedRoutes {
             rt,
             writer,
@@ -170,9 +174,9 @@ impl<P: Prefix, T: TableCopy<P, O> + Absorb<O, State = P>, O: Drop, R: Wait + Co
             ..
         } = self;
         places.reserve(1)?;
-        change_locked(rt, writer, prefix, change)?;
+        let left = change_locked(rt, alloc, writer, prefix, change)?;
         places.push_reserved(prefix.size() - 1);
-        Ok(())
+        Ok(left)
     }
 
     fn seen_count(&self) -> u64 {

@@ -52,6 +52,7 @@ fn copy_local(alloc: Global, local: &Local) -> Result<Local, NoMemory>
         Local::ResourceList => Local::ResourceList,
         Local::AllServices => Local::AllServices,
         Local::OneService(name) => Local::OneService(name.copy(alloc)?),
+        Local::ServicesNamed(name) => Local::ServicesNamed(name.copy(alloc)?),
         Local::Unserved => Local::Unserved,
     })
 }
@@ -62,6 +63,7 @@ fn copy_own(alloc: Global, own: &LocalErrand) -> Result<LocalErrand, NoMemory>
     match own {
         LocalErrand::Deny(code) => Ok(LocalErrand::Deny(*code)),
         LocalErrand::Look => Ok(LocalErrand::Look),
+        LocalErrand::Tabulate(moment) => Ok(LocalErrand::Tabulate(*moment)),
         LocalErrand::Write(change) => Ok(LocalErrand::Write(change.copy(alloc)?)),
     }
 }

@@ -5,7 +5,7 @@ use Rattle.std.specs.List.{list_any}
 use Rattle.apiservice_table.specs.declared.change.Change.{Change}
 use Rattle.audit_core.specs.Answer.{link_status}
 use Rattle.audit_core.specs.Unread.{is_unread}
-use Rattle.audit_core.specs.Errand.{errand_in, info_in, user_in, act_in, acting_in, other_of, act_refusal, first_errand, path_errand, route_errand, is_refused, is_unknown, is_upgrade}
+use Rattle.audit_core.specs.Errand.{errand_in, info_in, user_in, act_in, acting_in, other_of, act_refusal, first_errand, path_errand, route_errand, is_refused, is_unknown, is_upgrade, local_in, narrowed_if_any}
 use Rattle.audit_core.specs.Exchange.{decision_in, agent_in}
 use Rattle.audit_core.specs.Route.{route_of}
 use Rattle.audit_core.specs.declared.errand.Errand.{Errand}
@@ -72,14 +72,14 @@ low_none w e = ap (λ l. Worlds.low_wish l w) e ∙ ap (λ l. nothing_but l w.as
 
 pub none_alike : (setup : Setup) (s t : State) (bay moment : ℕ) (peer other : List ℕ) (r q : Request)
     → (decision_in setup.set r).level ≡ level.None → (decision_in setup.set q).level ≡ level.None
-    → asked_by (errand_in setup.set r) ≡ asked_by (errand_in setup.set q)
+    → asked_by (errand_in setup.set r moment) ≡ asked_by (errand_in setup.set q moment)
     → Worlds.shown_step setup s (step.Begin bay r peer moment) ≡ Worlds.shown_step setup t (step.Begin bay q other moment)
 unfolding Worlds.shown_step wish_of
 none_alike setup s t bay moment peer other r q d e a =
     ap (λ w. BeginMove bay w moment)
-    (low_none (wish_of setup peer r) d
+    (low_none (wish_of setup peer r moment) d
     ∙ ap (nothing_but level.None) a
-    ∙ sym (low_none (wish_of setup other q) e))
+    ∙ sym (low_none (wish_of setup other q moment) e))
 
 -- ---- requests with one head
 
@@ -123,10 +123,10 @@ head_kept set head kept = kept_if (request_due (head_level set head) (head_info 
 keeps_after : Setup → Head → List ℕ → Kept
 keeps_after setup head body = setup.keep (head_decision setup.set head).omit_managed body
 
-by_head : (setup : Setup) (peer : List ℕ) (r : Request)
-    → wish_of setup peer r ≡ wish_at setup peer r.head (errand_in setup.set r) (head_kept setup.set r.head (keeps_after setup r.head r.body))
+by_head : (setup : Setup) (peer : List ℕ) (r : Request) (moment : ℕ)
+    → wish_of setup peer r moment ≡ wish_at setup peer r.head (errand_in setup.set r moment) (head_kept setup.set r.head (keeps_after setup r.head r.body))
 unfolding wish_of wish_at head_kept keeps_after head_level head_decision head_info head_user head_act decision_in user_in act_in info_in
-by_head setup peer r = refl
+by_head setup peer r moment = refl
 
 same_shown : (b : Bool) (k j : Kept) → shown k ≡ shown j → shown_if b (kept_if b k) ≡ shown_if b (kept_if b j)
 same_shown true k j e = e
@@ -158,16 +158,16 @@ shown_wish w = Worlds.low_wish w.level w
 shown_at : Setup → List ℕ → List ℕ → Head → Errand → Wish
 shown_at setup peer body head own = shown_wish (wish_at setup peer head own (head_kept setup.set head (keeps_after setup head body)))
 
-heads_alike : (setup : Setup) (peer : List ℕ) (r q : Request) → r.head ≡ q.head
-    → errand_in setup.set r ≡ errand_in setup.set q
-    → shown_at setup peer r.body r.head (errand_in setup.set r) ≡ shown_at setup peer q.body r.head (errand_in setup.set r)
-    → shown_wish (wish_of setup peer r) ≡ shown_wish (wish_of setup peer q)
+heads_alike : (setup : Setup) (peer : List ℕ) (r q : Request) (moment : ℕ) → r.head ≡ q.head
+    → errand_in setup.set r moment ≡ errand_in setup.set q moment
+    → shown_at setup peer r.body r.head (errand_in setup.set r moment) ≡ shown_at setup peer q.body r.head (errand_in setup.set r moment)
+    → shown_wish (wish_of setup peer r moment) ≡ shown_wish (wish_of setup peer q moment)
 unfolding shown_at
-heads_alike setup peer r q h e b =
-    ap shown_wish (by_head setup peer r)
+heads_alike setup peer r q moment h e b =
+    ap shown_wish (by_head setup peer r moment)
     ∙ b
     ∙ both (shown_at setup peer q.body) h e
-    ∙ sym (ap shown_wish (by_head setup peer q))
+    ∙ sym (ap shown_wish (by_head setup peer q moment))
 
 bodies_at : (setup : Setup) (peer body text : List ℕ) (head : Head) (own : Errand)
     → shown (keeps_after setup head body) ≡ shown (keeps_after setup head text)
@@ -197,15 +197,15 @@ unfolding keeps_after head_decision head_user head_info decision_in user_in info
 keeps_so setup r body = refl
 
 pub bodies_alike : (setup : Setup) (s t : State) (bay moment : ℕ) (peer : List ℕ) (r q : Request) → r.head ≡ q.head
-    → errand_in setup.set r ≡ errand_in setup.set q
+    → errand_in setup.set r moment ≡ errand_in setup.set q moment
     → shown (setup.keep (decision_in setup.set r).omit_managed r.body)
     ≡ shown (setup.keep (decision_in setup.set r).omit_managed q.body)
     → Worlds.shown_step setup s (step.Begin bay r peer moment) ≡ Worlds.shown_step setup t (step.Begin bay q peer moment)
 unfolding Worlds.shown_step shown_wish
 bodies_alike setup s t bay moment peer r q h e b =
     ap (λ w. BeginMove bay w moment)
-    (heads_alike setup peer r q h e
-    (bodies_at setup peer r.body q.body r.head (errand_in setup.set r)
+    (heads_alike setup peer r q moment h e
+    (bodies_at setup peer r.body q.body r.head (errand_in setup.set r moment)
     (ap shown (keeps_so setup r r.body) ∙ b ∙ sym (ap shown (keeps_so setup r q.body)))))
 
 -- two bodies are kept alike that differ in managed fields alone, where these are omitted
@@ -226,7 +226,7 @@ same_kept alike keep keeps omit these those v w o short less stands means same =
     ∙ sym (ap (λ x. keep x those) o)
 
 pub managed_alike : KeptAlike → (setup : Setup) (s t : State) (bay moment : ℕ) (peer : List ℕ) (r q : Request) (v w : Value)
-    → r.head ≡ q.head → errand_in setup.set r ≡ errand_in setup.set q
+    → r.head ≡ q.head → errand_in setup.set r moment ≡ errand_in setup.set q moment
     → (decision_in setup.set r).omit_managed ≡ true
     → ((omit : Bool) (body : List ℕ) → IsKept omit body (setup.keep omit body))
     → length r.body ≤ MOST_KEPT_BYTES → length q.body ≤ MOST_KEPT_BYTES
@@ -237,13 +237,13 @@ managed_alike alike setup s t bay moment peer r q v w h e o keeps short less sta
     (ap shown (same_kept alike setup.keep keeps (decision_in setup.set r).omit_managed r.body q.body v w o short less stands means same))
 
 pub metadata_alike : (setup : Setup) (s t : State) (bay moment : ℕ) (peer : List ℕ) (r q : Request) → r.head ≡ q.head
-    → errand_in setup.set r ≡ errand_in setup.set q → (decision_in setup.set r).level ≡ level.Metadata
+    → errand_in setup.set r moment ≡ errand_in setup.set q moment → (decision_in setup.set r).level ≡ level.Metadata
     → Worlds.shown_step setup s (step.Begin bay r peer moment) ≡ Worlds.shown_step setup t (step.Begin bay q peer moment)
 unfolding Worlds.shown_step shown_wish
 metadata_alike setup s t bay moment peer r q h e l =
     ap (λ w. BeginMove bay w moment)
-    (heads_alike setup peer r q h e
-    (no_bodies_at setup peer r.body q.body r.head (errand_in setup.set r) (sym (level_is setup.set r) ∙ l)))
+    (heads_alike setup peer r q moment h e
+    (no_bodies_at setup peer r.body q.body r.head (errand_in setup.set r moment) (sym (level_is setup.set r) ∙ l)))
 
 -- ---- requests that want the same
 
@@ -260,20 +260,20 @@ head_errand set head =
 head_local : Head → Option Local
 head_local head = local_of (head_info head).path
 
-wants_by_head : (set : Settings) (r : Request) → head_local r.head ≡ None → errand_in set r ≡ head_errand set r.head
-unfolding errand_in head_errand head_local head_info head_act user_in act_in info_in
-wants_by_head set r e =
+wants_by_head : (set : Settings) (r : Request) (moment : ℕ) → head_local r.head ≡ None → errand_in set r moment ≡ head_errand set r.head
+unfolding errand_in local_in head_errand head_local head_info head_act user_in act_in info_in
+wants_by_head set r moment e =
     ap
-    (λ local. first_errand (is_refused (info_of r.head.method r.head.target) || is_unread (audit_info r.head.method r.head.target).path r.head.target) (is_unknown (who set.tokens r.head)) (list_any is_upgrade r.head.headers) (act_refusal (head_act set r.head)) (path_errand (audit_info r.head.method r.head.target) r.head.method r.body (or_own (other_of (head_act set r.head)) (user_of (who set.tokens r.head))) local))
+    (λ local. first_errand (is_refused (info_of r.head.method r.head.target) || is_unread (audit_info r.head.method r.head.target).path r.head.target) (is_unknown (who set.tokens r.head)) (list_any is_upgrade r.head.headers) (act_refusal (head_act set r.head)) (path_errand (audit_info r.head.method r.head.target) r.head moment r.body (or_own (other_of (head_act set r.head)) (user_of (who set.tokens r.head))) (narrowed_if_any r.head.target local)))
     e
 
-pub apis_alike : (setup : Setup) (r q : Request) → r.head ≡ q.head → local_of (info_in r).path ≡ None
-    → errand_in setup.set r ≡ errand_in setup.set q
+pub apis_alike : (setup : Setup) (r q : Request) (moment : ℕ) → r.head ≡ q.head → local_of (info_in r).path ≡ None
+    → errand_in setup.set r moment ≡ errand_in setup.set q moment
 unfolding head_local head_info info_in
-apis_alike setup r q h e =
-    wants_by_head setup.set r e
+apis_alike setup r q moment h e =
+    wants_by_head setup.set r moment e
     ∙ ap (head_errand setup.set) h
-    ∙ sym (wants_by_head setup.set q (sym (ap head_local h) ∙ e))
+    ∙ sym (wants_by_head setup.set q moment (sym (ap head_local h) ∙ e))
 
 -- ---- requests that act as another user
 
@@ -312,7 +312,7 @@ pub acting_shows : (setup : Setup) (s t : State) (bay moment : ℕ) (peer other 
     → Worlds.shown_step setup s (step.Begin bay r peer moment) ≢ Worlds.shown_step setup t (step.Begin bay q other moment)
 unfolding Worlds.shown_step wish_or wish_of
 acting_shows setup s t bay moment peer other r q n d e =
-    d (same_acting (wish_of setup peer r) (wish_of setup other q) n (ap (wish_or (wish_of setup peer r)) e))
+    d (same_acting (wish_of setup peer r moment) (wish_of setup other q moment) n (ap (wish_or (wish_of setup peer r moment)) e))
 
 -- ---- answers
 

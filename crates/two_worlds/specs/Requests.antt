@@ -10,7 +10,7 @@ use Rattle.front_base.specs.declared.level.Level.{Level}
 use Rattle.front_base.specs.declared.user.User.{User}
 use Rattle.http_edge.specs.declared.request.Request.{Request}
 use Rattle.local_replies.specs.declared.errand.LocalErrand.{LocalErrand}
-use Rattle.local_replies.specs.declared.errand.LocalErrand.TheVariants.{Deny, Look, Write}
+use Rattle.local_replies.specs.declared.errand.LocalErrand.TheVariants.{Deny, Look, Tabulate, Write}
 use Rattle.stage_event.specs.Due.{request_due}
 use Rattle.stage_event.specs.declared.facts.Kept.{Kept}
 use Rattle.stage_event.specs.declared.facts.Kept.TheVariants.{NotAsked}
@@ -21,6 +21,7 @@ use Rattle.two_worlds.specs.Setup.{Setup}
 abbrev pub local_asked : LocalErrand → Option Change
 local_asked (Deny code) = None
 local_asked Look = None
+local_asked (Tabulate moment) = None
 local_asked (Write change) = Some change
 
 abbrev pub asked_by : Errand → Option Change
@@ -51,9 +52,9 @@ abbrev pub kept_if : Bool → Kept → Kept
 kept_if true kept = kept
 kept_if false kept = NotAsked
 
--- a request from that address, by the definitions of `audit_core`
-unfoldable pub wish_of : Setup → List ℕ → Request → Wish
-wish_of setup peer r =
+-- a request from that address that came at that moment, by the definitions of `audit_core`
+unfoldable pub wish_of : Setup → List ℕ → Request → ℕ → Wish
+wish_of setup peer r moment =
     record {
       level = (decision_in setup.set r).level;
       target = r.head.target;
@@ -62,8 +63,8 @@ wish_of setup peer r =
       acting = acting_in setup.set r;
       peer = peer;
       agent = agent_in r.head.headers;
-      errand = errand_in setup.set r;
-      asked = asked_by (errand_in setup.set r);
+      errand = errand_in setup.set r moment;
+      asked = asked_by (errand_in setup.set r moment);
       is_head = bytes_eq r.head.method (codes "HEAD");
       managed = (decision_in setup.set r).omit_managed;
       body =

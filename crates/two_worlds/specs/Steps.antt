@@ -67,7 +67,7 @@ pub data Move : Type 0 where
   CutMove : Sink → TryTold → Move
 
 abbrev pub move_of : Setup → Step → Move
-move_of setup (step_is.Begin bay request peer moment) = BeginMove bay (wish_of setup peer request) moment
+move_of setup (step_is.Begin bay request peer moment) = BeginMove bay (wish_of setup peer request moment) moment
 move_of setup (step_is.Find bay seen) = FindMove bay seen
 move_of setup (step_is.Offer bay sink works) = OfferMove bay sink works
 move_of setup (step_is.Started bay status moment) = StartedMove bay status moment

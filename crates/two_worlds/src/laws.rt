@@ -65,14 +65,14 @@ pub fn one_secret_reaches_no_sink()
         ≡ sink_bytes text (sink_at (after_steps setup s (before ++ that ∷ after)).shared sink) }
     ensures metadata { (setup : Setup) (s : State) (before after : List Step) (bay moment : ℕ) (peer : List ℕ)
         (r q : Request) (sink : Sink) (text : List Line → List ℕ)
-        → r.head ≡ q.head → errand_in setup.set r ≡ errand_in setup.set q
+        → r.head ≡ q.head → errand_in setup.set r moment ≡ errand_in setup.set q moment
         → (decision_in setup.set r).level ≡ level.Metadata
         → sink_bytes text (sink_at (after_steps setup s (before ++ step.Begin bay r peer moment ∷ after)).shared sink)
         ≡ sink_bytes text (sink_at (after_steps setup s (before ++ step.Begin bay q peer moment ∷ after)).shared sink) }
     ensures none { (setup : Setup) (s : State) (before after : List Step) (bay moment : ℕ) (peer other : List ℕ)
         (r q : Request) (sink : Sink) (text : List Line → List ℕ)
         → (decision_in setup.set r).level ≡ level.None → (decision_in setup.set q).level ≡ level.None
-        → asked_by (errand_in setup.set r) ≡ asked_by (errand_in setup.set q)
+        → asked_by (errand_in setup.set r moment) ≡ asked_by (errand_in setup.set q moment)
         → sink_bytes text (sink_at (after_steps setup s (before ++ step.Begin bay r peer moment ∷ after)).shared sink)
         ≡ sink_bytes text (sink_at (after_steps setup s (before ++ step.Begin bay q other moment ∷ after)).shared sink) }
     ensures reply { (setup : Setup) (s : State) (before after : List Step) (o : Open) (bay moment : ℕ)
@@ -91,19 +91,19 @@ pub fn one_secret_reaches_no_sink()
 pub fn what_is_alike()
     ensures none { (setup : Setup) (s t : State) (bay moment : ℕ) (peer other : List ℕ) (r q : Request)
         → (decision_in setup.set r).level ≡ level.None → (decision_in setup.set q).level ≡ level.None
-        → asked_by (errand_in setup.set r) ≡ asked_by (errand_in setup.set q)
+        → asked_by (errand_in setup.set r moment) ≡ asked_by (errand_in setup.set q moment)
         → shown_step setup s (step.Begin bay r peer moment) ≡ shown_step setup t (step.Begin bay q other moment) }
     ensures metadata { (setup : Setup) (s t : State) (bay moment : ℕ) (peer : List ℕ) (r q : Request)
-        → r.head ≡ q.head → errand_in setup.set r ≡ errand_in setup.set q
+        → r.head ≡ q.head → errand_in setup.set r moment ≡ errand_in setup.set q moment
         → (decision_in setup.set r).level ≡ level.Metadata
         → shown_step setup s (step.Begin bay r peer moment) ≡ shown_step setup t (step.Begin bay q peer moment) }
     ensures bodies { (setup : Setup) (s t : State) (bay moment : ℕ) (peer : List ℕ) (r q : Request)
-        → r.head ≡ q.head → errand_in setup.set r ≡ errand_in setup.set q
+        → r.head ≡ q.head → errand_in setup.set r moment ≡ errand_in setup.set q moment
         → shown (setup.keep (decision_in setup.set r).omit_managed r.body)
         ≡ shown (setup.keep (decision_in setup.set r).omit_managed q.body)
         → shown_step setup s (step.Begin bay r peer moment) ≡ shown_step setup t (step.Begin bay q peer moment) }
     ensures managed { (setup : Setup) (s t : State) (bay moment : ℕ) (peer : List ℕ) (r q : Request) (v w : Value)
-        → r.head ≡ q.head → errand_in setup.set r ≡ errand_in setup.set q
+        → r.head ≡ q.head → errand_in setup.set r moment ≡ errand_in setup.set q moment
         → (decision_in setup.set r).omit_managed ≡ true
         → ((omit : Bool) (body : List ℕ) → IsKept omit body (setup.keep omit body))
         → length r.body ≤ MOST_KEPT_BYTES → length q.body ≤ MOST_KEPT_BYTES
@@ -113,8 +113,8 @@ pub fn what_is_alike()
         → current_at s bay ≡ Some o → reply_due o.exchange.level o.exchange.facts.info ≡ false
         → link_status link ≡ link_status other
         → shown_step setup s (step.Finish bay link reply moment) ≡ shown_step setup s (step.Finish bay other text moment) }
-    ensures apis { (setup : Setup) (r q : Request) → r.head ≡ q.head → local_of (info_in r).path ≡ None
-        → errand_in setup.set r ≡ errand_in setup.set q }
+    ensures apis { (setup : Setup) (r q : Request) (moment : ℕ) → r.head ≡ q.head → local_of (info_in r).path ≡ None
+        → errand_in setup.set r moment ≡ errand_in setup.set q moment }
 {
     one_kept();
 }

@@ -5,7 +5,7 @@ use Rattle.std.specs.Str.Iter.{HasSubslice}
 use lib.Utf8.{encode}
 use Rattle.std.specs.Fmt.{digits}
 use Rattle.std.specs.Str.{chars, is_utf8}
-use Rattle.audit_core.specs.Errand.{act_in, errand_in, info_in, user_in}
+use Rattle.audit_core.specs.Errand.{act_in, errand_in, info_in, local_in, user_in}
 use Rattle.audit_core.specs.Unread.{is_unread}
 use Rattle.audit_core.specs.Exchange.{decision_in}
 use Rattle.event_text.specs.Line.{line_text, event_members, request_members, reply_members, time_members}
@@ -35,17 +35,17 @@ use Rattle.world_examples.specs.Acting.{rooted, acting_steps, acting_log}
 
 pub acting_taken : map Worlds.is_taken (Steps.answers_to rooted (Steps.start 1) (acting_steps (codes "ann")))
     ≡ true ∷ true ∷ true ∷ true ∷ true ∷ true ∷ true ∷ true ∷ []
-unfolding encode digits chars is_utf8 without_end without_start percent_decode by_index errand_in is_unread info_in user_in act_in act_of last_user decision_in line_text event_members request_members reply_members time_members audit_id_text year_from month_from year_of_day is_long_running date_text time_text moment_text behind local_of first first_from matches matches_resource matches_url matches_user is_url is_resource element_matches first_value from_first to_last parts_of are_escapes_whole event last_address wish_of Steps.step Steps.due Steps.row_at Steps.change_refusal Steps.handling_at Steps.own_reply Worlds.shown_step
+unfolding encode digits chars is_utf8 without_end without_start percent_decode by_index errand_in local_in is_unread info_in user_in act_in act_of last_user decision_in line_text event_members request_members reply_members time_members audit_id_text year_from month_from year_of_day is_long_running date_text time_text moment_text behind local_of first first_from matches matches_resource matches_url matches_user is_url is_resource element_matches first_value from_first to_last parts_of are_escapes_whole event last_address wish_of Steps.step Steps.due Steps.row_at Steps.change_refusal Steps.handling_at Steps.own_reply Worlds.shown_step
 acting_taken = refl
 
 -- ---- the texts of the log
 
 pub user_stands : HasSubslice (acting_log (codes "ann")) (codes "\"user\":{\"username\":\"root\"")
-unfolding encode digits chars is_utf8 without_end without_start percent_decode by_index errand_in is_unread info_in user_in act_in act_of last_user decision_in line_text event_members request_members reply_members time_members audit_id_text year_from month_from year_of_day is_long_running date_text time_text moment_text behind local_of first first_from matches matches_resource matches_url matches_user is_url is_resource element_matches first_value from_first to_last parts_of are_escapes_whole event last_address wish_of Steps.step Steps.due Steps.row_at Steps.change_refusal Steps.handling_at Steps.own_reply Worlds.shown_step begins_with has_text
+unfolding encode digits chars is_utf8 without_end without_start percent_decode by_index errand_in local_in is_unread info_in user_in act_in act_of last_user decision_in line_text event_members request_members reply_members time_members audit_id_text year_from month_from year_of_day is_long_running date_text time_text moment_text behind local_of first first_from matches matches_resource matches_url matches_user is_url is_resource element_matches first_value from_first to_last parts_of are_escapes_whole event last_address wish_of Steps.step Steps.due Steps.row_at Steps.change_refusal Steps.handling_at Steps.own_reply Worlds.shown_step begins_with has_text
 user_stands = stands_in (codes "\"user\":{\"username\":\"root\"") (acting_log (codes "ann")) refl
 
 pub acting_stands : HasSubslice (acting_log (codes "ann")) (codes "\"impersonatedUser\":{\"username\":\"ann\"")
-unfolding encode digits chars is_utf8 without_end without_start percent_decode by_index errand_in is_unread info_in user_in act_in act_of last_user decision_in line_text event_members request_members reply_members time_members audit_id_text year_from month_from year_of_day is_long_running date_text time_text moment_text behind local_of first first_from matches matches_resource matches_url matches_user is_url is_resource element_matches first_value from_first to_last parts_of are_escapes_whole event last_address wish_of Steps.step Steps.due Steps.row_at Steps.change_refusal Steps.handling_at Steps.own_reply Worlds.shown_step begins_with has_text
+unfolding encode digits chars is_utf8 without_end without_start percent_decode by_index errand_in local_in is_unread info_in user_in act_in act_of last_user decision_in line_text event_members request_members reply_members time_members audit_id_text year_from month_from year_of_day is_long_running date_text time_text moment_text behind local_of first first_from matches matches_resource matches_url matches_user is_url is_resource element_matches first_value from_first to_last parts_of are_escapes_whole event last_address wish_of Steps.step Steps.due Steps.row_at Steps.change_refusal Steps.handling_at Steps.own_reply Worlds.shown_step begins_with has_text
 acting_stands = stands_in (codes "\"impersonatedUser\":{\"username\":\"ann\"") (acting_log (codes "ann")) refl
 
 -- ---- another user
@@ -72,9 +72,9 @@ other_name : codes "ann" ≡ codes "bob" → ⊥
 other_name e = not_both (ap (λ name. bytes_eq name (codes "bob")) e)
 
 pub not_alike : Worlds.Alike rooted (Steps.start 1) (Steps.start 1) (acting_steps (codes "ann")) (acting_steps (codes "bob")) → ⊥
-unfolding encode digits chars is_utf8 without_end without_start percent_decode by_index errand_in is_unread info_in user_in act_in act_of last_user decision_in line_text event_members request_members reply_members time_members audit_id_text year_from month_from year_of_day is_long_running date_text time_text moment_text behind local_of first first_from matches matches_resource matches_url matches_user is_url is_resource element_matches first_value from_first to_last parts_of are_escapes_whole event last_address wish_of Steps.step Steps.due Steps.row_at Steps.change_refusal Steps.handling_at Steps.own_reply Worlds.shown_step acting_name name_or
+unfolding encode digits chars is_utf8 without_end without_start percent_decode by_index errand_in local_in is_unread info_in user_in act_in act_of last_user decision_in line_text event_members request_members reply_members time_members audit_id_text year_from month_from year_of_day is_long_running date_text time_text moment_text behind local_of first first_from matches matches_resource matches_url matches_user is_url is_resource element_matches first_value from_first to_last parts_of are_escapes_whole event last_address wish_of Steps.step Steps.due Steps.row_at Steps.change_refusal Steps.handling_at Steps.own_reply Worlds.shown_step acting_name name_or
 not_alike h = other_name (ap acting_name h.0)
 
 pub other_bytes : acting_log (codes "ann") ≢ acting_log (codes "bob")
-unfolding encode digits chars is_utf8 without_end without_start percent_decode by_index errand_in is_unread info_in user_in act_in act_of last_user decision_in line_text event_members request_members reply_members time_members audit_id_text year_from month_from year_of_day is_long_running date_text time_text moment_text behind local_of first first_from matches matches_resource matches_url matches_user is_url is_resource element_matches first_value from_first to_last parts_of are_escapes_whole event last_address wish_of Steps.step Steps.due Steps.row_at Steps.change_refusal Steps.handling_at Steps.own_reply Worlds.shown_step
+unfolding encode digits chars is_utf8 without_end without_start percent_decode by_index errand_in local_in is_unread info_in user_in act_in act_of last_user decision_in line_text event_members request_members reply_members time_members audit_id_text year_from month_from year_of_day is_long_running date_text time_text moment_text behind local_of first first_from matches matches_resource matches_url matches_user is_url is_resource element_matches first_value from_first to_last parts_of are_escapes_whole event last_address wish_of Steps.step Steps.due Steps.row_at Steps.change_refusal Steps.handling_at Steps.own_reply Worlds.shown_step
 other_bytes e = not_both (ap (λ log. bytes_eq log (acting_log (codes "bob"))) e)

@@ -3,7 +3,7 @@ use Rattle.std.proofs.Common.{◌≡◌, ℕ, Bool, true, List, [], ◌∷◌, m
 use lib.Utf8.{encode}
 use Rattle.std.specs.Fmt.{digits}
 use Rattle.std.specs.Str.{chars, is_utf8}
-use Rattle.audit_core.specs.Errand.{act_in, errand_in, info_in, user_in}
+use Rattle.audit_core.specs.Errand.{act_in, errand_in, info_in, local_in, user_in}
 use Rattle.audit_core.specs.Unread.{is_unread}
 use Rattle.audit_core.specs.Exchange.{decision_in}
 use Rattle.event_text.specs.Line.{line_text, event_members, request_members, reply_members, time_members}
@@ -53,11 +53,11 @@ rest = tail_of (object_steps [])
 
 -- what is seen of a request of whose body that is kept
 wish_with : (Bool → List ℕ → Kept) → List ℕ → Kept → Wish
-wish_with keep body kept = record (wish_of (pruned keep) peer (object_request body)) { body = kept }
+wish_with keep body kept = record (wish_of (pruned keep) peer (object_request body) 0) { body = kept }
 
 wish_is : (keep : Bool → List ℕ → Kept) (body : List ℕ)
-    → wish_of (pruned keep) peer (object_request body) ≡ wish_with keep body (keep true body)
-unfolding wish_with encode digits chars is_utf8 without_end without_start percent_decode errand_in is_unread info_in user_in act_in act_of decision_in behind local_of first first_from matches matches_resource matches_url matches_user is_url is_resource element_matches first_value from_first to_last parts_of are_escapes_whole wish_of
+    → wish_of (pruned keep) peer (object_request body) 0 ≡ wish_with keep body (keep true body)
+unfolding wish_with encode digits chars is_utf8 without_end without_start percent_decode errand_in local_in is_unread info_in user_in act_in act_of decision_in behind local_of first first_from matches matches_resource matches_url matches_user is_url is_resource element_matches first_value from_first to_last parts_of are_escapes_whole wish_of
 wish_is keep body = refl
 
 -- what is left and answered where the first step begins with this
@@ -68,14 +68,14 @@ answers_from keep w =
 
 answers_are : (keep : Bool → List ℕ → Kept) (body : List ℕ)
     → Steps.answers_to (pruned keep) (Steps.start 1) (object_steps body)
-    ≡ answers_from keep (wish_of (pruned keep) peer (object_request body))
+    ≡ answers_from keep (wish_of (pruned keep) peer (object_request body) 0)
 unfolding answers_from tail_of Steps.step
 answers_are keep body = refl
 
 answers_with : (keep : Bool → List ℕ → Kept)
     → map Worlds.is_taken (answers_from keep (wish_with keep with_fields (Compact without_fields)))
     ≡ true ∷ true ∷ true ∷ true ∷ true ∷ true ∷ true ∷ true ∷ []
-unfolding answers_from tail_of wish_with encode digits chars is_utf8 without_end without_start percent_decode by_index errand_in is_unread info_in user_in act_in act_of decision_in line_text event_members request_members reply_members time_members audit_id_text year_from month_from year_of_day is_long_running date_text time_text moment_text behind local_of first first_from matches matches_resource matches_url matches_user is_url is_resource element_matches first_value from_first to_last parts_of are_escapes_whole event last_address wish_of Steps.step Steps.due Steps.row_at Steps.change_refusal Steps.handling_at Steps.own_reply Worlds.shown_step
+unfolding answers_from tail_of wish_with encode digits chars is_utf8 without_end without_start percent_decode by_index errand_in local_in is_unread info_in user_in act_in act_of decision_in line_text event_members request_members reply_members time_members audit_id_text year_from month_from year_of_day is_long_running date_text time_text moment_text behind local_of first first_from matches matches_resource matches_url matches_user is_url is_resource element_matches first_value from_first to_last parts_of are_escapes_whole event last_address wish_of Steps.step Steps.due Steps.row_at Steps.change_refusal Steps.handling_at Steps.own_reply Worlds.shown_step
 answers_with keep = refl
 
 pub managed_taken : OneKept → (keep : Bool → List ℕ → Kept) → KeepsAll keep
@@ -95,13 +95,13 @@ state_from keep w =
 
 state_is : (keep : Bool → List ℕ → Kept) (body : List ℕ)
     → Steps.after_steps (pruned keep) (Steps.start 1) (object_steps body)
-    ≡ state_from keep (wish_of (pruned keep) peer (object_request body))
+    ≡ state_from keep (wish_of (pruned keep) peer (object_request body) 0)
 unfolding state_from tail_of Steps.step
 state_is keep body = refl
 
 text_with : (keep : Bool → List ℕ → Kept)
     → HasSubslice (log_of (state_from keep (wish_with keep with_fields (Compact without_fields)))) shown_body
-unfolding state_from tail_of wish_with encode digits chars is_utf8 without_end without_start percent_decode by_index errand_in is_unread info_in user_in act_in act_of decision_in line_text event_members request_members reply_members time_members audit_id_text year_from month_from year_of_day is_long_running date_text time_text moment_text behind local_of first first_from matches matches_resource matches_url matches_user is_url is_resource element_matches first_value from_first to_last parts_of are_escapes_whole event last_address wish_of Steps.step Steps.due Steps.row_at Steps.change_refusal Steps.handling_at Steps.own_reply Worlds.shown_step begins_with has_text
+unfolding state_from tail_of wish_with encode digits chars is_utf8 without_end without_start percent_decode by_index errand_in local_in is_unread info_in user_in act_in act_of decision_in line_text event_members request_members reply_members time_members audit_id_text year_from month_from year_of_day is_long_running date_text time_text moment_text behind local_of first first_from matches matches_resource matches_url matches_user is_url is_resource element_matches first_value from_first to_last parts_of are_escapes_whole event last_address wish_of Steps.step Steps.due Steps.row_at Steps.change_refusal Steps.handling_at Steps.own_reply Worlds.shown_step begins_with has_text
 text_with keep = stands_in shown_body (log_of (state_from keep (wish_with keep with_fields (Compact without_fields)))) refl
 
 pub body_shown : OneKept → (keep : Bool → List ℕ → Kept) → KeepsAll keep
@@ -116,11 +116,11 @@ body_shown one keep keeps =
 -- ---- the two runs
 
 same_wish : (keep : Bool → List ℕ → Kept) (kept : Kept) → wish_with keep with_fields kept ≡ wish_with keep without_fields kept
-unfolding wish_with encode digits chars is_utf8 without_end without_start percent_decode errand_in is_unread info_in user_in act_in act_of decision_in behind local_of first first_from matches matches_resource matches_url matches_user is_url is_resource element_matches first_value from_first to_last parts_of are_escapes_whole wish_of
+unfolding wish_with encode digits chars is_utf8 without_end without_start percent_decode errand_in local_in is_unread info_in user_in act_in act_of decision_in behind local_of first first_from matches matches_resource matches_url matches_user is_url is_resource element_matches first_value from_first to_last parts_of are_escapes_whole wish_of
 same_wish keep kept = refl
 
 same_wishes : OneKept → (keep : Bool → List ℕ → Kept) → KeepsAll keep
-    → wish_of (pruned keep) peer (object_request with_fields) ≡ wish_of (pruned keep) peer (object_request without_fields)
+    → wish_of (pruned keep) peer (object_request with_fields) 0 ≡ wish_of (pruned keep) peer (object_request without_fields) 0
 same_wishes one keep keeps =
     wish_is keep with_fields
     ∙ ap (wish_with keep with_fields) (with_kept one keep keeps)
@@ -154,10 +154,10 @@ rest_alike one keep keeps first =
     (first, alike_same (pruned keep) rest _ _ (same_states one keep keeps))
 
 pub same_errand : (keep : Bool → List ℕ → Kept)
-    → errand_in (pruned keep).set (object_request with_fields) ≡ errand_in (pruned keep).set (object_request without_fields)
-unfolding encode digits chars is_utf8 without_end without_start percent_decode errand_in is_unread info_in user_in act_in act_of decision_in behind local_of first first_from matches matches_resource matches_url matches_user is_url is_resource element_matches first_value from_first to_last parts_of are_escapes_whole
+    → errand_in (pruned keep).set (object_request with_fields) 0 ≡ errand_in (pruned keep).set (object_request without_fields) 0
+unfolding encode digits chars is_utf8 without_end without_start percent_decode errand_in local_in is_unread info_in user_in act_in act_of decision_in behind local_of first first_from matches matches_resource matches_url matches_user is_url is_resource element_matches first_value from_first to_last parts_of are_escapes_whole
 same_errand keep = refl
 
 pub omits_managed : (keep : Bool → List ℕ → Kept) → (decision_in (pruned keep).set (object_request with_fields)).omit_managed ≡ true
-unfolding encode digits chars is_utf8 without_end without_start percent_decode errand_in is_unread info_in user_in act_in act_of decision_in behind local_of first first_from matches matches_resource matches_url matches_user is_url is_resource element_matches first_value from_first to_last parts_of are_escapes_whole
+unfolding encode digits chars is_utf8 without_end without_start percent_decode errand_in local_in is_unread info_in user_in act_in act_of decision_in behind local_of first first_from matches matches_resource matches_url matches_user is_url is_resource element_matches first_value from_first to_last parts_of are_escapes_whole
 omits_managed keep = refl

@@ -5,7 +5,7 @@ use lib.Utf8.{encode}
 use Rattle.std.specs.Fmt.{digits}
 use Rattle.std.specs.Str.{chars, is_utf8}
 use Rattle.audit_core.specs.Answer.{link_status}
-use Rattle.audit_core.specs.Errand.{act_in, errand_in, info_in, user_in}
+use Rattle.audit_core.specs.Errand.{act_in, errand_in, info_in, local_in, user_in}
 use Rattle.audit_core.specs.Unread.{is_unread}
 use Rattle.audit_core.specs.Exchange.{decision_in}
 use Rattle.event_text.specs.Line.{line_text, event_members, request_members, reply_members, time_members}
@@ -35,18 +35,18 @@ use Rattle.world_examples.specs.Served.{served, served_steps}
 pub all_taken : (body : List ℕ) (reply : Kept)
     → map Worlds.is_taken (Steps.answers_to served (Steps.start 1) (served_steps 200 body reply))
     ≡ true ∷ true ∷ true ∷ true ∷ true ∷ true ∷ true ∷ true ∷ []
-unfolding encode digits chars is_utf8 without_end without_start percent_decode by_index errand_in is_unread info_in user_in act_in act_of decision_in line_text event_members request_members reply_members time_members audit_id_text year_from month_from year_of_day is_long_running date_text time_text moment_text behind local_of first first_from matches matches_resource matches_url matches_user is_url is_resource element_matches first_value from_first to_last parts_of are_escapes_whole event last_address wish_of Steps.step Steps.due Steps.row_at Steps.change_refusal Steps.handling_at Steps.own_reply Worlds.shown_step
+unfolding encode digits chars is_utf8 without_end without_start percent_decode by_index errand_in local_in is_unread info_in user_in act_in act_of decision_in line_text event_members request_members reply_members time_members audit_id_text year_from month_from year_of_day is_long_running date_text time_text moment_text behind local_of first first_from matches matches_resource matches_url matches_user is_url is_resource element_matches first_value from_first to_last parts_of are_escapes_whole event last_address wish_of Steps.step Steps.due Steps.row_at Steps.change_refusal Steps.handling_at Steps.own_reply Worlds.shown_step
 all_taken body reply = refl
 
 pub other_taken : (body : List ℕ) (reply : Kept)
     → map Worlds.is_taken (Steps.answers_to served (Steps.start 1) (served_steps 403 body reply))
     ≡ true ∷ true ∷ true ∷ true ∷ true ∷ true ∷ true ∷ true ∷ []
-unfolding encode digits chars is_utf8 without_end without_start percent_decode by_index errand_in is_unread info_in user_in act_in act_of decision_in line_text event_members request_members reply_members time_members audit_id_text year_from month_from year_of_day is_long_running date_text time_text moment_text behind local_of first first_from matches matches_resource matches_url matches_user is_url is_resource element_matches first_value from_first to_last parts_of are_escapes_whole event last_address wish_of Steps.step Steps.due Steps.row_at Steps.change_refusal Steps.handling_at Steps.own_reply Worlds.shown_step
+unfolding encode digits chars is_utf8 without_end without_start percent_decode by_index errand_in local_in is_unread info_in user_in act_in act_of decision_in line_text event_members request_members reply_members time_members audit_id_text year_from month_from year_of_day is_long_running date_text time_text moment_text behind local_of first first_from matches matches_resource matches_url matches_user is_url is_resource element_matches first_value from_first to_last parts_of are_escapes_whole event last_address wish_of Steps.step Steps.due Steps.row_at Steps.change_refusal Steps.handling_at Steps.own_reply Worlds.shown_step
 other_taken body reply = refl
 
 pub bodies_alike : (body other : List ℕ) (reply text : Kept)
     → Worlds.Alike served (Steps.start 1) (Steps.start 1) (served_steps 200 body reply) (served_steps 200 other text)
-unfolding encode digits chars is_utf8 without_end without_start percent_decode by_index errand_in is_unread info_in user_in act_in act_of decision_in line_text event_members request_members reply_members time_members audit_id_text year_from month_from year_of_day is_long_running date_text time_text moment_text behind local_of first first_from matches matches_resource matches_url matches_user is_url is_resource element_matches first_value from_first to_last parts_of are_escapes_whole event last_address wish_of Steps.step Steps.due Steps.row_at Steps.change_refusal Steps.handling_at Steps.own_reply Worlds.shown_step
+unfolding encode digits chars is_utf8 without_end without_start percent_decode by_index errand_in local_in is_unread info_in user_in act_in act_of decision_in line_text event_members request_members reply_members time_members audit_id_text year_from month_from year_of_day is_long_running date_text time_text moment_text behind local_of first first_from matches matches_resource matches_url matches_user is_url is_resource element_matches first_value from_first to_last parts_of are_escapes_whole event last_address wish_of Steps.step Steps.due Steps.row_at Steps.change_refusal Steps.handling_at Steps.own_reply Worlds.shown_step
 bodies_alike body other reply text = (refl, (refl, (refl, (refl, (refl, (refl, (refl, (refl, tt))))))))
 
 -- the status that a Finish shows
@@ -65,7 +65,7 @@ other_status e = omega arith
 
 pub not_alike : (body : List ℕ) (reply : Kept)
     → Worlds.Alike served (Steps.start 1) (Steps.start 1) (served_steps 200 body reply) (served_steps 403 body reply) → ⊥
-unfolding encode digits chars is_utf8 without_end without_start percent_decode by_index errand_in is_unread info_in user_in act_in act_of decision_in line_text event_members request_members reply_members time_members audit_id_text year_from month_from year_of_day is_long_running date_text time_text moment_text behind local_of first first_from matches matches_resource matches_url matches_user is_url is_resource element_matches first_value from_first to_last parts_of are_escapes_whole event last_address wish_of Steps.step Steps.due Steps.row_at Steps.change_refusal Steps.handling_at Steps.own_reply Worlds.shown_step shown_status
+unfolding encode digits chars is_utf8 without_end without_start percent_decode by_index errand_in local_in is_unread info_in user_in act_in act_of decision_in line_text event_members request_members reply_members time_members audit_id_text year_from month_from year_of_day is_long_running date_text time_text moment_text behind local_of first first_from matches matches_resource matches_url matches_user is_url is_resource element_matches first_value from_first to_last parts_of are_escapes_whole event last_address wish_of Steps.step Steps.due Steps.row_at Steps.change_refusal Steps.handling_at Steps.own_reply Worlds.shown_step shown_status
 not_alike body reply h = other_status (ap shown_status h.1.1.1.0)
 
 first_bytes : List (List ℕ) → List ℕ
@@ -78,7 +78,7 @@ not_both e = cc
 pub other_bytes : (body : List ℕ) (reply : Kept)
     → Worlds.sink_bytes log_text (Steps.after_steps served (Steps.start 1) (served_steps 200 body reply)).shared.log
     ≢ Worlds.sink_bytes log_text (Steps.after_steps served (Steps.start 1) (served_steps 403 body reply)).shared.log
-unfolding encode digits chars is_utf8 without_end without_start percent_decode by_index errand_in is_unread info_in user_in act_in act_of decision_in line_text event_members request_members reply_members time_members audit_id_text year_from month_from year_of_day is_long_running date_text time_text moment_text behind local_of first first_from matches matches_resource matches_url matches_user is_url is_resource element_matches first_value from_first to_last parts_of are_escapes_whole event last_address wish_of Steps.step Steps.due Steps.row_at Steps.change_refusal Steps.handling_at Steps.own_reply Worlds.shown_step first_bytes
+unfolding encode digits chars is_utf8 without_end without_start percent_decode by_index errand_in local_in is_unread info_in user_in act_in act_of decision_in line_text event_members request_members reply_members time_members audit_id_text year_from month_from year_of_day is_long_running date_text time_text moment_text behind local_of first first_from matches matches_resource matches_url matches_user is_url is_resource element_matches first_value from_first to_last parts_of are_escapes_whole event last_address wish_of Steps.step Steps.due Steps.row_at Steps.change_refusal Steps.handling_at Steps.own_reply Worlds.shown_step first_bytes
 other_bytes body reply e =
     not_both
     (ap

@@ -7,5 +7,6 @@ returns-in-Ok-clause-decides g c ends =
     let old = c.args.routes.now in
     let new = c.serve_errand.new.routes in
     served_so
-    ends (R.opening old) (R.seen old) (R.own old) (R.seen new) (R.own new) c.args.local c.serve_errand.ensures.later c.args.own
+    ends (R.opening old) (R.seen old) (R.own old) (R.seen new) (R.own new) c.the_last_change_counts.ensures c.args.local
+    c.serve_errand.ensures.later c.args.own
     c.in-Ok.reply c.in-Ok.change c.in-Ok.ensures.served

@@ -10,7 +10,7 @@ pub returns-then-place-as_slice-clause-ok : goal.returns-then-place-as_slice-cla
 unfolding step
 returns-then-place-as_slice-clause-ok c =
     let past : length c.args.state.now.bays ≤ c.args.bay = omega (arith, ap length c.as_slice.ensures) in
-    idle_step c.turns_are_steps.ensures.none c.args.setup.now c.args.state.now c.args.bay (step_is.Begin c.args.bay c.args.request.now c.args.peer c.args.moment) (λ (s : Setup). begin s c.args.bay (wish_of s c.args.peer c.args.request.now) c.args.moment) past (λ keep. refl)
+    idle_step c.turns_are_steps.ensures.none c.args.setup.now c.args.state.now c.args.bay (step_is.Begin c.args.bay c.args.request.now c.args.peer c.args.moment) (λ (s : Setup). begin s c.args.bay (wish_of s c.args.peer c.args.request.now c.args.moment) c.args.moment) past (λ keep. refl)
 
 pub returns-clause-ok : goal.returns-clause-ok
 returns-clause-ok c =

@@ -8,7 +8,7 @@ use Rattle.two_worlds.specs.Requests.{wish_of}
 pub returns-then-is_some-clause-ok : goal.returns-then-is_some-clause-ok
 returns-then-is_some-clause-ok c = λ keep k sh.
     begin_busy (setup_of c.args.setup.now keep) c.args.bay
-    (wish_of (setup_of c.args.setup.now keep) c.args.peer c.args.request.now) c.args.moment sh c.args.b.now
+    (wish_of (setup_of c.args.setup.now keep) c.args.peer c.args.request.now c.args.moment) c.args.moment sh c.args.b.now
     (sym c.is_some.ensures ∙ c.if-is_some.true)
 
 pub returns-in-Ok-clause-ok : goal.returns-in-Ok-clause-ok

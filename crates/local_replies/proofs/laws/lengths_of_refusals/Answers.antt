@@ -25,4 +25,4 @@ pub returns-clause-told : goal.returns-clause-told
 unfolding cause_of status_text digits
 returns-clause-told c =
     all_have told_codes
-    (refl, (refl, (refl, (refl, (refl, (refl, (refl, (refl, (refl, (refl, (refl, (refl, (refl, tt)))))))))))))
+    (refl, (refl, (refl, (refl, (refl, (refl, (refl, (refl, (refl, (refl, (refl, (refl, (refl, (refl, tt))))))))))))))

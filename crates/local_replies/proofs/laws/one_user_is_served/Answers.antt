@@ -1,12 +1,13 @@
-use Rattle.std.proofs.Common.{◌≡◌, ℕ, List, Option, Some, None, sym, ap, subst, ◌∙◌}
+use Rattle.std.proofs.Common.{◌≡◌, List, Option, Some, None, sym, ap, subst, ◌∙◌}
 use Rattle.apiservice_rows.specs.Row.{Row}
 use Rattle.apiservice_table.specs.Changes as table
 use Rattle.apiservice_table.specs.Changes.{after, changed, placed, rows_of, IsLater, Story, Took}
 use Rattle.apiservice_table.specs.declared.change.Change.{Change}
 use Rattle.local_replies.specs.Looked.{looked}
-use Rattle.local_replies.specs.Serve.{change_reply, local_reply, rows_after, rows_with, IsServed}
+use Rattle.local_replies.specs.Serve.{change_reply, done_in, local_reply, rows_after, rows_with, IsServed}
+use Rattle.local_replies.specs.Tabulated.{tabulated}
 use Rattle.local_replies.specs.declared.errand.LocalErrand.{LocalErrand}
-use Rattle.local_replies.specs.declared.errand.LocalErrand.TheVariants.{Deny, Look, Write}
+use Rattle.local_replies.specs.declared.errand.LocalErrand.TheVariants.{Deny, Look, Tabulate, Write}
 use Rattle.local_replies.specs.declared.local.Local.{Local}
 use Rattle.local_replies.specs.declared.reply.LocalReply.{LocalReply}
 use Rattle.local_replies.proofs.laws.one_user_is_served.Goals as goal
@@ -41,15 +42,18 @@ module _ (stands : Stands) (takes : Takes) (local : Local) (old new : Story) (re
   served (Deny code) change h = (h.0, stands old new later fixed h.3)
   served Look change h =
       (h.0 ∙ ap (looked local) (same_then h.2), stands old new later fixed h.2)
+  served (Tabulate moment) change h =
+      (h.0 ∙ ap (tabulated local moment) (same_then h.2), stands old new later fixed h.2)
   served (Write c) None h =
       let due : table.refusal (rows_of old) c ≡ Some h.0 =
       subst (λ rows. table.refusal rows c ≡ Some h.0) (same_then h.3) h.1 in (
-        h.2 ∙ sym (ap (change_reply c) due),
+        h.2 ∙ sym (ap (change_reply (rows_of old) c) due),
         stands old new later fixed h.3 ∙ sym (ap (rows_with (rows_of old) c) due),
       )
   served (Write c) (Some made) h =
-      let took = takes old new c fixed h.2 in (
-        h.1 ∙ sym (ap (change_reply c) took.0),
+      let took = takes old new c fixed h.2 in
+      let left : seen_then ≡ changed (rows_of old) c = ap (λ opening. after opening new.seen) (sym fixed) ∙ took.1 in (
+        h.1 ∙ ap (λ (rows : List Row). done_in rows c) left ∙ sym (ap (change_reply (rows_of old) c) took.0),
         took.1 ∙ sym (ap (rows_with (rows_of old) c) took.0),
       )
 

@@ -4,14 +4,16 @@ use Rattle.std.proofs.lemmas.Bool.Decides.{Decides-eqb}
 use Rattle.std.specs.Prelude.{if◌then◌else◌, codes}
 use Rattle.std.specs.Str.{bytes_eq}
 use Rattle.apiservice_rows.specs.Row.{Row}
-use Rattle.apiservice_table.specs.declared.change.Change.TheVariants.{Replace, Delete}
+use Rattle.apiservice_table.specs.declared.change.Change.TheVariants.{Replace, Delete, Patch}
 use Rattle.front_base.specs.declared.info.Info.{Info}
 use Rattle.front_base.specs.declared.user.User.{User}
-use Rattle.local_replies.specs.Errand.{create, is_master, list_errand, local_errand, look_only, looks, name_errand, replace, row_in}
+use Rattle.http_head.specs.Name.{first_value}
+use Rattle.http_head.specs.declared.request.Head.{Head}
+use Rattle.local_replies.specs.Errand.{asks_table, create, is_master, is_merge_patch, list_errand, listed_errand, local_errand, look_only, look_services, looks, name_errand, patch, replace, row_in, seen_as}
 use Rattle.local_replies.specs.declared.errand.LocalErrand.{LocalErrand}
-use Rattle.local_replies.specs.declared.errand.LocalErrand.TheVariants.{Deny, Look, Write}
+use Rattle.local_replies.specs.declared.errand.LocalErrand.TheVariants.{Deny, Look, Tabulate, Write}
 use Rattle.local_replies.specs.declared.local.Local.{Local}
-use Rattle.local_replies.specs.declared.local.Local.TheVariants.{Health, GroupList, OneGroup, ResourceList, AllServices, OneService, Unserved}
+use Rattle.local_replies.specs.declared.local.Local.TheVariants.{Health, GroupList, OneGroup, ResourceList, AllServices, OneService, ServicesNamed, Unserved}
 use Rattle.local_replies.proofs.laws.refusals_in_order.Goals as goal
 
 -- an errand isn't refused with that code
@@ -21,6 +23,7 @@ Passes code errand = errand ≡ Deny code → ⊥
 abbrev code_of : LocalErrand → ℕ
 code_of (Deny code) = code
 code_of Look = 0
+code_of (Tabulate moment) = 0
 code_of (Write change) = 0
 
 -- refusals with two codes
@@ -41,6 +44,44 @@ look_422 method = either (looks method)
     either : (b : Bool) → Passes 422 (if b then Look else Deny 405)
     either true e = cc e
     either false e = apart _ _ refl e
+
+-- a look at APIServices, in whatever form
+seen_passes : (code : ℕ) (head : Head) (moment : ℕ) → Passes code (seen_as head moment)
+seen_passes code head moment = either (asks_table (first_value (codes "accept") head.headers))
+  where
+    either : (b : Bool) → Passes code (if b then Tabulate moment else Look)
+    either true e = cc e
+    either false e = cc e
+
+services_403 : (head : Head) (moment : ℕ) → Passes 403 (look_services head moment)
+services_403 head moment = either (looks head.method)
+  where
+    either : (b : Bool) → Passes 403 (if b then seen_as head moment else Deny 405)
+    either true e = seen_passes 403 head moment e
+    either false e = apart _ _ refl e
+
+services_422 : (head : Head) (moment : ℕ) → Passes 422 (look_services head moment)
+services_422 head moment = either (looks head.method)
+  where
+    either : (b : Bool) → Passes 422 (if b then seen_as head moment else Deny 405)
+    either true e = seen_passes 422 head moment e
+    either false e = apart _ _ refl e
+
+listed_403 : (info : Info) (head : Head) (moment : ℕ) → Passes 403 (listed_errand info head moment)
+listed_403 info head moment = either (bytes_eq info.verb (codes "watch")) (looks head.method)
+  where
+    either : (w b : Bool) → Passes 403 (if w then Deny 405 else if b then seen_as head moment else Deny 400)
+    either true b e = apart _ _ refl e
+    either false true e = seen_passes 403 head moment e
+    either false false e = apart _ _ refl e
+
+listed_422 : (info : Info) (head : Head) (moment : ℕ) → Passes 422 (listed_errand info head moment)
+listed_422 info head moment = either (bytes_eq info.verb (codes "watch")) (looks head.method)
+  where
+    either : (w b : Bool) → Passes 422 (if w then Deny 405 else if b then seen_as head moment else Deny 400)
+    either true b e = apart _ _ refl e
+    either false true e = seen_passes 422 head moment e
+    either false false e = apart _ _ refl e
 
 create_403 : (row : Option Row) → Passes 403 (create row)
 create_403 None e = apart _ _ refl e
@@ -92,29 +133,58 @@ list_405 true post x y z h e = refl
 list_405 false true x y z h e = absurd (h e)
 list_405 false false x y z h e = e
 
+-- a patch of an APIService
+patch_405 : (is : Bool) (name body : List ℕ) (user : User) → Passes 405 (patch is name body user)
+patch_405 true name body user e = may_405 (is_master user) (Write (Patch name body)) (λ d. cc d) e
+patch_405 false name body user e = apart _ _ refl e
+
+patch_403 : (is : Bool) (name body other : List ℕ) (user : User) → patch is name body user ≡ Deny 403
+    → (patch is name other user ≡ Deny 403) × (is_master user ≡ false)
+patch_403 true name body other user e =
+    may_403 (is_master user) (Write (Patch name body)) (Write (Patch name other)) (λ d. cc d) e
+patch_403 false name body other user e = absurd (apart _ _ refl e)
+
+patch_422 : (is : Bool) (name body : List ℕ) (user : User) → patch is name body user ≡ Deny 422 → is_master user ≡ true
+patch_422 true name body user e = may_422 (is_master user) (Write (Patch name body)) e
+patch_422 false name body user e = absurd (apart _ _ refl e)
+
 -- on one APIService
-module _ (put delete : Bool) (z : LocalErrand) where
-  abbrev named : LocalErrand → LocalErrand → LocalErrand
-  named x y = if put then x else (if delete then y else z)
+module _ (put delete patches : Bool) (z : LocalErrand) where
+  abbrev named : LocalErrand → LocalErrand → LocalErrand → LocalErrand
+  named x y w = if put then x else (if delete then y else (if patches then w else z))
 
-name_405 : (put delete : Bool) (x y a b z : LocalErrand) → Passes 405 x → Passes 405 y
-    → named put delete z x y ≡ Deny 405 → named put delete z a b ≡ Deny 405
-name_405 true delete x y a b z h k e = absurd (h e)
-name_405 false true x y a b z h k e = absurd (k e)
-name_405 false false x y a b z h k e = e
+name_405 : (put delete patches : Bool) (x y w a b v z : LocalErrand) → Passes 405 x → Passes 405 y → Passes 405 w
+    → named put delete patches z x y w ≡ Deny 405 → named put delete patches z a b v ≡ Deny 405
+name_405 true delete patches x y w a b v z h k m e = absurd (h e)
+name_405 false true patches x y w a b v z h k m e = absurd (k e)
+name_405 false false true x y w a b v z h k m e = absurd (m e)
+name_405 false false false x y w a b v z h k m e = e
 
-name_403 : (put delete : Bool) (x y a b z : LocalErrand) (master : Bool) → Passes 403 z
+name_403 : (put delete patches : Bool) (x y w a b v z : LocalErrand) (master : Bool) → Passes 403 z
     → (x ≡ Deny 403 → (a ≡ Deny 403) × (master ≡ false)) → (y ≡ Deny 403 → (b ≡ Deny 403) × (master ≡ false))
-    → named put delete z x y ≡ Deny 403 → (named put delete z a b ≡ Deny 403) × (master ≡ false)
-name_403 true delete x y a b z master n h k e = h e
-name_403 false true x y a b z master n h k e = k e
-name_403 false false x y a b z master n h k e = absurd (n e)
+    → (w ≡ Deny 403 → (v ≡ Deny 403) × (master ≡ false))
+    → named put delete patches z x y w ≡ Deny 403 → (named put delete patches z a b v ≡ Deny 403) × (master ≡ false)
+name_403 true delete patches x y w a b v z master n h k m e = h e
+name_403 false true patches x y w a b v z master n h k m e = k e
+name_403 false false true x y w a b v z master n h k m e = m e
+name_403 false false false x y w a b v z master n h k m e = absurd (n e)
 
-name_422 : (put delete : Bool) (x y z : LocalErrand) (master : Bool) → Passes 422 z
-    → (x ≡ Deny 422 → master ≡ true) → (y ≡ Deny 422 → master ≡ true) → named put delete z x y ≡ Deny 422 → master ≡ true
-name_422 true delete x y z master n h k e = h e
-name_422 false true x y z master n h k e = k e
-name_422 false false x y z master n h k e = absurd (n e)
+name_422 : (put delete patches : Bool) (x y w z : LocalErrand) (master : Bool) → Passes 422 z
+    → (x ≡ Deny 422 → master ≡ true) → (y ≡ Deny 422 → master ≡ true) → (w ≡ Deny 422 → master ≡ true)
+    → named put delete patches z x y w ≡ Deny 422 → master ≡ true
+name_422 true delete patches x y w z master n h k m e = h e
+name_422 false true patches x y w z master n h k m e = k e
+name_422 false false true x y w z master n h k m e = m e
+name_422 false false false x y w z master n h k m e = absurd (n e)
+
+-- a patch of a type that isn't served
+name_415 : (put delete patches is : Bool) (x y w z : LocalErrand) → put ≡ false → delete ≡ false → patches ≡ true → is ≡ false
+    → named put delete patches z x y (if is then w else Deny 415) ≡ Deny 415
+name_415 true delete patches is x y w z p d m i = absurd (cc p)
+name_415 false true patches is x y w z p d m i = absurd (cc d)
+name_415 false false false is x y w z p d m i = absurd (cc m)
+name_415 false false true true x y w z p d m i = absurd (cc i)
+name_415 false false true false x y w z p d m i = refl
 
 list_403 : (watch post : Bool) (x y z : LocalErrand) (master : Bool) → Passes 403 z
     → (x ≡ Deny 403 → (y ≡ Deny 403) × (master ≡ false)) → listed watch post z x ≡ Deny 403
@@ -129,70 +199,97 @@ list_422 true post x z master n h e = absurd (apart _ _ refl e)
 list_422 false true x z master n h e = h e
 list_422 false false x z master n h e = absurd (n e)
 
-module _ (info : Info) (method body other : List ℕ) where
+module _ (info : Info) (head : Head) (moment : ℕ) (body other : List ℕ) where
   abbrev watches : Bool
   watches = bytes_eq info.verb (codes "watch")
 
   abbrev posts : Bool
-  posts = bytes_eq method (codes "POST")
+  posts = bytes_eq head.method (codes "POST")
 
   abbrev puts : Bool
-  puts = bytes_eq method (codes "PUT")
+  puts = bytes_eq head.method (codes "PUT")
 
   abbrev deletes : Bool
-  deletes = bytes_eq method (codes "DELETE")
+  deletes = bytes_eq head.method (codes "DELETE")
 
-  by_method : (local : Local) (user someone : User) → local_errand local info method body user ≡ Deny 405
-      → local_errand local info method other someone ≡ Deny 405
+  abbrev patches : Bool
+  patches = bytes_eq head.method (codes "PATCH")
+
+  abbrev merges : Bool
+  merges = is_merge_patch (first_value (codes "content-type") head.headers)
+
+  by_method : (local : Local) (user someone : User) → local_errand local info head moment body user ≡ Deny 405
+      → local_errand local info head moment other someone ≡ Deny 405
   unfolding list_errand name_errand
   by_method Health user someone e = e
   by_method GroupList user someone e = e
   by_method (OneGroup name) user someone e = e
   by_method ResourceList user someone e = e
   by_method AllServices user someone e =
-      list_405 watches posts _ _ (look_only method)
+      list_405 watches posts _ _ (look_services head moment)
       (may_405 (is_master user) (create (row_in body)) (create_405 (row_in body))) e
   by_method (OneService name) user someone e =
-      name_405 puts deletes _ _ _ _ (look_only method)
+      name_405 puts deletes patches _ _ _ _ _ _ (look_services head moment)
       (may_405 (is_master user) (replace name (row_in body)) (replace_405 name (row_in body)))
-      (may_405 (is_master user) (Write (Delete name)) (λ d. cc d)) e
+      (may_405 (is_master user) (Write (Delete name)) (λ d. cc d))
+      (patch_405 merges name body user) e
+  by_method (ServicesNamed name) user someone e = e
   by_method Unserved user someone e = absurd (apart _ _ refl e)
 
-  by_user : (local : Local) (user : User) → local_errand local info method body user ≡ Deny 403
-      → (local_errand local info method other user ≡ Deny 403) × (is_master user ≡ false)
+  by_type : (name : List ℕ) (user : User) → head.method ≡ codes "PATCH" → merges ≡ false
+      → local_errand (OneService name) info head moment body user ≡ Deny 415
+  unfolding name_errand
+  by_type name user method none =
+      name_415 puts deletes patches merges _ _ _ (look_services head moment)
+      (ap (λ (m : List ℕ). bytes_eq m (codes "PUT")) method)
+      (ap (λ (m : List ℕ). bytes_eq m (codes "DELETE")) method)
+      (ap (λ (m : List ℕ). bytes_eq m (codes "PATCH")) method) none
+
+  by_user : (local : Local) (user : User) → local_errand local info head moment body user ≡ Deny 403
+      → (local_errand local info head moment other user ≡ Deny 403) × (is_master user ≡ false)
   unfolding list_errand name_errand
-  by_user Health user e = absurd (look_403 method e)
-  by_user GroupList user e = absurd (look_403 method e)
-  by_user (OneGroup name) user e = absurd (look_403 method e)
-  by_user ResourceList user e = absurd (look_403 method e)
+  by_user Health user e = absurd (look_403 head.method e)
+  by_user GroupList user e = absurd (look_403 head.method e)
+  by_user (OneGroup name) user e = absurd (look_403 head.method e)
+  by_user ResourceList user e = absurd (look_403 head.method e)
   by_user AllServices user e =
-      list_403 watches posts _ _ (look_only method) (is_master user) (look_403 method)
+      list_403 watches posts _ _ (look_services head moment) (is_master user) (services_403 head moment)
       (may_403 (is_master user) (create (row_in body)) (create (row_in other)) (create_403 (row_in body))) e
   by_user (OneService name) user e =
-      name_403 puts deletes _ _ _ _ (look_only method) (is_master user) (look_403 method)
+      name_403 puts deletes patches _ _ _ _ _ _ (look_services head moment) (is_master user) (services_403 head moment)
       (may_403 (is_master user) (replace name (row_in body)) (replace name (row_in other)) (replace_403 name (row_in body)))
-      (may_403 (is_master user) (Write (Delete name)) (Write (Delete name)) (λ d. cc d)) e
+      (may_403 (is_master user) (Write (Delete name)) (Write (Delete name)) (λ d. cc d))
+      (patch_403 merges name body other user) e
+  by_user (ServicesNamed name) user e = absurd (listed_403 info head moment e)
   by_user Unserved user e = absurd (apart _ _ refl e)
 
-  by_body : (local : Local) (user : User) → local_errand local info method body user ≡ Deny 422 → is_master user ≡ true
+  by_body : (local : Local) (user : User) → local_errand local info head moment body user ≡ Deny 422 → is_master user ≡ true
   unfolding list_errand name_errand
-  by_body Health user e = absurd (look_422 method e)
-  by_body GroupList user e = absurd (look_422 method e)
-  by_body (OneGroup name) user e = absurd (look_422 method e)
-  by_body ResourceList user e = absurd (look_422 method e)
+  by_body Health user e = absurd (look_422 head.method e)
+  by_body GroupList user e = absurd (look_422 head.method e)
+  by_body (OneGroup name) user e = absurd (look_422 head.method e)
+  by_body ResourceList user e = absurd (look_422 head.method e)
   by_body AllServices user e =
-      list_422 watches posts _ (look_only method) (is_master user) (look_422 method)
+      list_422 watches posts _ (look_services head moment) (is_master user) (services_422 head moment)
       (may_422 (is_master user) (create (row_in body))) e
   by_body (OneService name) user e =
-      name_422 puts deletes _ _ (look_only method) (is_master user) (look_422 method)
-      (may_422 (is_master user) (replace name (row_in body))) (may_422 (is_master user) (Write (Delete name))) e
+      name_422 puts deletes patches _ _ _ (look_services head moment) (is_master user) (services_422 head moment)
+      (may_422 (is_master user) (replace name (row_in body))) (may_422 (is_master user) (Write (Delete name)))
+      (patch_422 merges name body user) e
+  by_body (ServicesNamed name) user e = absurd (listed_422 info head moment e)
   by_body Unserved user e = absurd (apart _ _ refl e)
 
 pub returns-clause-by_method : goal.returns-clause-by_method
-returns-clause-by_method c = λ local info method body other user someone e. by_method info method body other local user someone e
+returns-clause-by_method c = λ local info head moment body other user someone e. by_method info head moment body other local user someone e
+
+pub returns-clause-by_type : goal.returns-clause-by_type
+returns-clause-by_type c = λ name info head moment body user method none. by_type info head moment body body name user method none
 
 pub returns-clause-by_user : goal.returns-clause-by_user
-returns-clause-by_user c = λ local info method body other user e. by_user info method body other local user e
+returns-clause-by_user c = λ local info head moment body other user e. by_user info head moment body other local user e
+
+pub returns-clause-by_selector : goal.returns-clause-by_selector
+returns-clause-by_selector c = λ name info head moment body other user someone. refl
 
 pub returns-clause-by_body : goal.returns-clause-by_body
-returns-clause-by_body c = λ local info method body user e. by_body info method body body local user e
+returns-clause-by_body c = λ local info head moment body user e. by_body info head moment body body local user e

@@ -8,12 +8,12 @@ use Rattle.shared_routes.specs.Shared.{Shared}
 use Rattle.shared_routes.proofs.PlaceLemmas.{below_push, below_stay, own_push, own_stay}
 use Rattle.shared_routes.proofs.shared.SharedRoutesRoutes.change.Goals as goal
 
-on_err : {X : Type 0} (r : Result (Unit {0}) ChangeFault) → X → OnErr r X
-on_err (Ok u) x = tt
+on_err : {A X : Type 0} (r : Result A ChangeFault) → X → OnErr r X
+on_err (Ok left) x = tt
 on_err (Err e) x = x
 
-pub invariant_of-self-in_err-change_locked : goal.invariant_of-self-in_err-change_locked
-invariant_of-self-in_err-change_locked g c =
+pub invariant_of-self-in_err-left : goal.invariant_of-self-in_err-left
+invariant_of-self-in_err-left g c =
     let places : List ℕ = c.self.inside.places.items in
     let old : List Change = (g.P.Prefix.history c.self.inside.prefix).changes in
     let new : List Change = (g.P.Prefix.history c.change_locked.new.prefix).changes in (
@@ -22,12 +22,12 @@ invariant_of-self-in_err-change_locked g c =
           (below_stay places old new c.change_locked.ensures.later c.self.invariant.1),
     )
 
-pub returns-in_err-change_locked-clause-kept : goal.returns-in_err-change_locked-clause-kept
-returns-in_err-change_locked-clause-kept g c =
+pub returns-in_err-left-clause-kept : goal.returns-in_err-left-clause-kept
+returns-in_err-left-clause-kept g c =
     let places : List ℕ = c.self.inside.places.items in
     let old : List Change = (g.P.Prefix.history c.self.inside.prefix).changes in
     let new : List Change = (g.P.Prefix.history c.change_locked.new.prefix).changes in
-    on_err c.from_residual-in_err-change_locked.result
+    on_err c.from_residual-in_err-left.result
     (ap (λ (ps : List ℕ). changes_at ps new) c.reserve.ensures.items
     ∙ own_stay places old new c.change_locked.ensures.later c.self.invariant.1
     ∙ ap (λ (s : Shared). s.own) c.self.view_is)
@@ -37,7 +37,7 @@ invariant_of-self-2 g c =
     let places : List ℕ = c.self.inside.places.items in
     let old : List Change = (g.P.Prefix.history c.self.inside.prefix).changes in
     let new : List Change = (g.P.Prefix.history c.change_locked.new.prefix).changes in
-    let took = c.in_ok-change_locked.ensures.took in
+    let took = c.in_ok-left.ensures.took in
     let at : c.size.result - 1 ≡ length new - 1 = ap (λ (n : ℕ). n - 1) c.size.ensures.count in
     let all = c.push_reserved.ensures.items ∙ ap (λ (ps : List ℕ). ps ++ (c.size.result - 1) ∷ []) c.reserve.ensures.items in (
       c.change_locked.ensures.home,
@@ -50,7 +50,7 @@ returns-clause-took g c =
     let places : List ℕ = c.self.inside.places.items in
     let old : List Change = (g.P.Prefix.history c.self.inside.prefix).changes in
     let new : List Change = (g.P.Prefix.history c.change_locked.new.prefix).changes in
-    let took = c.in_ok-change_locked.ensures.took in
+    let took = c.in_ok-left.ensures.took in
     let at : c.size.result - 1 ≡ length new - 1 = ap (λ (n : ℕ). n - 1) c.size.ensures.count in
     let all = c.push_reserved.ensures.items ∙ ap (λ (ps : List ℕ). ps ++ (c.size.result - 1) ∷ []) c.reserve.ensures.items in
     subst (λ (s : Shared). Took s.opening s.seen s.own c.args.change new (changes_at c.push_reserved.new.self.items new)) c.self.view_is (
