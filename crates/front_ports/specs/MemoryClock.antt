@@ -20,3 +20,7 @@ clock_last clock = clock.last
 -- all that it has given, while their count is below its type's end
 abbrev pub clock_given : MemClock → Option (List ℕ)
 clock_given clock = told_moments clock.start clock.step clock.calls
+
+-- how often it has rested
+abbrev pub clock_rests : MemClock → ℕ
+clock_rests clock = clock.rests

@@ -12,6 +12,7 @@ pub struct MemClock {
     step: u64,
     calls: u64,
     last: Moment,
+    rests: u64,
     ghost behind: { last ≤ moment_at start step calls },
 }
 
@@ -27,7 +28,7 @@ fn step_on(start: Moment, step: u64, count: u64) -> Moment
 }
 
 impl MemClock {
-    ghost use Rattle.front_ports.specs.MemoryClock.{clock_start, clock_step, clock_calls, clock_last, clock_given};
+    ghost use Rattle.front_ports.specs.MemoryClock.{clock_start, clock_step, clock_calls, clock_last, clock_given, clock_rests};
 
     /// A clock that answers `start` first, and then each time so many microseconds more, up to the greatest moment, at
     /// which it stands.
@@ -36,28 +37,33 @@ impl MemClock {
         ensures step { clock_step result ≡ step }
         ensures fresh { (clock_calls result ≡ 0) × (clock_last result ≡ 0) }
         ensures given { clock_given result ≡ Some [] }
+        ensures rests { clock_rests result ≡ 0 }
     {
         MemClock {
             start,
             step,
             calls: 0,
             last: Moment::epoch(),
+            rests: 0,
         }
     }
 }
 
 impl Clock for MemClock {
-    ghost use Rattle.front_ports.specs.MemoryClock.{clock_start, clock_step, clock_calls, clock_last, clock_given};
+    ghost use Rattle.front_ports.specs.MemoryClock.{clock_start, clock_step, clock_calls, clock_last, clock_given, clock_rests};
 
     ghost last = { clock_last };
 
     ghost given = { clock_given };
+
+    ghost rests = { clock_rests };
 
     fn now(&mut self) -> Moment
         ensures later { clock_last self.old ≤ result }
         ensures last { clock_last self.new ≡ result }
         ensures given { Grows (clock_given self.old) (clock_given self.new) (result ∷ []) }
         ensures told { LosesAtEnd (clock_given self.old) (clock_given self.new) }
+        ensures rests { clock_rests self.new ≡ clock_rests self.old }
 
         // Which moment it is.
         ensures answer { result ≡ moment_at (clock_start self.old) (clock_step self.old) (clock_calls self.old) }
@@ -70,5 +76,7 @@ impl Clock for MemClock {
         moment
     }
 
-    fn rest(&mut self) {}
+    fn rest(&mut self) {
+        self.rests = self.rests.saturating_add(1);
+    }
 }

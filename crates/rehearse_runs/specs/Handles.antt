@@ -6,7 +6,7 @@ use Rattle.apiservice_table.specs.declared.table_routes.TableRoutes.{TableRoutes
 use Rattle.front_plants.specs.MemorySinks.{mem_log_tells, mem_hook_tells}
 use Rattle.front_ports.specs.Mark.{visitor_mark, visitor_wishes}
 use Rattle.front_ports.specs.Memory.{MemConn, conn_from, conn_wishes, duplex_left, duplex_written, duplex_read_faults, duplex_write_faults, input_side, output_side}
-use Rattle.front_ports.specs.MemoryClock.{clock_given, clock_last}
+use Rattle.front_ports.specs.MemoryClock.{clock_given, clock_last, clock_rests}
 use Rattle.front_ports.specs.MemoryDial.{dial_calls, dial_faults, dial_link_faults}
 use Rattle.front_ports.specs.MemoryDoor.{door_closes, door_faults, door_given, door_left}
 use Rattle.front_ports.specs.declared.clock.Clock as clocks
@@ -47,7 +47,7 @@ abbrev pub mem_hook : sinks.Ghosts (WebhookSink MemDial MemNotes)
 mem_hook = record { tells = mem_hook_tells }
 
 abbrev pub mem_clock : clocks.Ghosts MemClock
-mem_clock = record { last = clock_last; given = clock_given }
+mem_clock = record { last = clock_last; given = clock_given; rests = clock_rests }
 
 abbrev pub mem_diary : diaries.Ghosts MemDiary
 mem_diary = record { notes = λ d. Some (noted d); has_room = may_note }

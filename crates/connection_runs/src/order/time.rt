@@ -9,11 +9,12 @@ use std::io::Write;
 #[derive(Drop)]
 pub struct TellingClock<W> {
     out: W,
+    rests: u64,
 }
 
 impl<W: Write> TellingClock<W> {
     pub fn new(out: W) -> TellingClock<W> {
-        TellingClock { out }
+        TellingClock { out, rests: 0 }
     }
 }
 
@@ -24,12 +25,16 @@ impl<W: Write> Clock for TellingClock<W> {
 
     ghost given = { λ _. None };
 
+    ghost rests = { λ clock. clock.rests };
+
     fn now(&mut self) -> Moment {
         let _ = self.out.write_all(b"the clock is read\n");
         Moment::epoch()
     }
 
-    fn rest(&mut self) {}
+    fn rest(&mut self) {
+        self.rests = self.rests.saturating_add(1);
+    }
 }
 
 /// A diary that keeps nothing.
