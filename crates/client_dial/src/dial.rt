@@ -1,6 +1,7 @@
 ghost use Rattle.std.specs.Prelude.{◌≡◌, None};
 ghost use Rattle.client_dial.specs.Counts.{dial_faults, dial_link_faults};
 
+use crate::clock::millis_now;
 use crate::last_error::LastError;
 use crate::link::ClientLink;
 use front_base::Address;
@@ -15,30 +16,38 @@ use tcp_ports::DEFAULT_LIMITS;
 pub struct ClientDial<'b, R> {
     rt: &'b R,
     last: &'b LastError,
+    // How long a call may take, in milliseconds.
+    limit: u64,
     faults: u64,
     link_faults: u64,
 }
 
-fn open_stream<R: Net<Stream = TcpStream>>(net: &R, to: Address) -> io::Result<TcpStream> {
+// Opens a stream for a call that may take so many milliseconds.
+fn open_stream<R: Net<Stream = TcpStream>>(
+    net: &R,
+    to: Address,
+    limit: u64,
+) -> io::Result<TcpStream> {
     let [a, b, c, d] = to.ip;
     let at = SocketAddr::new(IpAddr::V4(Ipv4Addr::new(a, b, c, d)), to.port);
-    let limits = DEFAULT_LIMITS;
-    let stream = TcpStream::connect_timeout(net, &at, Duration::from_millis(limits.dial_timeout))?;
+    let most = DEFAULT_LIMITS.dial_timeout.min(limit).max(1);
+    let stream = TcpStream::connect_timeout(net, &at, Duration::from_millis(most))?;
     stream.set_nodelay(true)?;
-    stream.set_read_timeout(Some(Duration::from_millis(limits.response_header_timeout)))?;
-    stream.set_write_timeout(Some(Duration::from_millis(limits.stall_timeout)))?;
     Ok(stream)
 }
 
 impl<'b, R> ClientDial<'b, R> {
-    /// A dial that has opened nothing. What fails is noted in `last`.
-    pub fn new(rt: &'b R, last: &'b LastError) -> ClientDial<'b, R>
+    /// A dial that has opened nothing. A call may take so many milliseconds in all, from its dial to the last byte of its reply, and
+    /// `dial_timeout` of a server's defaults of these to open its link. What fails is noted in `last`, and a call past its limit as a
+    /// timeout.
+    pub fn new(rt: &'b R, last: &'b LastError, limit: u64) -> ClientDial<'b, R>
         ensures faults { dial_faults result ≡ 0 }
         ensures link_faults { dial_link_faults result ≡ 0 }
     {
         ClientDial {
             rt,
             last,
+            limit,
             faults: 0,
             link_faults: 0,
         }
@@ -55,8 +64,9 @@ impl<'b, R: Net<Stream = TcpStream> + rt::Clock> Dial for ClientDial<'b, R> {
     ghost link_faults = { dial_link_faults };
 
     fn dial(&mut self, to: Address, _long_running: bool) -> Result<ClientLink<'b, R>, PortFault> {
-        match open_stream(self.rt, to) {
-            Ok(stream) => Ok(ClientLink::new(self.rt, self.last, stream)),
+        let until = millis_now(self.rt).saturating_add(self.limit);
+        match open_stream(self.rt, to, self.limit) {
+            Ok(stream) => Ok(ClientLink::new(self.rt, self.last, stream, until)),
             Err(error) => {
                 self.last.note(&error);
                 self.faults = self.faults.saturating_add(1);

@@ -4,34 +4,26 @@ ghost use Rattle.std.specs.Io.KnownBytes.{ReadConsumes, WriteAppends};
 ghost use Rattle.front_ports.specs.Cause.{HasCause};
 ghost use Rattle.client_dial.specs.Counts.{link_input, link_output, link_read_faults, link_write_faults};
 
+use crate::clock::rest_until;
 use crate::last_error::LastError;
 use front_ports::{ByteSink, Link, PortFault, Source};
 use std::io::{ErrorKind, Read, Write};
 use std::net::TcpStream;
 use std::{io, rt};
-use tcp_ports::DEFAULT_LIMITS;
 
 // How many turns a loop of calls has that signals end. No run takes so many.
 const MOST_TURNS: u64 = 1 << 40;
 
-/// A link for one call. A read waits no longer than a server's default limit for the head of a reply, and so do all reads together; a write
-/// no longer than that for a peer that stalls.
+/// A link for one call, on which nothing is read or written after the call's last moment.
 #[derive(Drop)]
 pub struct ClientLink<'b, R> {
     rt: &'b R,
     last: &'b LastError,
     stream: TcpStream,
-    // The moment from which on nothing is read, in milliseconds, none before the first read.
-    until: Option<u64>,
+    // The moment from which on nothing is read or written, in milliseconds.
+    until: u64,
     read_faults: u64,
     write_faults: u64,
-}
-
-fn millis_now(rt: &impl rt::Clock) -> u64 {
-    match rt.monotonic() {
-        Ok(time) => u64::try_from(time.as_millis()).unwrap_or(u64::MAX),
-        Err(_) => 0,
-    }
 }
 
 // Reads what comes, until this moment at most.
@@ -44,9 +36,10 @@ fn read_some(
     ensures { ReadsAtMost result buf.new }
 {
     for _ in 0..MOST_TURNS {
-        if millis_now(rt) >= until {
+        let Some(rest) = rest_until(rt, until) else {
             break;
-        }
+        };
+        stream.set_read_timeout(Some(rest))?;
         match stream.read(buf) {
             Ok(count) => return Ok(count),
             Err(error) if error.kind() == ErrorKind::Interrupted => {}
@@ -57,10 +50,20 @@ fn read_some(
     Err(io::Error::from(ErrorKind::TimedOut))
 }
 
-fn write_some(stream: &mut TcpStream, piece: &[u8]) -> io::Result<usize>
+// Writes what is taken, until this moment at most.
+fn write_some(
+    rt: &impl rt::Clock,
+    stream: &mut TcpStream,
+    until: u64,
+    piece: &[u8],
+) -> io::Result<usize>
     ensures { WritesAtMost result piece.now }
 {
     for _ in 0..MOST_TURNS {
+        let Some(rest) = rest_until(rt, until) else {
+            break;
+        };
+        stream.set_write_timeout(Some(rest))?;
         match stream.write(piece) {
             Ok(count) => return Ok(count),
             Err(error) if error.kind() == ErrorKind::Interrupted => {}
@@ -72,7 +75,12 @@ fn write_some(stream: &mut TcpStream, piece: &[u8]) -> io::Result<usize>
 }
 
 impl<'b, R: rt::Clock> ClientLink<'b, R> {
-    pub(crate) fn new(rt: &'b R, last: &'b LastError, stream: TcpStream) -> ClientLink<'b, R>
+    pub(crate) fn new(
+        rt: &'b R,
+        last: &'b LastError,
+        stream: TcpStream,
+        until: u64,
+    ) -> ClientLink<'b, R>
         ensures reads { link_read_faults result ≡ 0 }
         ensures writes { link_write_faults result ≡ 0 }
     {
@@ -80,7 +88,7 @@ impl<'b, R: rt::Clock> ClientLink<'b, R> {
             rt,
             last,
             stream,
-            until: None,
+            until,
             read_faults: 0,
             write_faults: 0,
         }
@@ -108,12 +116,7 @@ impl<'b, R: rt::Clock> Source for ClientLink<'b, R> {
         ensures cause { HasCause (link_read_faults self.old) (link_read_faults self.new) result }
         ensures aside { link_output self.new ≡ link_output self.old }
     {
-        let until = match self.until {
-            Some(until) => until,
-            None => millis_now(self.rt).saturating_add(DEFAULT_LIMITS.response_header_timeout),
-        };
-        self.until = Some(until);
-        match read_some(self.rt, &mut self.stream, until, buf) {
+        match read_some(self.rt, &mut self.stream, self.until, buf) {
             Ok(count) => Ok(count),
             Err(error) => {
                 self.last.note(&error);
@@ -139,7 +142,7 @@ impl<'b, R: rt::Clock> ByteSink for ClientLink<'b, R> {
         ensures cause { HasCause (link_write_faults self.old) (link_write_faults self.new) result }
         ensures aside { link_input self.new ≡ link_input self.old }
     {
-        let sent = write_some(&mut self.stream, piece);
+        let sent = write_some(self.rt, &mut self.stream, self.until, piece);
         if let Err(error) = &sent {
             self.last.note(error);
         }

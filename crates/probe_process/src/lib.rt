@@ -13,6 +13,9 @@ use std::rt;
 use tcp_plant::SystemClock;
 use warned_files::WarnedFiles;
 
+// How long one request to a server may take in all, in milliseconds.
+const REQUEST_TIMEOUT: u64 = 60_000;
+
 /// Probes the services that the words name, tells the front door, says how it ended, and gives the status of the program. A warning says
 /// what nobody reads of the files.
 pub fn probed<R: Net<Stream = TcpStream> + rt::Clock>(
@@ -22,7 +25,7 @@ pub fn probed<R: Net<Stream = TcpStream> + rt::Clock>(
 ) -> ExitCode {
     let mut files = WarnedFiles::new(host, words.as_slice(), SystemFiles::new(host));
     let last = LastError::new();
-    let mut dial = ClientDial::new(rt, &last);
+    let mut dial = ClientDial::new(rt, &last, REQUEST_TIMEOUT);
     let mut clock = SystemClock::new(rt);
     let mut out = WriterSink::new(host.stdout());
     let Outcome { status, why } = run_probe(

@@ -22,6 +22,9 @@ fn say_refused(host: &HostRuntime, refused: &Option<PreviousRefusal>, reason: Op
     }
 }
 
+// How long one request to a server may take in all, in milliseconds.
+const REQUEST_TIMEOUT: u64 = 60_000;
+
 /// Asks the servers that the words' files name for their lists of resources, prints one document, says how it ended, and gives the status of
 /// the program. A warning says what nobody reads of the files.
 pub fn fetched<R: Net<Stream = TcpStream> + rt::Clock>(
@@ -31,7 +34,7 @@ pub fn fetched<R: Net<Stream = TcpStream> + rt::Clock>(
 ) -> ExitCode {
     let mut files = WarnedFiles::new(host, words.as_slice(), SystemFiles::new(host));
     let last = LastError::new();
-    let mut dial = ClientDial::new(rt, &last);
+    let mut dial = ClientDial::new(rt, &last, REQUEST_TIMEOUT);
     let mut out = WriterSink::new(host.stdout());
     let ResourcesEnded {
         status,

@@ -19,6 +19,10 @@ use tcp_plant::SystemClock;
 use tcp_ports::TcpDoor;
 use webhook_sink::{HookFault, WebhookSink};
 
+// How long a post may take in all, in milliseconds: to open its link, for a stall of its body, and until its reply has come, as a server's
+// default limits have it.
+const POST_TIMEOUT: u64 = 95_000;
+
 /// A plant that makes a webhook and a clock, and nothing else. It counts the calls that failed, and tells no more.
 #[derive(Drop)]
 pub struct ShipPlant<'b, R> {
@@ -116,7 +120,7 @@ impl<'b, R: Threads + Wait + Copy + Drop + Net<Stream = TcpStream> + rt::Clock +
         alloc: Global,
         url: &str,
     ) -> Result<WebhookSink<ClientDial<'b, R>, PostNotes<'b, R>>, PlantFail> {
-        let dial = ClientDial::new(self.rt, self.share.error());
+        let dial = ClientDial::new(self.rt, self.share.error(), POST_TIMEOUT);
         match WebhookSink::start(alloc, url, dial, PostNotes::new(self.rt, self.share)) {
             Ok(hook) => Ok(hook),
             Err(HookFault::BadUrl) => Err(self.fault(PlantPort::Hook, libc::EINVAL)),

@@ -2,7 +2,7 @@
 use front_base::Address;
 use front_ports::{PortFault, Source};
 use std::io;
-use std::net::{IpAddr, Ipv4Addr, Net, SocketAddr, TcpListener, TcpStream};
+use std::net::{IpAddr, Ipv4Addr, Net, SocketAddr, TcpStream};
 use std::time::{Clock, Instant};
 use tcp_ports::{DEFAULT_LIMITS, SharedListener, TcpLimits};
 
@@ -38,16 +38,15 @@ pub(crate) fn socket_addr_of(to: Address) -> SocketAddr {
     SocketAddr::new(IpAddr::V4(Ipv4Addr::new(a, b, c, d)), to.port)
 }
 
-pub(crate) fn listen<R: Net<Listener = TcpListener, Stream = TcpStream>>(
-    rt: &R,
-    limits: TcpLimits,
-) -> io::Result<SharedListener> {
-    let at = Address {
-        ip: [127, 0, 0, 1],
-        port: 0,
-    };
-    let listener = SharedListener::bind(rt, at, limits)?;
-    listener.open();
+// An address of the loopback interface that the system picks.
+pub(crate) const ANY_PORT: Address = Address {
+    ip: [127, 0, 0, 1],
+    port: 0,
+};
+
+pub(crate) fn listen(rt: &HostRuntime, limits: TcpLimits) -> io::Result<SharedListener> {
+    let listener = SharedListener::bind(rt, rt.alloc(), ANY_PORT, limits, false)?;
+    listener.open()?;
     Ok(listener)
 }
 

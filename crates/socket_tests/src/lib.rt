@@ -5,6 +5,8 @@
 #[cfg(test)]
 mod common;
 #[cfg(test)]
+mod ends;
+#[cfg(test)]
 mod requests;
 #[cfg(test)]
 mod sockets;

@@ -88,9 +88,10 @@ fn old_address(rt: &HostRuntime) -> io::Result<(Address, String)> {
 fn a_port_is_bound_again_at_once(rt: HostRuntime) -> Result<(), Fail> {
     let (at, reply) = old_address(&rt)?;
     assert_eq!(rt; reply.as_str(), EARLY);
-    let listener = SharedListener::bind(&rt, at, SHORT)?;
+    let listener = SharedListener::bind(&rt, rt.alloc(), at, SHORT, false)?;
     assert_eq!(rt; listener.address(), at);
-    assert!(rt; SharedListener::bind(&rt, at, SHORT).is_err());
+    assert!(rt; listener.open().is_ok());
+    assert!(rt; SharedListener::bind(&rt, rt.alloc(), at, SHORT, false).is_err());
     Ok(())
 }
 
@@ -182,6 +183,11 @@ fn an_idle_connection_makes_room(rt: HostRuntime) -> Result<(), Fail> {
         let spent = idle_time(&rt, &mut door, listener.address(), how).unwrap_or(0);
         assert!(rt; least <= spent && spent <= most, "{how}: {spent} ms");
     }
+    let counts = listener.counts();
+    assert_eq!(rt;
+        [counts.accepted, counts.open, counts.idle, counts.well],
+        [5, 0, 3, 2]
+    );
     Ok(())
 }
 
@@ -301,6 +307,11 @@ fn a_slow_client_is_a_fault(rt: HostRuntime) -> Result<(), Fail> {
     assert_eq!(rt;
         stalled_write(&rt, &mut door, listener.address()),
         Some(Err(PortFault))
+    );
+    let counts = listener.counts();
+    assert_eq!(rt;
+        [counts.accepted, counts.late, counts.slow, counts.well],
+        [3, 2, 1, 0]
     );
     Ok(())
 }
@@ -488,7 +499,7 @@ fn a_link_without_a_client_outlives_a_close_and_moves(rt: HostRuntime) -> Result
     Ok(())
 }
 
-fn dials(dial: &mut TcpDial<'_, HostRuntime>, to: Address) -> bool {
+pub(crate) fn dials(dial: &mut TcpDial<'_, HostRuntime>, to: Address) -> bool {
     match dial.dial(to, false) {
         Ok(link) => {
             dial.done(link);
@@ -511,6 +522,8 @@ fn nobody_dials_long_after_a_close(rt: HostRuntime) -> Result<(), Fail> {
     thread::sleep(&rt, Duration::from_millis(400));
     assert!(rt; !dials(&mut dial, to));
     assert_eq!(rt; kind_of(&fault), Some(ErrorKind::TimedOut));
+    let counts = listener.counts();
+    assert_eq!(rt; [counts.dials, counts.dials_failed], [2, 1]);
     Ok(())
 }
 
@@ -559,7 +572,7 @@ fn a_request_in_progress_outlives_a_close(rt: HostRuntime) -> Result<(), Fail> {
 // Answers what comes over each connection of a door, and how many these were.
 fn serve<D: Door + Drop>(mut door: D) -> u64 {
     let mut served = 0u64;
-    for _ in 0..100 {
+    for _ in 0..10_000 {
         match door.next() {
             Ok(Some(mut conn)) => {
                 answer(&mut conn);
@@ -587,7 +600,7 @@ fn answer<C: Conn>(conn: &mut C) {
 }
 
 // A client asks once and ends its connection, or leaves it in the middle of a next request.
-fn ask<R: Net<Stream = TcpStream>>(rt: &R, at: Address, text: &str) -> io::Result<()> {
+pub(crate) fn ask<R: Net<Stream = TcpStream>>(rt: &R, at: Address, text: &str) -> io::Result<()> {
     let mut client = connect(rt, at)?;
     client.write_all(text.as_bytes())?;
     client.read_exact(&mut [0u8; 5])
@@ -613,7 +626,7 @@ fn ask_all<R: Net<Stream = TcpStream>>(
 }
 
 // A bay, which gives as many connections as it may, or until the listener is closed.
-fn serve_bay(rt: &HostRuntime, listener: &SharedListener, connections: u64) -> u64 {
+pub(crate) fn serve_bay(rt: &HostRuntime, listener: &SharedListener, connections: u64) -> u64 {
     let client = ServedClient::new();
     serve(TcpDoor::new(rt, listener, &client, connections))
 }

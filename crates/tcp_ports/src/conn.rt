@@ -11,6 +11,7 @@ use crate::limits::TcpLimits;
 use crate::linger::linger;
 use crate::listener::SharedListener;
 use crate::poll::{INPUT, MOST_TURNS, read_some, wait_for};
+use crate::port_counts::ConnEnd;
 use crate::rate::RateFloor;
 use crate::request_scan::RequestScan;
 use crate::send::send_some;
@@ -36,6 +37,8 @@ pub struct TcpConn<'b, R> {
     sending: RateFloor,
     // Whether the input ended, or counts as ended.
     ended: bool,
+    // How it ends, by what its calls came to.
+    how: ConnEnd,
     read_faults: u64,
     write_faults: u64,
 }
@@ -95,13 +98,14 @@ fn read_on(
     read_request(rt, listener, stream, requests, buf)
 }
 
-// Reads the first bytes of a request. No byte is the end of the connection, or it counts as ended.
+// Reads the first bytes of a request. No byte is the end of the connection, or it counts as ended, which `how` notes.
 fn read_first(
     rt: &impl rt::Clock,
     listener: &SharedListener,
     stream: &mut TcpStream,
     answered: bool,
     requests: &mut RequestScan,
+    how: &mut ConnEnd,
     buf: &mut [u8],
 ) -> io::Result<usize>
     ensures { ReadsAtMost result buf.new }
@@ -119,6 +123,7 @@ fn read_first(
     // That try has waited for a part of it.
     let rest = grace.saturating_sub(first_wait(limits));
     if !request_begins(rt, listener, stream.as_raw_fd(), rest) {
+        *how = ConnEnd::Idle;
         return Ok(0);
     }
     read_request(rt, listener, stream, requests, buf)
@@ -143,6 +148,7 @@ impl<'b, R: rt::Clock> TcpConn<'b, R> {
             requests: RequestScan::new(),
             sending: RateFloor::new(),
             ended: false,
+            how: ConnEnd::Well,
             read_faults: 0,
             write_faults: 0,
         })
@@ -152,11 +158,12 @@ impl<'b, R: rt::Clock> TcpConn<'b, R> {
         self.stream.as_raw_fd()
     }
 
-    /// Ends it. A client that has ended its side, or takes nothing, isn't waited for.
-    pub(crate) fn end(self) {
+    /// Ends it, and gives how that came. A client that has ended its side, or takes nothing, isn't waited for.
+    pub(crate) fn end(self) -> ConnEnd {
         if !self.ended && self.write_faults == 0 {
             linger(self.rt, self.listener.limits(), &self.stream);
         }
+        self.how
     }
 }
 
@@ -185,6 +192,7 @@ impl<'b, R: rt::Clock> Source for TcpConn<'b, R> {
                 &mut self.stream,
                 self.answered,
                 &mut self.requests,
+                &mut self.how,
                 buf,
             )
         } else {
@@ -203,7 +211,8 @@ impl<'b, R: rt::Clock> Source for TcpConn<'b, R> {
                 self.ended = count == 0;
                 Ok(count)
             }
-            Err(_) => {
+            Err(error) => {
+                self.how = ConnEnd::of_read(&error);
                 self.read_faults = self.read_faults.saturating_add(1);
                 Err(PortFault)
             }
@@ -228,14 +237,18 @@ impl<'b, R: rt::Clock> ByteSink for TcpConn<'b, R> {
     {
         self.idle = self.requests.is_between();
         self.answered = true;
-        match send_some(
+        let sent = send_some(
             self.rt,
             self.listener,
             true,
             &mut self.stream,
             &mut self.sending,
             piece,
-        ) {
+        );
+        if let Err(error) = &sent {
+            self.how = ConnEnd::of_write(error);
+        }
+        match sent {
             Ok(count) if count > 0 => Ok(count),
             _ => {
                 self.write_faults = self.write_faults.saturating_add(1);

@@ -28,7 +28,7 @@ pub struct TcpDial<'b, R> {
 impl<'b, R: Net<Stream = TcpStream> + rt::Clock> TcpDial<'b, R> {
     /// A dial for the client that the door of the same bay notes, or for none where no door has `client`. The listener
     /// gives the limits, and ends links of clients once it is closed. A dial without a client fails at once where the listener
-    /// was closed longer ago than its `shutdown_timeout`. Why a call fails is noted in `fault`.
+    /// is closed and has had no connection for longer than its `shutdown_timeout`. Why a call fails is noted in `fault`.
     pub fn new(
         rt: &'b R,
         listener: &'b SharedListener,
@@ -50,7 +50,7 @@ impl<'b, R: Net<Stream = TcpStream> + rt::Clock> TcpDial<'b, R> {
 
     fn open(&self, to: Address) -> io::Result<TcpStream> {
         let has_client = self.client.socket() != NO_SOCKET;
-        if !has_client && self.listener.is_past_shutdown(self.rt) {
+        if !has_client && self.listener.is_past_end(self.rt) {
             return Err(io::Error::from(ErrorKind::TimedOut));
         }
         open_stream(self.rt, self.listener.limits(), to)
@@ -68,15 +68,19 @@ impl<'b, R: Net<Stream = TcpStream> + rt::Clock> Dial for TcpDial<'b, R> {
 
     fn dial(&mut self, to: Address, long_running: bool) -> Result<TcpLink<'b, R>, PortFault> {
         match self.open(to) {
-            Ok(stream) => Ok(TcpLink::new(
-                self.rt,
-                self.listener,
-                self.client,
-                self.fault,
-                stream,
-                long_running,
-            )),
+            Ok(stream) => {
+                self.listener.counters().dialed(None);
+                Ok(TcpLink::new(
+                    self.rt,
+                    self.listener,
+                    self.client,
+                    self.fault,
+                    stream,
+                    long_running,
+                ))
+            }
             Err(error) => {
+                self.listener.counters().dialed(Some(&error));
                 self.fault.note(&error);
                 self.faults = self.faults.saturating_add(1);
                 Err(PortFault)

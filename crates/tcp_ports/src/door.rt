@@ -90,6 +90,7 @@ impl<'b, R: rt::Clock> Door for TcpDoor<'b, R> {
         match next {
             Ok(Some(conn)) => {
                 self.remaining -= 1;
+                self.listener.counters().conn_was_given();
                 self.client.set(conn.raw_fd());
                 Ok(Some(conn))
             }
@@ -107,6 +108,7 @@ impl<'b, R: rt::Clock> Door for TcpDoor<'b, R> {
 
     fn done(&mut self, conn: TcpConn<'b, R>) {
         self.client.clear();
-        conn.end();
+        let how = conn.end();
+        self.listener.conn_has_ended(self.rt, how);
     }
 }

@@ -7,13 +7,15 @@ use std::rt;
 // How long an idle connection leaves one that waits to a bay that is free or makes room already, in milliseconds.
 const HANDOVER: u64 = 5;
 
-// Whether the first byte of a request comes within the grace, and before the listener is closed.
+// Whether the first byte of a request comes within the grace, and before the listener is closed: one that shares its port loses no
+// request of a client that sends as often as that.
 fn begins_within(listener: &SharedListener, client: RawFd, grace: u64) -> bool {
-    let events = [
-        (client, INPUT),
-        (listener.raw_fd(), BREAK),
-        (NO_SOCKET, BREAK),
-    ];
+    let closes = if listener.shares_port() {
+        NO_SOCKET
+    } else {
+        listener.raw_fd()
+    };
+    let events = [(client, INPUT), (closes, BREAK), (NO_SOCKET, BREAK)];
     let [begins, _, _] = wait_for_any(events, grace);
     begins
 }

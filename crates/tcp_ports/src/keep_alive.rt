@@ -9,7 +9,7 @@ const INTERVAL: i32 = 15;
 
 const COUNT: i32 = 9;
 
-fn value_of(number: i32) -> [u8; 16] {
+pub(crate) fn value_of(number: i32) -> [u8; 16] {
     let mut value = [0u8; 16];
     value[..4].copy_from_slice(&number.to_ne_bytes());
     value

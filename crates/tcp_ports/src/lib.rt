@@ -11,13 +11,18 @@
 //! again, so that no wake-up that is lost can hold one. A client that expects `100 Continue` gets it once the door waits for
 //! its body.
 //!
-//! A listener that is bound takes connections into the system's queue. Its doors give them once it is opened, and each door
-//! that waits is counted, so that a server can say that it serves when all of its bays run.
+//! A listener that is bound has its address, and the system refuses clients there until it is opened. Each door that waits is
+//! counted, so that a server can open it when all of its bays run.
+//!
+//! Listeners of several processes may share a port, where each is bound so. One that is closed then resets no connection: what it
+//! was sent before is given to its doors, and later clients are sent to the others. `SharedListener::close` says how.
 #![tactic(auto)]
 
 mod accept;
+mod bound;
 mod clock;
 mod conn;
+mod descriptors;
 mod dial;
 mod dial_fault;
 mod door;
@@ -25,6 +30,7 @@ mod expect;
 mod head_end;
 mod head_line;
 mod head_notes;
+mod held_conns;
 mod idle;
 mod keep_alive;
 mod limits;
@@ -34,6 +40,7 @@ mod listener;
 mod open;
 mod pace;
 mod poll;
+mod port_counts;
 mod rate;
 mod reply_scan;
 mod request_scan;
@@ -41,10 +48,12 @@ mod send;
 mod served_client;
 
 pub use conn::TcpConn;
+pub use descriptors::most_descriptors;
 pub use dial::TcpDial;
 pub use dial_fault::DialFault;
 pub use door::TcpDoor;
 pub use limits::{DEFAULT_LIMITS, TcpLimits};
 pub use link::TcpLink;
 pub use listener::SharedListener;
+pub use port_counts::PortCounts;
 pub use served_client::ServedClient;

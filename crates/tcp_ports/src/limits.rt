@@ -23,8 +23,8 @@ pub struct TcpLimits {
     pub dial_timeout: u64,
     /// How long reads may wait for one head of a reply in all.
     pub response_header_timeout: u64,
-    /// How long requests in progress may go on once the listener was closed. The reply to a long-running request that is silent
-    /// once its head has come ends within `wake_interval`.
+    /// How long requests in progress may go on once the listener was closed, and for how long after the last of them links without
+    /// a client are opened. The reply to a long-running request that is silent once its head has come ends within `wake_interval`.
     pub shutdown_timeout: u64,
     /// How long one wait lasts at most before the state of the listener and of the client is looked at again, at least 1.
     pub wake_interval: u64,

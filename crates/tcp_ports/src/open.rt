@@ -13,10 +13,10 @@ use std::os::fd::AsRawFd;
 use std::{io, rt};
 
 // How many bytes an IPv4 socket's address has.
-const ADDRESS_BYTES: u32 = 16;
+pub(crate) const ADDRESS_BYTES: u32 = 16;
 
 // The address as the system takes it, in its `sockaddr_in`.
-fn system_address(to: Address) -> [u8; net::_SS_SIZE]
+pub(crate) fn system_address(to: Address) -> [u8; net::_SS_SIZE]
     ensures { result ≡ to_le_bytes w16 2 ++ (to_be_bytes w16 to.port ++ (to.ip ++ replicate 120 0)) }
 {
     let mut raw = [0u8; net::_SS_SIZE];
@@ -26,7 +26,7 @@ fn system_address(to: Address) -> [u8; net::_SS_SIZE]
     raw
 }
 
-fn new_socket() -> io::Result<TcpStream> {
+pub(crate) fn new_socket() -> io::Result<TcpStream> {
     let fd = unsafe { net::socket(net::AF_INET, net::SOCK_STREAM | net::SOCK_CLOEXEC, 0) };
     if fd < 0 {
         return Err(io::Error::from_raw_os_error(os::errno()));
