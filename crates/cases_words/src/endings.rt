@@ -14,6 +14,7 @@ fn status_of(code: u8) -> Status {
         7 => Status::WriteFault,
         8 => Status::NumbersSpent,
         9 => Status::Input,
+        10 => Status::Log,
         _ => Status::Done,
     }
 }

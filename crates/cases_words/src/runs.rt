@@ -2,7 +2,8 @@
 use crate::endings::{said_of, said_of_own};
 use crate::lines::words_of;
 use case_rows::fields;
-use command_ends::{ReaderSource, SystemFiles, WriterSink};
+use command_ends::{ReaderSource, SystemFiles, WriterSink, words_outcome};
+use command_options::WordsFault;
 use explain_run::run_desk;
 use serve_config::{ServeConfig, configure_serve};
 use std::alloc::{AllocError, Global};
@@ -47,12 +48,20 @@ fn explain(rt: &HostRuntime, words: &Vec<String>) -> Result<String, AllocError> 
     said_of_own(alloc, words.as_slice(), ended)
 }
 
-/// How a run of a command ends, and what is said of it: the fields are the command, and the command line.
+// What is said of words that are no command line of that command.
+fn misused(alloc: Global, command: &str, words: &Vec<String>) -> Result<String, AllocError> {
+    let outcome = words_outcome(command, words, &WordsFault::Usage);
+    said_of(alloc, words.as_slice(), outcome)
+}
+
+/// How a run of a command ends, and what is said of it: the fields are the command, and the command line. Those of other commands than
+/// `serve` and `explain` are no command lines.
 pub fn ended(rt: &HostRuntime, row: &str) -> Result<String, AllocError> {
     let (command, line) = fields(row);
     let words = words_of(rt.alloc(), line)?;
     match command {
         "serve" => serve(rt, &words),
-        _ => explain(rt, &words),
+        "explain" => explain(rt, &words),
+        _ => misused(rt.alloc(), command, &words),
     }
 }

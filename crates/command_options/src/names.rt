@@ -56,6 +56,12 @@ pub const RESPONSE_HEADER_TIMEOUT: &str = "response-header-timeout";
 
 pub const SHUTDOWN_TIMEOUT: &str = "shutdown-timeout";
 
+/// Of `serve`: the file that counts are written to.
+pub const METRICS_PATH: &str = "metrics-path";
+
+/// Of `serve`, a flag: several processes may listen at one address.
+pub const REUSE_PORT: &str = "reuse-port";
+
 /// Of `serve`, a flag: an end of standard input ends the run.
 pub const EXIT_ON_STDIN_EOF: &str = "exit-on-stdin-eof";
 

@@ -60,7 +60,8 @@ Files, each of at most 16777216 bytes:
                              most 1024 (default: none)
   --endpoints=FILE           where services are reached, as CSV: the key
                              NAMESPACE/NAME:PORT, or local for APIs without a
-                             service, and A.B.C.D:PORT (default: none)
+                             service, or others for paths that nothing else
+                             serves, and A.B.C.D:PORT (default: none)
 
 Output:
   --max-event-size=BYTES     most bytes of an event's line: 256 to 4194304
@@ -89,14 +90,14 @@ lines, which are folded here:
 
 const CHECK_HELP: &str = r#"Usage: apiaggd check [OPTION].. < LOG
 
-Says whether a log of audit events conforms to an audit policy: whether each
-line is spelled as a server writes it, agrees with its request and with the
-policy, and comes after earlier stages of that request. Lines that were taken
-out are not found, nor is a line that was made up and conforms. Reads the
-lines from standard input, as 'serve' and 'explain' write them. Of a log that
-was rotated all files are read in their order, as by cat. Of a log that still
-grows, or that was cut within a line, all whole lines are read: the rest is
-told as cut, with the number of the last good line.
+Reads a log of audit events from standard input, as 'serve' and 'explain' write
+it, and says whether it conforms to an audit policy: whether each line is
+spelled as a server writes it, agrees with its request and with the policy, and
+comes after earlier stages of that request. Lines that were taken out are not
+found, nor is a line that was made up and conforms. Of a log that was rotated
+all files are read in their order, as by cat. Of a log that still grows, or that
+was cut within a line, all whole lines are read: the rest is told as cut, with
+the number of the last good line.
 
 Where all lines conform it prints 'events N'. Else it prints 'line N REASON'
 for the first one that doesn't, and ends with status 10. The REASON is
@@ -141,13 +142,16 @@ Files, each of at most 16777216 bytes:
                              most 1024 (default: none)
   --endpoints=FILE           where services are reached, as CSV: the key
                              NAMESPACE/NAME:PORT, or local for APIs without a
-                             service, and A.B.C.D:PORT (default: none)
+                             service, or others for paths that nothing else
+                             serves, and A.B.C.D:PORT (default: none)
 
 Listening:
   --listen=A.B.C.D:PORT      where connections are accepted; localhost:PORT
                              too (default: 127.0.0.1:8001)
   --bays=N                   connections served at once, of which a watch takes
                              one as long as it lasts: 1 to 1024 (default: 64)
+  --reuse-port               other processes may listen at the same address,
+                             where each of them has this option
 
 Audit events go to a log, to a webhook, or to both:
   --audit-log-path=PATH      log of events, - for standard output
@@ -187,6 +191,10 @@ Timeouts, in milliseconds:
   --response-header-timeout=N
                              how long a reply's head may take: 1 to 3600000
                              (default: 60000)
+
+Counts:
+  --metrics-path=FILE        file that counts are written to, in the text format
+                             of Prometheus (default: none)
 
 End:
   --exit-on-stdin-eof        an end of standard input ends the run

@@ -15,7 +15,7 @@ use Rattle.front_config.specs.declared.fault.Which.{Which}
 use Rattle.front_config.specs.declared.fault.Which.TheVariants as file
 use Rattle.refusal_text.specs.Place.{place_of}
 use Rattle.refusal_text.specs.declared.refusal.Refusal.{Refusal}
-use Rattle.refusal_text.specs.declared.refusal.Refusal.TheVariants.{Words, NotUtf8, Limits, Listen, Webhook, Front, Token, Files, Request, Input, Output}
+use Rattle.refusal_text.specs.declared.refusal.Refusal.TheVariants.{Words, NotUtf8, Limits, Listen, Webhook, OwnWebhook, Front, Token, Files, Request, Input, Output}
 
 -- the option that names a file
 abbrev pub option_of : Which → List ℕ
@@ -92,6 +92,10 @@ webhook_why url =
 abbrev pub webhook_line : List ℕ → List ℕ
 webhook_line url = codes "--audit-webhook-url=" ++ (url ++ (codes ": " ++ webhook_why url))
 
+-- the same of a URL that leads to the door itself
+abbrev pub own_webhook_line : List ℕ → List ℕ
+own_webhook_line url = codes "--audit-webhook-url=" ++ (url ++ codes ": the address of --listen")
+
 -- ---- files, the input, the output and requests
 
 -- the system's reason, or else these words
@@ -119,6 +123,7 @@ Says NotUtf8 reason line = Unit {0}
 Says (Limits option n) reason line = line ≡ range_line option n
 Says (Listen text) reason line = line ≡ listen_line text
 Says (Webhook url) reason line = line ≡ webhook_line url
+Says (OwnWebhook url) reason line = line ≡ own_webhook_line url
 Says (Front text) reason line = line ≡ front_line text
 Says Token reason line = line ≡ codes "--token: not of the characters '!' to '~'"
 Says (Files names fault) reason line = SaysFile names fault reason line

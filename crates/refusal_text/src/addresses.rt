@@ -103,3 +103,10 @@ pub fn webhook_line(alloc: Global, url: &str) -> Result<String, AllocError>
     let why = webhook_why(url);
     format!(in alloc; "--audit-webhook-url={url}: {why}")
 }
+
+/// The line for a URL of `--audit-webhook-url` that leads to the address of `--listen`.
+pub fn own_webhook_line(alloc: Global, url: &str) -> Result<String, AllocError>
+    ensures { IfOk result (λ line. string_bytes line ≡ spec.own_webhook_line url.now) }
+{
+    format!(in alloc; "--audit-webhook-url={url}: the address of --listen")
+}

@@ -4,7 +4,7 @@ ghost use Rattle.front_config.specs.Load.{name_for};
 ghost use Rattle.refusal_text.specs.Place.{place_of};
 ghost use Rattle.refusal_text.specs.Text as spec;
 
-use crate::json_place::json_reason;
+use crate::json_place::file_reason;
 use crate::place::place_of;
 use crate::reason::{endpoint_reason, policy_reason, record_reason, row_reason};
 use command_options::FileNames;
@@ -45,11 +45,11 @@ fn file_head(alloc: Global, names: &FileNames, which: Which) -> Result<String, A
     format!(in alloc; "{option}={name}: ")
 }
 
-// Why a file's bytes are refused.
-fn reason_of(alloc: Global, fault: &FileFault) -> Result<String, AllocError> {
+// Why the bytes of the file of that name are refused.
+fn reason_of(alloc: Global, name: &str, fault: &FileFault) -> Result<String, AllocError> {
     match fault {
         FileFault::TooLong => String::from_str(alloc, "larger than 16 MiB"),
-        FileFault::NotJson(bytes) => json_reason(alloc, bytes.as_slice()),
+        FileFault::NotJson(bytes) => file_reason(alloc, name, bytes.as_slice()),
         FileFault::Token { why, .. } => String::from_str(alloc, record_reason(*why)),
         FileFault::PolicyFile(fault) => String::from_str(alloc, policy_reason(fault)),
         FileFault::RowsFile(fault) => String::from_str(alloc, row_reason(fault)),
@@ -75,7 +75,7 @@ fn bad_file(
 {
     let mut line = file_head(alloc, names, which)?;
     let place = place_of(alloc, fault)?;
-    let reason = reason_of(alloc, fault)?;
+    let reason = reason_of(alloc, name_of(names, which), fault)?;
     let rest = after_place(alloc, place.as_str(), reason.as_str())?;
     line.push_str(place.as_str())?;
     line.push_str(rest.as_str())?;

@@ -55,3 +55,26 @@ pub fn json_reason(alloc: Global, bytes: &[u8]) -> Result<String, AllocError> {
     let Position { line, column } = position_of(before);
     format!(in alloc; "not JSON: line {line}, column {column}")
 }
+
+fn is_blank(byte: u8) -> bool {
+    matches!(byte, b' ' | b'\t' | b'\r' | b'\n')
+}
+
+// Whether the first byte that isn't blank begins neither an object nor an array of JSON, as in YAML.
+fn begins_otherwise(bytes: &[u8]) -> bool {
+    for byte in bytes {
+        if !is_blank(*byte) {
+            return !matches!(*byte, b'{' | b'[');
+        }
+    }
+    false
+}
+
+/// Why the bytes of the file of that name were refused as no JSON; and what makes JSON of them, where they may be YAML.
+pub fn file_reason(alloc: Global, name: &str, bytes: &[u8]) -> Result<String, AllocError> {
+    let reason = json_reason(alloc, bytes)?;
+    if !begins_otherwise(bytes) || json_stop(bytes).is_none() {
+        return Ok(reason);
+    }
+    format!(in alloc; "{reason}; YAML is not read: 'yq -o json {name}' makes JSON of it")
+}

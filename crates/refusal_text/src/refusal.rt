@@ -16,6 +16,8 @@ pub enum Refusal {
     Listen(Text),
     /// The text of `--audit-webhook-url` is no URL that a webhook can have.
     Webhook(Text),
+    /// The URL of `--audit-webhook-url` leads to the address of `--listen`.
+    OwnWebhook(Text),
     /// The text of `--front` is no address.
     Front(Text),
     /// The text of `--token` can't stand in a header.

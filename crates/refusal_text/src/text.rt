@@ -1,7 +1,7 @@
 ghost use Rattle.std.specs.Prelude.{◌≡◌, ◌++◌, IfOk, codes, option_map, string_bytes};
 ghost use Rattle.refusal_text.specs.Text as spec;
 
-use crate::addresses::{front_line, listen_line, webhook_line};
+use crate::addresses::{front_line, listen_line, own_webhook_line, webhook_line};
 use crate::file_line::{file_line, reason_or};
 use crate::refusal::Refusal;
 use crate::usage::usage_line;
@@ -78,6 +78,7 @@ pub fn refusal_text(
         Refusal::Limits { option, number } => range_line(alloc, *option, *number),
         Refusal::Listen(text) => listen_line(alloc, text.as_str()),
         Refusal::Webhook(url) => webhook_line(alloc, url.as_str()),
+        Refusal::OwnWebhook(url) => own_webhook_line(alloc, url.as_str()),
         Refusal::Front(text) => front_line(alloc, text.as_str()),
         Refusal::Token => String::from_str(alloc, "--token: not of the characters '!' to '~'"),
         Refusal::Files { names, fault } => file_line(alloc, names, fault, reason),

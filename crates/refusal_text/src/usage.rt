@@ -21,6 +21,11 @@ fn help_on(command: &str) -> &'static str {
     }
 }
 
+// Whether the command of that name reads standard input.
+fn reads_input(command: &str) -> bool {
+    matches!(command, "explain" | "check" | "ship")
+}
+
 // The help that fits a fault of these words.
 fn help_for(words: &[String], fault: WordFault) -> &'static str {
     match fault {
@@ -104,6 +109,17 @@ fn no_sink(alloc: Global, option: &str) -> Result<String, AllocError> {
     }
 }
 
+// A word that is no option and no value. Who writes a file's name there is told that it is read from standard input.
+fn not_option(alloc: Global, words: &[String], word: &str) -> Result<String, AllocError> {
+    match words {
+        [command, ..] if reads_input(command.as_str()) && !word.starts_with('-') => {
+            let command = command.as_str();
+            format!(in alloc; "{word:?}: not an option; {command} reads standard input")
+        }
+        _ => format!(in alloc; "{word:?}: not an option"),
+    }
+}
+
 // A command without an option that it can't be without.
 fn lacking(alloc: Global, command: &str) -> Result<String, AllocError> {
     match required_by(command) {
@@ -130,7 +146,7 @@ fn fault_line(
     match fault {
         WordFault::NoCommand => String::from_str(alloc, "no command"),
         WordFault::UnknownCommand => format!(in alloc; "{word:?}: unknown command"),
-        WordFault::NotOption => format!(in alloc; "{word:?}: not an option"),
+        WordFault::NotOption => not_option(alloc, words, word),
         WordFault::UnknownOption => unknown_option(alloc, words, option),
         WordFault::NoValue => format!(in alloc; "{option}: no value"),
         WordFault::HasValue => format!(in alloc; "{option}: takes no value"),

@@ -16,7 +16,7 @@ use Rattle.serve_config.specs.Config.{IsRefused, Loads, TellsServe, status_of_se
 use Rattle.serve_config.specs.Serve as serve
 use Rattle.serve_config.specs.Serve.{serve_command}
 use Rattle.serve_config.specs.declared.fault.ServeFault.{ServeFault}
-use Rattle.serve_config.specs.declared.fault.ServeFault.TheVariants.{Words, Listen, Webhook}
+use Rattle.serve_config.specs.declared.fault.ServeFault.TheVariants.{Words, Listen, Webhook, OwnWebhook}
 use Rattle.serve_config.specs.declared.serve.ServeWords.{ServeWords}
 
 abbrev Due : ServeFault → Result ServeWords ServeFault → Type 0
@@ -38,6 +38,7 @@ words_refused line files (Words (words_fault.Limits option n)) why h t = inl (op
 words_refused line files (Words words_fault.NoMemory) why h t = tt
 words_refused line files (Listen text) why h t = inr (inl (text, (due (serve_command line) (Listen text) refl h, t)))
 words_refused line files (Webhook url) why h t = inr (inr (inl (url, (due (serve_command line) (Webhook url) refl h, t))))
+words_refused line files (OwnWebhook url) why h t = inr (inr (inr (inl (url, (due (serve_command line) (OwnWebhook url) refl h, t)))))
 
 read_due : (r : Result Loaded LoadFault) (which : Which) → load.Gives (Err (load_fault.ReadFault which)) r → r ≡ Err (load_fault.ReadFault which)
 read_due (Ok a) which e = absurd (cc e)
@@ -71,5 +72,5 @@ load_refused line files serve reads (load_fault.ReadFault which) c r h cause =
     )
 load_refused line files serve reads (load_fault.BadFile which fault) c r h cause =
     let e : load_of serve.files reads ≡ Err (load_fault.BadFile which fault) = file_due _ which fault h in
-    inr (inr (inr (which, fault, loads_of line files.before.told serve reads (Err (load_fault.BadFile which fault)) c r e, refl)))
+    inr (inr (inr (inr (which, fault, loads_of line files.before.told serve reads (Err (load_fault.BadFile which fault)) c r e, refl))))
 load_refused line files serve reads load_fault.NoMemory c r h cause = tt

@@ -19,7 +19,7 @@ use Rattle.refusal_text.specs.declared.refusal.Refusal.TheVariants as refusal
 use Rattle.serve_config.specs.declared.config.ServeConfig.{ServeConfig}
 use Rattle.serve_config.specs.Serve.{serve_command}
 use Rattle.serve_config.specs.declared.fault.ServeFault.{ServeFault}
-use Rattle.serve_config.specs.declared.fault.ServeFault.TheVariants.{Words, Listen, Webhook}
+use Rattle.serve_config.specs.declared.fault.ServeFault.TheVariants.{Words, Listen, Webhook, OwnWebhook}
 use Rattle.serve_config.specs.declared.serve.ServeWords.{ServeWords}
 
 -- the words are a command line of `serve`, and reads of the files that it names, told as these, gave this
@@ -41,12 +41,14 @@ abbrev pub status_of_serve : ServeFault → Status
 status_of_serve (Words fault) = status_of_words fault
 status_of_serve (Listen text) = Configuration
 status_of_serve (Webhook url) = Configuration
+status_of_serve (OwnWebhook url) = Configuration
 
 -- some word, the option and its number, or the text of the option
 abbrev pub TellsServe : ServeFault → Option Refusal → Type 0
 TellsServe (Words fault) why = TellsWords fault why
 TellsServe (Listen text) why = why ≡ Some (refusal.Listen text)
 TellsServe (Webhook url) why = why ≡ Some (refusal.Webhook url)
+TellsServe (OwnWebhook url) why = why ≡ Some (refusal.OwnWebhook url)
 
 -- words are refused with this fault, and this is told of it
 abbrev pub Refuses : List (List ℕ) → ServeFault → Option Refusal → Type 0
@@ -59,8 +61,9 @@ IsRefused words files Configuration why =
     ((option : Ranged) × (n : ℕ) × Refuses words (Words (words_fault.Limits option n)) why)
     ⊎ (((text : List ℕ) × Refuses words (Listen text) why)
     ⊎ (((url : List ℕ) × Refuses words (Webhook url) why)
+    ⊎ (((url : List ℕ) × Refuses words (OwnWebhook url) why)
     ⊎ ((which : Which) × (fault : FileFault) × (loads : Loads words files.before.told (Err (load_fault.BadFile which fault)))
-    × (why ≡ why_of_load loads.serve.files (load_fault.BadFile which fault)))))
+    × (why ≡ why_of_load loads.serve.files (load_fault.BadFile which fault))))))
 IsRefused words files ReadFault why =
     Rose files.before.faults files.after.faults
     × ((which : Which) × (loads : Loads words files.before.told (Err (load_fault.ReadFault which)))

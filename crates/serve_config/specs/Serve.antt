@@ -1,5 +1,6 @@
 -- The command line of `serve`.
-use Rattle.std.specs.Prelude.{ℕ, Bool, false, if◌then◌else◌, List, [], ◌∷◌, Option, Some, None, is_some, Result, Ok, Err, codes}
+use Rattle.std.specs.Prelude.{ℕ, ◌&&◌, ◌||◌, nat_eq, Bool, false, if◌then◌else◌, List, [], ◌∷◌, Option, Some, None, is_some, Result, Ok, Err, codes}
+use Rattle.std.specs.List.{starts_with}
 use Rattle.std.specs.Str.{bytes_eq}
 use Rattle.json_value.specs.Results.{◌>>=◌, found_or}
 use Rattle.json_value.specs.Results as results
@@ -16,14 +17,15 @@ use Rattle.front_base.specs.Address.{address_of}
 use Rattle.front_base.specs.declared.address.Address.{Address}
 use Rattle.serve_config.specs.declared.batch.BatchWords.{BatchWords}
 use Rattle.serve_config.specs.declared.fault.ServeFault.{ServeFault}
-use Rattle.serve_config.specs.declared.fault.ServeFault.TheVariants.{Words, Listen, Webhook}
+use Rattle.serve_config.specs.declared.fault.ServeFault.TheVariants.{Words, Listen, Webhook, OwnWebhook}
 use Rattle.serve_config.specs.declared.serve.ServeWords.{ServeWords}
 use Rattle.serve_config.specs.declared.sinks.SinkWords.{SinkWords}
 use Rattle.tcp_ports.specs.declared.limits.TcpLimits.{TcpLimits}
 use Rattle.tcp_ports.specs.declared.limits.TheConstants.{DEFAULT_LIMITS}
 use Rattle.webhook_sink.specs.Hooks.{hook_named}
+use Rattle.webhook_sink.specs.declared.hook_url.HookUrl.{HookUrl}
 
--- the options of `serve`, of which the last is a flag
+-- the options of `serve`, of which the last two are flags
 abbrev pub serve_names : List (List ℕ)
 serve_names =
     codes "token-auth-file" ∷ codes "audit-policy-file" ∷ codes "apiservices" ∷ codes "endpoints" ∷ codes "max-event-size"
@@ -32,7 +34,7 @@ serve_names =
     ∷ codes "batch-buffer" ∷ codes "batch-max-size" ∷ codes "batch-max-wait-ms" ∷ codes "max-batch-size"
     ∷ codes "idle-timeout" ∷ codes "read-header-timeout" ∷ codes "min-rate" ∷ codes "stall-timeout"
     ∷ codes "dial-timeout" ∷ codes "response-header-timeout" ∷ codes "shutdown-timeout"
-    ∷ codes "exit-on-stdin-eof" ∷ []
+    ∷ codes "metrics-path" ∷ codes "reuse-port" ∷ codes "exit-on-stdin-eof" ∷ []
 
 -- ---- numbers
 
@@ -82,13 +84,40 @@ abbrev pub sink_by : SinkMode → Option (List ℕ) → Option (List ℕ) → Re
 sink_by default None mode = sink_off mode
 sink_by default (Some target) mode = mode_of default mode >>= (λ own. Ok (record { target = Some target; mode = own }))
 
--- a webhook can have this URL
-unfoldable pub webhook_at : List ℕ → Result (Unit {0}) ServeFault
-webhook_at url = if is_some (hook_named url) then Ok tt else Err (Webhook url)
+-- an address of this machine alone: its first byte is 127 (RFC 1122, section 3.2.1.3)
+abbrev pub is_loopback : List ℕ → Bool
+is_loopback ip = starts_with nat_eq ip (127 ∷ [])
 
-abbrev pub webhook_of : Option (List ℕ) → Result (Unit {0}) ServeFault
-webhook_of None = Ok tt
-webhook_of (Some url) = webhook_at url
+-- all addresses of this machine, where it is listened at
+abbrev pub is_any : List ℕ → Bool
+is_any ip = bytes_eq ip (0 ∷ 0 ∷ 0 ∷ 0 ∷ [])
+
+-- who dials the second address reaches who listens at the first one, by the addresses alone: they are the same; or all are listened at
+-- and this machine is dialed; or 0.0.0.0 is dialed, which Linux leads to 127.0.0.1
+abbrev pub is_same_host : List ℕ → List ℕ → Bool
+is_same_host listened dialed =
+    bytes_eq listened dialed
+    || (is_any listened && is_loopback dialed
+    || is_any dialed && bytes_eq listened (127 ∷ 0 ∷ 0 ∷ 1 ∷ []))
+
+abbrev pub reaches : Address → Address → Bool
+reaches listen hook = nat_eq listen.port hook.port && is_same_host listen.ip hook.ip
+
+-- whom a URL names isn't who listens
+abbrev pub not_own : Address → List ℕ → Address → Result (Unit {0}) ServeFault
+not_own listen url hook = if reaches listen hook then Err (OwnWebhook url) else Ok tt
+
+abbrev pub hook_at : Address → List ℕ → Option HookUrl → Result (Unit {0}) ServeFault
+hook_at listen url None = Err (Webhook url)
+hook_at listen url (Some hook) = not_own listen url hook.address
+
+-- a webhook can have this URL, and it doesn't lead to the address that is listened at
+unfoldable pub webhook_at : Address → List ℕ → Result (Unit {0}) ServeFault
+webhook_at listen url = hook_at listen url (hook_named url)
+
+abbrev pub webhook_of : Address → Option (List ℕ) → Result (Unit {0}) ServeFault
+webhook_of listen None = Ok tt
+webhook_of listen (Some url) = webhook_at listen url
 
 -- ---- what is told
 
@@ -140,7 +169,7 @@ serve_by given = do
   connections ← ranged option.Connections given
   batch ← batch_by given
   limits ← limits_by given
-  checked ← webhook_of webhook.target
+  checked ← webhook_of listen webhook.target
   Ok (record {
     files = file_names given;
     max_event = max_event;
@@ -151,15 +180,21 @@ serve_by given = do
     webhook = webhook;
     batch = batch;
     limits = limits;
+    metrics_path = value_of (codes "metrics-path") given;
+    reuse_port = is_some (value_of (codes "reuse-port") given);
     exit_on_stdin_eof = is_some (value_of (codes "exit-on-stdin-eof") given);
   })
 
--- the same by words where the flag is an option in one word
+-- the words where each flag is an option in one word
+unfoldable pub with_flags : List (List ℕ) → Result (List (List ℕ)) WordsFault
+with_flags words = with_flag (codes "exit-on-stdin-eof") words >>= with_flag (codes "reuse-port")
+
+-- the same by words where each flag is an option in one word
 unfoldable pub serve_given : List (List ℕ) → Result ServeWords ServeFault
 serve_given words = in_words (given_of serve_names words) >>= serve_by
 
 unfoldable pub serve_of : List (List ℕ) → Result ServeWords ServeFault
-serve_of words = in_words (with_flag (codes "exit-on-stdin-eof") words) >>= serve_given
+serve_of words = in_words (with_flags words) >>= serve_given
 
 -- what words ask for: the command's word, and its options
 unfoldable pub serve_command : List (List ℕ) → Result ServeWords ServeFault
@@ -172,6 +207,7 @@ abbrev pub is_memory : ServeFault → Bool
 is_memory (Words fault) = options.is_memory fault
 is_memory (Listen text) = false
 is_memory (Webhook text) = false
+is_memory (OwnWebhook text) = false
 
 -- what is answered, seen by view, is what is due, unless memory ran out
 abbrev pub Gives : {A B : Type 0} → (A → B) → Result A ServeFault → Result B ServeFault → Type 0

@@ -14,6 +14,8 @@ pub enum ServeFault {
     Listen(Text),
     /// The text of `--audit-webhook-url` is no URL that a webhook can have.
     Webhook(Text),
+    /// The URL of `--audit-webhook-url` leads to the address of `--listen`: each post would be a request of its own.
+    OwnWebhook(Text),
 }
 
 impl From<WordsFault> for ServeFault {

@@ -21,5 +21,9 @@ pub fn serve_outcome(words: &Vec<String>, fault: ServeFault) -> Outcome
             status: Status::Configuration,
             why: Some(Refusal::Webhook(url)),
         },
+        ServeFault::OwnWebhook(url) => Outcome {
+            status: Status::Configuration,
+            why: Some(Refusal::OwnWebhook(url)),
+        },
     }
 }

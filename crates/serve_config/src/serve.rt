@@ -1,6 +1,6 @@
 // What `serve` is told.
 ghost use Rattle.std.specs.Prelude.{codes, map, string_bytes};
-ghost use Rattle.command_options.specs.Options.{value_of};
+ghost use Rattle.command_options.specs.Options.{Gives, value_of};
 ghost use Rattle.serve_config.specs.Serve as spec;
 
 use crate::batch::{BatchWords, batch_by};
@@ -12,11 +12,12 @@ use audit_core::SinkMode;
 use command_options::names::{
     BATCH_BUFFER, BATCH_MAX_SIZE, BATCH_MAX_WAIT, BAYS, CONNECTIONS, DIAL_TIMEOUT, ENDPOINTS,
     EXIT_ON_STDIN_EOF, IDLE_TIMEOUT, LISTEN, LOG_MODE, LOG_PATH, MAX_BATCH_SIZE, MAX_EVENT_SIZE,
-    MIN_RATE, POLICY, READ_HEADER_TIMEOUT, RESPONSE_HEADER_TIMEOUT, SERVICES, SHUTDOWN_TIMEOUT,
-    STALL_TIMEOUT, TOKENS, WEBHOOK_MODE, WEBHOOK_URL,
+    METRICS_PATH, MIN_RATE, POLICY, READ_HEADER_TIMEOUT, RESPONSE_HEADER_TIMEOUT, REUSE_PORT,
+    SERVICES, SHUTDOWN_TIMEOUT, STALL_TIMEOUT, TOKENS, WEBHOOK_MODE, WEBHOOK_URL,
 };
 use command_options::{
-    FileNames, Options, Ranged, WordsFault, file_names, given_of, is_given, value_of, with_flag,
+    FileNames, Options, Ranged, WordsFault, file_names, given_of, is_given, text_of, value_of,
+    with_flag,
 };
 use front_base::{Address, Text, read_address};
 use std::alloc::Global;
@@ -39,6 +40,10 @@ pub struct ServeWords {
     pub batch: BatchWords,
     /// How long peers may take.
     pub limits: TcpLimits,
+    /// The file that counts are written to; `-` is a file's name too.
+    pub metrics_path: Option<Text>,
+    /// Whether several processes may listen at that address.
+    pub reuse_port: bool,
     /// Whether an end of standard input ends it.
     pub exit_on_stdin_eof: bool,
 }
@@ -72,7 +77,8 @@ fn serve_by(alloc: Global, options: &Options) -> Result<ServeWords, ServeFault>
     let connections = ranged(Ranged::Connections, options)?;
     let batch = batch_by(options)?;
     let limits = limits_by(options)?;
-    check_webhook(alloc, &webhook)?;
+    check_webhook(alloc, listen, &webhook)?;
+    let metrics_path = text_of(alloc, METRICS_PATH, options)?;
     let files = file_names(alloc, options)?;
     Ok(ServeWords {
         files,
@@ -84,11 +90,13 @@ fn serve_by(alloc: Global, options: &Options) -> Result<ServeWords, ServeFault>
         webhook,
         batch,
         limits,
+        metrics_path,
+        reuse_port: is_given(REUSE_PORT, options),
         exit_on_stdin_eof: is_given(EXIT_ON_STDIN_EOF, options),
     })
 }
 
-// What `serve` is told by words where the flag is an option in one word.
+// What `serve` is told by words where each flag is an option in one word.
 fn serve_given(alloc: Global, words: &[String]) -> Result<ServeWords, ServeFault>
     ensures { spec.Gives (λ v. v) result (spec.serve_given (map string_bytes words.now)) }
 {
@@ -118,6 +126,8 @@ fn serve_given(alloc: Global, words: &[String]) -> Result<ServeWords, ServeFault
             DIAL_TIMEOUT,
             RESPONSE_HEADER_TIMEOUT,
             SHUTDOWN_TIMEOUT,
+            METRICS_PATH,
+            REUSE_PORT,
             EXIT_ON_STDIN_EOF,
         ],
         words,
@@ -127,10 +137,19 @@ fn serve_given(alloc: Global, words: &[String]) -> Result<ServeWords, ServeFault
     }
 }
 
+// The words, where each flag is an option in one word.
+#[tactic(auto, unfolding(crate::specs::Serve::with_flags))]
+fn with_flags(alloc: Global, words: &[String]) -> Result<Vec<String>, WordsFault>
+    ensures { Gives (λ own. map string_bytes own.items) result (spec.with_flags (map string_bytes words.now)) }
+{
+    let own = with_flag(alloc, EXIT_ON_STDIN_EOF, words)?;
+    with_flag(alloc, REUSE_PORT, own.as_slice())
+}
+
 fn serve_of(alloc: Global, words: &[String]) -> Result<ServeWords, ServeFault>
     ensures { spec.Gives (λ v. v) result (spec.serve_of (map string_bytes words.now)) }
 {
-    match with_flag(alloc, EXIT_ON_STDIN_EOF, words) {
+    match with_flags(alloc, words) {
         Ok(words) => serve_given(alloc, words.as_slice()),
         Err(fault) => Err(ServeFault::Words(fault)),
     }
@@ -138,7 +157,9 @@ fn serve_of(alloc: Global, words: &[String]) -> Result<ServeWords, ServeFault>
 
 /// What the words after the program's name ask for: the word `serve`, and its options in any order, as `command_options`
 /// spells them. Words that are no command line are refused first, then the first option out of its range in the order of
-/// the fields of `ServeWords`, and then the URL of the webhook.
+/// the fields of `ServeWords`, and then the URL of the webhook: one that no webhook can have, or that leads to the address that is
+/// listened at. It does where the ports are the same, and either the IPv4 addresses are too; or 0.0.0.0 is listened at and the URL has
+/// `localhost` or an address that begins with 127; or 127.0.0.1 is listened at and the URL has 0.0.0.0, which Linux leads there.
 #[tactic(auto, unfolding(crate::specs::Serve::serve_command))]
 pub fn read_serve(alloc: Global, words: &Vec<String>) -> Result<ServeWords, ServeFault>
     ensures { spec.Gives (λ v. v) result (spec.serve_command (map string_bytes words.now.items)) }

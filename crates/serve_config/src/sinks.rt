@@ -6,9 +6,9 @@ ghost use Rattle.serve_config.specs.Serve as spec;
 use crate::fault::ServeFault;
 use audit_core::SinkMode;
 use command_options::{Options, WordsFault, value_of};
-use front_base::Text;
+use front_base::{Address, Text};
 use std::alloc::Global;
-use webhook_sink::{HookFault, check_url};
+use webhook_sink::{HookFault, read_url};
 
 /// A sink of audit events.
 #[derive(Debug, Drop)]
@@ -82,22 +82,60 @@ pub fn sink_by(
     }
 }
 
-fn check_hook(alloc: Global, url: &str) -> Result<(), ServeFault>
-    ensures { spec.Gives (λ u. u) result (spec.webhook_at url.now) }
+fn is_loopback(ip: [u8; 4]) -> bool
+    ensures { result ≡ spec.is_loopback ip }
 {
-    match check_url(alloc, url) {
-        Ok(()) => Ok(()),
+    ip.starts_with(&[127])
+}
+
+fn is_any(ip: [u8; 4]) -> bool
+    ensures { result ≡ spec.is_any ip }
+{
+    ip == [0, 0, 0, 0]
+}
+
+fn is_same_host(listened: [u8; 4], dialed: [u8; 4]) -> bool
+    ensures { result ≡ spec.is_same_host listened dialed }
+{
+    listened == dialed
+        || is_any(listened) && is_loopback(dialed)
+        || is_any(dialed) && listened == [127, 0, 0, 1]
+}
+
+// Whether who dials the second address reaches who listens at the first one, by the addresses alone.
+fn reaches(listen: Address, hook: Address) -> bool
+    ensures { result ≡ spec.reaches listen hook }
+{
+    listen.port == hook.port && is_same_host(listen.ip, hook.ip)
+}
+
+// Whom a URL names isn't who listens.
+fn check_own(alloc: Global, listen: Address, hook: Address, url: &str) -> Result<(), ServeFault>
+    ensures { spec.Gives (λ u. u) result (spec.not_own listen url.now hook) }
+{
+    if reaches(listen, hook) {
+        Err(ServeFault::OwnWebhook(Text::copy_of(alloc, url)?))
+    } else {
+        Ok(())
+    }
+}
+
+fn check_hook(alloc: Global, listen: Address, url: &str) -> Result<(), ServeFault>
+    ensures { spec.Gives (λ u. u) result (spec.webhook_at listen url.now) }
+{
+    match read_url(alloc, url) {
+        Ok(hook) => check_own(alloc, listen, hook.address, url),
         Err(HookFault::NoMemory) => Err(ServeFault::Words(WordsFault::NoMemory)),
         Err(HookFault::BadUrl) => Err(ServeFault::Webhook(Text::copy_of(alloc, url)?)),
     }
 }
 
-/// A webhook can have the URL of this sink, where it is named.
-pub fn check_webhook(alloc: Global, sink: &SinkWords) -> Result<(), ServeFault>
-    ensures { spec.Gives (λ u. u) result (spec.webhook_of sink.now.target) }
+/// A webhook can have the URL of this sink, where it is named, and it isn't the address that is listened at.
+pub fn check_webhook(alloc: Global, listen: Address, sink: &SinkWords) -> Result<(), ServeFault>
+    ensures { spec.Gives (λ u. u) result (spec.webhook_of listen sink.now.target) }
 {
     match sink.target.as_ref() {
-        Some(url) => check_hook(alloc, url.as_str()),
+        Some(url) => check_hook(alloc, listen, url.as_str()),
         None => Ok(()),
     }
 }

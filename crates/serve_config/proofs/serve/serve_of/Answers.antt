@@ -1,6 +1,5 @@
-use Rattle.std.proofs.Common.{ap, codes, map, string_bytes}
-use Rattle.command_options.specs.Options.{with_flag}
-use Rattle.serve_config.specs.Serve.{serve_given, serve_of}
+use Rattle.std.proofs.Common.{ap, map, string_bytes}
+use Rattle.serve_config.specs.Serve.{serve_given, serve_of, with_flags}
 use Rattle.serve_config.proofs.FaultLemmas.{refused}
 use Rattle.serve_config.proofs.serve.serve_of.Goals as goal
 
@@ -12,4 +11,4 @@ returns-in-Ok c =
 
 pub returns-in-Err : goal.returns-in-Err
 unfolding serve_of
-returns-in-Err c = refused (with_flag (codes "exit-on-stdin-eof") (map string_bytes c.args.words.now)) serve_given c.in-Err.fault c.in-Err.ensures
+returns-in-Err c = refused (with_flags (map string_bytes c.args.words.now)) serve_given c.in-Err.fault c.in-Err.ensures
