@@ -93,6 +93,10 @@ fn left_of<R: Drop, L: Drop, W: Drop, H: Drop, K: Drop, Y: Drop, D: Drop>(
 // How a run ended of which this is known. Says what it came to, where anything ran.
 fn ending_of(host: &HostRuntime, words: &ServeWords, gate: &TcpGate, left: &Left) -> Ending {
     let alloc = host.alloc();
+    if let Some(errno) = gate.open_fault() {
+        let port = PlantPort::Door;
+        return port_fault(why_unopened(alloc, words, PlantFault { port, errno }));
+    }
     if let Some(why) = shortage(alloc, gate, threads_of(words)) {
         return port_fault(Some(why));
     }

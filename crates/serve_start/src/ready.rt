@@ -1,7 +1,7 @@
 // From words to an open address, over this process's sockets, files and threads.
 use crate::ending::{Ending, finish, no_memory, port_fault};
 use crate::places::{address_text, target};
-use crate::start::{threads_of, watch};
+use crate::start::{Watcher, watch};
 use audit_core::Settings;
 use command_ends::SystemFiles;
 use explain_command::finish_told;
@@ -9,17 +9,18 @@ use front_base::Address;
 use policy_rules::Policy;
 use route_history::NewRoutes;
 use serve_config::{ServeConfig, ServeWords, configure_serve};
-use serve_report::{begun_text, size_warning, strict_warnings};
+use serve_report::{begun_text, files_warning, size_warning, strict_warnings};
 use shared_runs::settings_of;
 use std::alloc::Global;
 use std::io::Read;
 use std::net::{Net, TcpListener, TcpStream};
 use std::process::ExitCode;
 use std::sync::Arc;
-use std::thread::{JoinHandle, Threads};
+use std::thread::Threads;
 use std::{io, thread};
 use system_errors::reason_of;
 use tcp_plant::TcpGate;
+use tcp_ports::most_descriptors;
 use warned_files::WarnedFiles;
 
 // Closes the gate once the reader ends or fails.
@@ -60,7 +61,16 @@ fn bind<R: Net<Listener = TcpListener, Stream = TcpStream>>(
 ) -> io::Result<Arc<TcpGate>> {
     let log = format!(in alloc; "audit log {}", target(&words.log))?;
     let hook = format!(in alloc; "audit webhook {}", target(&words.webhook))?;
-    let gate = TcpGate::bind(rt, alloc, words.listen, words.limits, words.bays, log, hook)?;
+    let gate = TcpGate::bind(
+        rt,
+        alloc,
+        words.listen,
+        words.limits,
+        words.bays,
+        log,
+        hook,
+        words.reuse_port,
+    )?;
     Ok(Arc::new(alloc, gate)?)
 }
 
@@ -90,6 +100,13 @@ fn say_sizes(host: &HostRuntime, settings: &Settings) {
     }
 }
 
+fn say_files(host: &HostRuntime, words: &ServeWords) {
+    if let Ok(text) = files_warning(host.alloc(), words, most_descriptors()) {
+        let text = text.as_str();
+        let _ = eprint!(host; "{text}");
+    }
+}
+
 // Starts the threads that open and close the gate. Whether they run.
 fn watch_gate<R: Threads>(
     host: &HostRuntime,
@@ -97,7 +114,7 @@ fn watch_gate<R: Threads>(
     words: &ServeWords,
     services: usize,
     gate: &Arc<TcpGate>,
-) -> Result<JoinHandle<()>, Ending> {
+) -> Result<Watcher, Ending> {
     let Ok(text) = begun_text(host.alloc(), words, gate.address(), services) else {
         return Err(no_memory());
     };
@@ -107,8 +124,8 @@ fn watch_gate<R: Threads>(
     if words.exit_on_stdin_eof && !watch_input(*host, rt, closer) {
         return Err(no_thread(host.alloc()));
     }
-    match watch(*host, rt, opener, threads_of(words), text) {
-        Some(thread) => Ok(thread),
+    match watch(*host, rt, words, opener, text) {
+        Some(watcher) => Ok(watcher),
         None => Err(no_thread(host.alloc())),
     }
 }
@@ -121,7 +138,7 @@ pub struct Ready {
     /// The table of APIServices that its bays are to share.
     pub routes: NewRoutes,
     pub gate: Arc<TcpGate>,
-    pub watcher: JoinHandle<()>,
+    pub watcher: Watcher,
 }
 
 // What a run by this configuration begins with, or why there is none.
@@ -134,6 +151,7 @@ fn ready_by<R: Threads + Net<Listener = TcpListener, Stream = TcpStream>>(
     say_warnings(host, &words, &loaded.policy);
     let (settings, table) = settings_of(&words, loaded);
     say_sizes(host, &settings);
+    say_files(host, &words);
     let services = table.rows().len();
     let Ok(routes) = NewRoutes::new(host.alloc(), table) else {
         return Err(no_memory());

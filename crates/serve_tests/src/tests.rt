@@ -18,7 +18,7 @@ use std::marker::Brand;
 use std::sync::Arc;
 use std::test::Fail;
 use std::thread;
-use tcp_plant::{TcpGate, TcpPlant};
+use tcp_plant::{AnsweredCounts, TcpGate, TcpPlant};
 use tcp_ports::DEFAULT_LIMITS;
 
 // A gate for two bays, which is open, and the end of it that closes it.
@@ -29,8 +29,9 @@ fn open_gate(rt: &HostRuntime) -> Result<(Arc<TcpGate>, Arc<TcpGate>), Fail> {
         port: 0,
     };
     let hook = String::from_str(alloc, "webhook")?;
-    let gate = TcpGate::bind(rt, alloc, at, DEFAULT_LIMITS, 2, String::new(alloc), hook)?;
-    gate.open();
+    let log = String::new(alloc);
+    let gate = TcpGate::bind(rt, alloc, at, DEFAULT_LIMITS, 2, log, hook, false)?;
+    gate.open()?;
     let gate = Arc::new(alloc, gate)?;
     let closer = Arc::try_clone(&gate)?;
     Ok((gate, closer))
@@ -126,5 +127,15 @@ fn bays_and_the_drainer_work_at_once(rt: HostRuntime) -> Result<(), Fail> {
     assert_eq!(rt; figures_of(ended), expected);
     assert_eq!(rt; gate.running(), 3);
     assert_eq!(rt; gate.hook().counts().written, 13);
+    assert_eq!(rt; gate.hook().counts().offered, 13);
+    let answered = AnsweredCounts {
+        informational: 0,
+        successful: 4,
+        redirected: 0,
+        client_errors: 2,
+        server_errors: 0,
+        events: 13,
+    };
+    assert_eq!(rt; gate.requests().counts(), answered);
     Ok(())
 }

@@ -10,6 +10,10 @@ use Rattle.tcp_ports.specs.declared.conn.TcpConn.{TcpConn}
 abbrev pub clock_last : {R : Type 0} → SystemClock R → ℕ
 clock_last clock = clock.last
 
+-- how often it has rested
+abbrev pub clock_rests : {R : Type 0} → SystemClock R → ℕ
+clock_rests clock = clock.rests
+
 -- how many writes of a log failed
 abbrev pub file_faults : {R : Type 0} → LogFile R → ℕ
 file_faults file = file.faults

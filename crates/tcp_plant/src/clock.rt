@@ -1,5 +1,5 @@
 ghost use Rattle.std.specs.Prelude.{◌≡◌, None};
-ghost use Rattle.tcp_plant.specs.Handles.{clock_last};
+ghost use Rattle.tcp_plant.specs.Handles.{clock_last, clock_rests};
 
 use front_base::{MOMENT_END, Moment};
 use front_ports::Clock;
@@ -12,28 +12,33 @@ use std::{rt, thread};
 pub struct SystemClock<'b, R> {
     rt: &'b R,
     last: Moment,
+    rests: u64,
     // Where a drainer's first rest is counted, until it is.
     drainers: Option<&'b AtomicU64>,
 }
 
 impl<'b, R: rt::Clock> SystemClock<'b, R> {
     pub fn new(rt: &'b R) -> SystemClock<'b, R>
-        ensures { clock_last result ≡ 0 }
+        ensures last { clock_last result ≡ 0 }
+        ensures rests { clock_rests result ≡ 0 }
     {
         SystemClock {
             rt,
             last: Moment::epoch(),
+            rests: 0,
             drainers: None,
         }
     }
 
     /// The clock of a drainer, which is counted once it rests: its thread runs then.
     pub(crate) fn of_drainer(rt: &'b R, drainers: &'b AtomicU64) -> SystemClock<'b, R>
-        ensures { clock_last result ≡ 0 }
+        ensures last { clock_last result ≡ 0 }
+        ensures rests { clock_rests result ≡ 0 }
     {
         SystemClock {
             rt,
             last: Moment::epoch(),
+            rests: 0,
             drainers: Some(drainers),
         }
     }
@@ -56,6 +61,8 @@ impl<'b, R: rt::Clock> Clock for SystemClock<'b, R> {
 
     ghost given = { λ _. None };
 
+    ghost rests = { clock_rests };
+
     fn now(&mut self) -> Moment {
         let moment = system_moment(self.rt);
         if self.last.micros() < moment.micros() {
@@ -70,6 +77,7 @@ impl<'b, R: rt::Clock> Clock for SystemClock<'b, R> {
             drainers.fetch_add(1, Ordering::SeqCst);
             self.drainers = None;
         }
+        self.rests = self.rests.saturating_add(1);
         thread::sleep(self.rt, Duration::from_millis(1));
     }
 }

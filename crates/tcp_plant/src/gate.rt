@@ -1,10 +1,13 @@
+use crate::request_counts::RequestCounts;
 use crate::sink_share::SinkShare;
+use crate::unreached::Unreached;
 use front_base::Address;
 use std::alloc::{AllocError, Global};
 use std::io;
 use std::net::{Net, TcpListener, TcpStream};
-use std::sync::atomic::{AtomicBool, AtomicU64, Ordering};
-use tcp_ports::{DialFault, ServedClient, SharedListener, TcpLimits};
+use std::sync::atomic::{AtomicBool, AtomicI32, AtomicU64, Ordering};
+use system_errors::number_of;
+use tcp_ports::{DialFault, PortCounts, ServedClient, SharedListener, TcpLimits};
 
 /// What the bays of a run share: the listening socket, whom each of them serves, and what became of the lines of each sink. It
 /// is made before its plant, which borrows it, and in an `Arc` it is a handle for whoever opens and closes it from another thread.
@@ -14,6 +17,8 @@ pub struct TcpGate {
     clients: Vec<ServedClient>,
     // That of a dial that serves no bay.
     pub(crate) nobody: ServedClient,
+    pub(crate) requests: RequestCounts,
+    pub(crate) unreached: Unreached,
     pub(crate) log: SinkShare,
     pub(crate) hook: SinkShare,
     // Why links to backends fail, which their replies say.
@@ -23,6 +28,8 @@ pub struct TcpGate {
     closed: AtomicBool,
     // One more than how many threads ran when the start was given up, 0 where it wasn't.
     gave_up: AtomicU64,
+    // Why it could not listen, by the system's number, 0 where nothing failed.
+    open_fault: AtomicI32,
 }
 
 // Whom each bay serves: nobody yet.
@@ -35,8 +42,9 @@ fn clients_of(alloc: Global, bays: u16) -> Result<Vec<ServedClient>, AllocError>
 }
 
 impl TcpGate {
-    /// Listens at this address for so many bays, where port 0 is one that the system picks. Where another process does, the
-    /// error's kind is `AddrInUse`. Notices call the sinks by these names. No bay gets a connection before the gate is opened.
+    /// Takes this address for so many bays, where port 0 is one that the system picks. Where another process listens there, the
+    /// error's kind is `AddrInUse`, unless both share the port. Notices call the sinks by these names. Clients are refused before the
+    /// gate is opened.
     pub fn bind<R: Net<Listener = TcpListener, Stream = TcpStream>>(
         net: &R,
         alloc: Global,
@@ -45,19 +53,23 @@ impl TcpGate {
         bays: u16,
         log: String,
         hook: String,
+        shares_port: bool,
     ) -> io::Result<TcpGate> {
         let clients = clients_of(alloc, bays)?;
-        let listener = SharedListener::bind(net, at, limits)?;
+        let listener = SharedListener::bind(net, alloc, at, limits, shares_port)?;
         Ok(TcpGate {
             listener,
             clients,
             nobody: ServedClient::new(),
+            requests: RequestCounts::new(),
+            unreached: Unreached::new(alloc),
             log: SinkShare::new(log),
             hook: SinkShare::new(hook),
             backends: DialFault::new(),
             drainers: AtomicU64::new(0),
             closed: AtomicBool::new(false),
             gave_up: AtomicU64::new(0),
+            open_fault: AtomicI32::new(0),
         })
     }
 
@@ -72,9 +84,28 @@ impl TcpGate {
         self.listener.running().saturating_add(drainers)
     }
 
-    /// Lets the doors give connections.
-    pub fn open(&self) {
-        self.listener.open();
+    /// Listens, and lets the doors give connections. Where another process has come to listen there since the address was taken, the
+    /// error's kind is `AddrInUse`. After an error it is closed.
+    pub fn open(&self) -> io::Result<()> {
+        let opened = self.listener.open();
+        if let Err(error) = &opened {
+            self.open_fault.store(number_of(error), Ordering::SeqCst);
+            self.close();
+        }
+        opened
+    }
+
+    /// Why it could not listen, by the system's number, where that is so.
+    pub fn open_fault(&self) -> Option<i32> {
+        match self.open_fault.load(Ordering::SeqCst) {
+            0 => None,
+            number => Some(number),
+        }
+    }
+
+    /// What became of the connections of its doors, and of the links to backends and webhooks.
+    pub fn counts(&self) -> PortCounts {
+        self.listener.counts()
     }
 
     pub fn is_open(&self) -> bool {
@@ -98,10 +129,16 @@ impl TcpGate {
     }
 
     /// Ends the waits of all bays, idle connections and silent streams. Each door gives no connection from then on, and
-    /// requests in progress have the limits' `shutdown_timeout` to finish.
+    /// requests in progress have the limits' `shutdown_timeout` to finish. That of a shared port first accepts what clients have been
+    /// sent to it, for a tenth of a second.
     pub fn close(&self) {
         self.closed.store(true, Ordering::SeqCst);
         self.listener.close();
+    }
+
+    /// How its requests were answered.
+    pub fn requests(&self) -> &RequestCounts {
+        &self.requests
     }
 
     /// What became of the lines of the log.

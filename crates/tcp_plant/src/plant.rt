@@ -149,8 +149,8 @@ impl<
         }
     }
 
-    fn diary(&mut self, _alloc: Global) -> SinkDiary<'b, R> {
-        SinkDiary::new(self.rt, &self.gate.log, &self.gate.hook)
+    fn diary(&mut self, alloc: Global) -> SinkDiary<'b, R> {
+        SinkDiary::new(self.rt, alloc, self.gate)
     }
 
     /// The log of this path, as `LogFile::open` has it.

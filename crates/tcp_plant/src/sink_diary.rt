@@ -1,4 +1,7 @@
-use crate::sink_share::SinkShare;
+use crate::gate::TcpGate;
+use crate::request_counts::RequestCounts;
+use crate::sink_share::{Offered, SinkShare};
+use crate::unreached::Unreached;
 use audit_core::{OfferNote, Outcome, Sink};
 use front_base::NoMemory;
 use session_core::{Diary, Exchange, NoDiary};
@@ -7,19 +10,16 @@ use std::io::Eprint;
 use std::rt;
 use std::sync::Wait;
 
-/// Counts the events of exchanges that no sink took, and keeps no exchange.
+/// Counts exchanges, the events that sinks were offered, and those that no sink took. It reports services that have no endpoint, and
+/// keeps no exchange.
 #[derive(Drop)]
 pub struct SinkDiary<'b, R> {
     rt: &'b R,
+    alloc: Global,
+    requests: &'b RequestCounts,
+    unreached: &'b Unreached,
     log: &'b SinkShare,
     hook: &'b SinkShare,
-}
-
-// How many events of one exchange a sink left out.
-#[derive(Clone, Copy, Drop)]
-struct LeftOut {
-    large: u64,
-    full: u64,
 }
 
 fn is_sink(this: Sink, that: Sink) -> bool {
@@ -29,30 +29,39 @@ fn is_sink(this: Sink, that: Sink) -> bool {
     }
 }
 
-fn left_out(notes: &[OfferNote], sink: Sink) -> LeftOut {
-    let mut left = LeftOut { large: 0, full: 0 };
+// What became of the events of one exchange that this sink was due.
+fn offered(notes: &[OfferNote], sink: Sink) -> Offered {
+    let mut all = Offered::NONE;
     for note in notes {
         if is_sink(note.sink, sink) {
             match note.outcome {
-                Outcome::TooLarge { .. } => left.large = left.large.saturating_add(1),
-                Outcome::Full => left.full = left.full.saturating_add(1),
-                Outcome::Taken | Outcome::Failed => {}
+                Outcome::TooLarge { .. } => all.large = all.large.saturating_add(1),
+                Outcome::Full => all.full = all.full.saturating_add(1),
+                Outcome::Taken | Outcome::Failed => all.kept = all.kept.saturating_add(1),
             }
         }
     }
-    left
+    all
 }
 
 impl<'b, R: Wait + rt::Clock + Eprint> SinkDiary<'b, R> {
-    pub(crate) fn new(rt: &'b R, log: &'b SinkShare, hook: &'b SinkShare) -> SinkDiary<'b, R> {
-        SinkDiary { rt, log, hook }
+    pub(crate) fn new(rt: &'b R, alloc: Global, gate: &'b TcpGate) -> SinkDiary<'b, R> {
+        SinkDiary {
+            rt,
+            alloc,
+            requests: &gate.requests,
+            unreached: &gate.unreached,
+            log: &gate.log,
+            hook: &gate.hook,
+        }
     }
 
-    fn count(&self, notes: &[OfferNote]) {
-        let log = left_out(notes, Sink::Log);
-        self.log.left_out(self.rt, log.large, log.full);
-        let hook = left_out(notes, Sink::Webhook);
-        self.hook.left_out(self.rt, hook.large, hook.full);
+    // Each event is due to all sinks, so the sink with the most has all of them.
+    fn count(&self, status: u16, notes: &[OfferNote]) {
+        let (log, hook) = (offered(notes, Sink::Log), offered(notes, Sink::Webhook));
+        self.requests.add(status, log.all().max(hook.all()));
+        self.log.offered(self.rt, log);
+        self.hook.offered(self.rt, hook);
     }
 }
 
@@ -69,7 +78,8 @@ impl<'b, R: Wait + rt::Clock + Eprint> Diary for SinkDiary<'b, R> {
 
     // What is done with the exchange is `NoDiary`'s, whose proof drops it.
     fn note(&mut self, exchange: Exchange) {
-        self.count(exchange.offers.as_slice());
+        self.count(exchange.facts.status, exchange.offers.as_slice());
+        self.unreached.note(self.rt, self.alloc, &exchange);
         NoDiary.note(exchange);
     }
 }

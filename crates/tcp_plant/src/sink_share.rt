@@ -1,7 +1,9 @@
-use crate::log_target::LogTarget;
 use crate::notice::{Losses, Notice, Notices, Why};
+use crate::open_log::{Followed, OpenLog};
+use std::alloc::Global;
 use std::fmt::{Display, Formatter};
-use std::io::{Eprint, ErrorKind, Print};
+use std::fs::File;
+use std::io::{Eprint, Print};
 use std::sync::atomic::{AtomicBool, AtomicI32, AtomicU64, Ordering};
 use std::sync::{Mutex, Wait};
 use std::{fmt, io, rt};
@@ -9,19 +11,23 @@ use system_errors::{number_of, reason_of, reason_of_number};
 use tcp_ports::DialFault;
 use truncate_backend::TryAnswer;
 
-/// What all handles of one sink share: its lock, what became of its lines, and why it failed last.
+/// What all handles of one sink share: its log where it is one, what became of its lines, and why it failed last.
 #[derive(Drop)]
 pub struct SinkShare {
     // As notices name it, such as `audit log audit.log`.
     name: String,
-    // Held while lines are written. Whether the last write ended within a line.
-    cut: Mutex<bool>,
+    // Held while lines are written. None until a log is open, and always of a webhook.
+    log: Mutex<Option<OpenLog>>,
     notices: Mutex<Notices>,
     // Whether there is anything to say, so that a line that is written takes no lock otherwise.
     pending: AtomicBool,
+    offered: AtomicU64,
     written: AtomicU64,
     failed: AtomicU64,
+    full: AtomicU64,
     large: AtomicU64,
+    // When a line was written last, in seconds since 1970, 0 before the first.
+    last_written: AtomicU64,
     // The system's number of the error that it failed by last, 0 for none.
     error: AtomicI32,
     pub(crate) dial_fault: DialFault,
@@ -30,37 +36,44 @@ pub struct SinkShare {
 /// How many lines of a sink came to what.
 #[derive(Clone, Copy, Debug, PartialEq, Eq)]
 pub struct SinkCounts {
+    /// Lines that it was offered by requests that ended.
+    pub offered: u64,
     /// Lines of tries that wrote all of them.
     pub written: u64,
     /// Lines of tries that failed.
     pub failed: u64,
+    /// Lines that weren't taken since the buffer was full.
+    pub full: u64,
     /// Events that were left out, since even the line without their objects was too large.
     pub large: u64,
+    /// When a line was written last, in seconds since 1970, 0 before the first.
+    pub last_written: u64,
 }
 
-// Writes all bytes, or as many as can be. Notes whether the last one that was written ends no line.
-fn write_whole<R: Print>(
-    rt: &R,
-    target: &mut LogTarget,
-    bytes: &[u8],
-    cut: &mut bool,
-) -> io::Result<()> {
-    let mut left = bytes;
-    for _ in 0..u64::MAX {
-        if left.is_empty() {
-            return Ok(());
-        }
-        match target.write_some(rt, left) {
-            Ok(count) => {
-                let (written, rest) = left.split_at(count);
-                *cut = written.last() != Some(&b'\n');
-                left = rest;
-            }
-            Err(error) if error.kind() == ErrorKind::Interrupted => {}
-            Err(error) => return Err(error),
-        }
+/// How many events that a sink was due came to what.
+#[derive(Clone, Copy, Drop)]
+pub(crate) struct Offered {
+    /// Events whose line was taken, or could not be written.
+    pub(crate) kept: u64,
+    pub(crate) full: u64,
+    pub(crate) large: u64,
+}
+
+impl Offered {
+    pub(crate) const NONE: Offered = Offered {
+        kept: 0,
+        full: 0,
+        large: 0,
+    };
+
+    // Those that had a line.
+    fn lines(self) -> u64 {
+        self.kept.saturating_add(self.full)
     }
-    Err(io::Error::from(ErrorKind::TimedOut))
+
+    pub(crate) fn all(self) -> u64 {
+        self.lines().saturating_add(self.large)
+    }
 }
 
 // So many of these, and what became of them, in words.
@@ -112,16 +125,26 @@ fn millis_now(rt: &impl rt::Clock) -> u64 {
     }
 }
 
+fn unix_seconds(rt: &impl rt::Clock) -> u64 {
+    match rt.since_1970() {
+        Ok(time) => time.as_secs(),
+        Err(_) => 0,
+    }
+}
+
 impl SinkShare {
     pub fn new(name: String) -> SinkShare {
         SinkShare {
             name,
-            cut: Mutex::new(false),
+            log: Mutex::new(None),
             notices: Mutex::new(Notices::new()),
             pending: AtomicBool::new(false),
+            offered: AtomicU64::new(0),
             written: AtomicU64::new(0),
             failed: AtomicU64::new(0),
+            full: AtomicU64::new(0),
             large: AtomicU64::new(0),
+            last_written: AtomicU64::new(0),
             error: AtomicI32::new(0),
             dial_fault: DialFault::new(),
         }
@@ -130,9 +153,12 @@ impl SinkShare {
     /// What became of its lines so far.
     pub fn counts(&self) -> SinkCounts {
         SinkCounts {
+            offered: self.offered.load(Ordering::SeqCst),
             written: self.written.load(Ordering::SeqCst),
             failed: self.failed.load(Ordering::SeqCst),
+            full: self.full.load(Ordering::SeqCst),
             large: self.large.load(Ordering::SeqCst),
+            last_written: self.last_written.load(Ordering::SeqCst),
         }
     }
 
@@ -141,24 +167,65 @@ impl SinkShare {
         reason_of_number(self.error.load(Ordering::SeqCst))
     }
 
-    /// Notes that the file ends within a line, where it does.
-    pub(crate) fn mark_cut<R: Wait>(&self, rt: &R, is_cut: bool) {
-        let mut cut = self.cut.lock(rt);
-        *cut = *cut || is_cut;
-    }
-
-    /// Writes these lines, of which the last one ends with them, under the lock of all logs of the run.
-    pub(crate) fn write<R: Wait + Print>(
+    /// Opens the log of this path, once for all its handles. Another path is an error of an invalid argument.
+    pub(crate) fn open_log<R: Wait + rt::Files<File = File>>(
         &self,
         rt: &R,
-        target: &mut LogTarget,
+        alloc: Global,
+        path: &str,
+    ) -> io::Result<()> {
+        let mut log = self.log.lock(rt);
+        match &*log {
+            Some(open) if open.has_path(path) => return Ok(()),
+            Some(_) => return Err(io::Error::from_raw_os_error(libc::EINVAL)),
+            None => {}
+        }
+        *log = Some(OpenLog::open(rt, alloc, path)?);
+        Ok(())
+    }
+
+    // Writes these lines, under the lock of all handles of the log, to the file that its path names.
+    fn write_locked<R: Wait + Print + rt::Files<File = File> + rt::Clock>(
+        &self,
+        rt: &R,
+        lines: &[u8],
+    ) -> (Followed, io::Result<()>) {
+        let now = millis_now(rt);
+        let mut log = self.log.lock(rt);
+        match &mut *log {
+            Some(open) => {
+                let followed = open.follow(rt, now);
+                (followed, open.write(rt, lines))
+            }
+            None => (
+                Followed::Same,
+                Err(io::Error::from_raw_os_error(libc::EBADF)),
+            ),
+        }
+    }
+
+    /// Writes these lines, of which the last one ends with them, and reports where the log was opened anew, or could not be.
+    pub(crate) fn write<R: Wait + Print + rt::Files<File = File> + rt::Clock + Eprint>(
+        &self,
+        rt: &R,
         lines: &[u8],
     ) -> io::Result<()> {
-        let mut cut = self.cut.lock(rt);
-        if *cut {
-            write_whole(rt, target, b"\n", &mut *cut)?;
+        let (followed, written) = self.write_locked(rt, lines);
+        self.say_followed(rt, followed);
+        written
+    }
+
+    fn say_followed<R: Eprint>(&self, rt: &R, followed: Followed) {
+        let name = self.name.as_str();
+        match followed {
+            Followed::Same => {}
+            Followed::Anew => {
+                let _ = eprintln!(rt; "apiaggd: {name}: opened anew");
+            }
+            Followed::Old(reason) => {
+                let _ = eprintln!(rt; "apiaggd: {name}: could not be opened anew: {reason}");
+            }
         }
-        write_whole(rt, target, lines, &mut *cut)
     }
 
     pub(crate) fn fail(&self, error: &io::Error) {
@@ -202,6 +269,7 @@ impl SinkShare {
 
     fn note_written<R: Wait + rt::Clock>(&self, rt: &R, lines: u64) -> Option<Notice> {
         self.written.fetch_add(lines, Ordering::SeqCst);
+        self.last_written.store(unix_seconds(rt), Ordering::SeqCst);
         if !self.pending.load(Ordering::SeqCst) {
             return None;
         }
@@ -224,12 +292,15 @@ impl SinkShare {
         self.due(rt, known)
     }
 
-    /// Counts events that were too large, and lines that weren't taken, and says what there is to say.
-    pub(crate) fn left_out<R: Wait + rt::Clock + Eprint>(&self, rt: &R, large: u64, full: u64) {
+    /// Counts the events that it was due by one exchange, and says what there is to say.
+    pub(crate) fn offered<R: Wait + rt::Clock + Eprint>(&self, rt: &R, offered: Offered) {
+        self.offered.fetch_add(offered.lines(), Ordering::SeqCst);
+        let (large, full) = (offered.large, offered.full);
         if large == 0 && full == 0 {
             return;
         }
         self.large.fetch_add(large, Ordering::SeqCst);
+        self.full.fetch_add(full, Ordering::SeqCst);
         let notice = self.note_left_out(rt, large, full);
         self.say(rt, notice);
     }
