@@ -6,8 +6,8 @@ use std::process::ExitCode;
 use std::sync::Wait;
 use std::thread::Threads;
 
-// The status's word, and what was refused.
-fn say_failed(host: &HostRuntime, status: Status, refused: Option<u64>) {
+// The status's word, and what was refused, or why the output could not be written.
+fn say_failed(host: &HostRuntime, status: Status, refused: Option<u64>, reason: Option<&str>) {
     if let Some(word) = status.word() {
         let _ = eprintln!(host; "apiaggd: {word}");
     }
@@ -15,6 +15,10 @@ fn say_failed(host: &HostRuntime, status: Status, refused: Option<u64>) {
         let _ = eprintln!(host;
             "apiaggd: rehearse: needs START and COUNT, two whole numbers. Try 'apiaggd rehearse --help'."
         );
+    }
+    if status == Status::WriteFault {
+        let why = reason.unwrap_or("could not be written");
+        let _ = eprintln!(host; "apiaggd: standard output: {why}");
     }
     if let Some(count) = refused {
         let _ = eprintln!(host; "apiaggd: COUNT {count}: must be 1 to {MOST_REHEARSED}");
@@ -29,6 +33,6 @@ pub fn rehearsed<R: Threads + Wait + Copy + Send + Sync + Drop>(
 ) -> ExitCode {
     let mut out = WriterSink::new(host.stdout());
     let done = run_rehearse(rt, host.alloc(), words, &mut out).answer();
-    say_failed(host, done.status, done.refused);
+    say_failed(host, done.status, done.refused, out.reason());
     ExitCode::from(done.status.code())
 }
