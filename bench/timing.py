@@ -1,4 +1,4 @@
-"""Times calls of front_bench, in processor time: the least of five runs, less a run that makes no call. Counts their
+"""Times calls of bench_front, in processor time: the least of five runs, less a run that makes no call. Counts their
 instructions too."""
 import os
 import re
@@ -8,10 +8,10 @@ import sys
 
 TOP = os.path.dirname(os.path.dirname(os.path.abspath(__file__)))
 CRATES = os.path.join(TOP, "crates")
-PROGRAM = os.path.join(CRATES, "front_bench", "out", "front_bench")
+PROGRAM = os.path.join(CRATES, "bench_front", "out", "bench_front")
 
 
-def build(crate="front_bench", words_of_none=("check", "0")):
+def build(crate="bench_front", words_of_none=("check", "0")):
     """Proves and builds the program, where that wasn't done yet. It is run by words that ask for nothing."""
     built = subprocess.run(["rt", "run", "--", *words_of_none], cwd=os.path.join(CRATES, crate), stdin=subprocess.DEVNULL,
                            stdout=subprocess.PIPE, stderr=subprocess.STDOUT)
@@ -29,7 +29,7 @@ def run(call, times, path, *others):
         child = subprocess.Popen(words(call, times, others), stdin=body)
     _, status, used = os.wait4(child.pid, 0)
     if status != 0:
-        sys.exit(f"front_bench {call} {times} ended with {status}")
+        sys.exit(f"bench_front {call} {times} ended with {status}")
     return used.ru_utime + used.ru_stime
 
 
@@ -46,7 +46,7 @@ def count(call, times, path, others):
         done = subprocess.run(["valgrind", "--tool=callgrind", "--callgrind-out-file=/dev/null",
                                *words(call, times, others)], stdin=body, stderr=subprocess.PIPE)
     if done.returncode != 0:
-        sys.exit(f"front_bench {call} {times} under callgrind ended with {done.returncode}")
+        sys.exit(f"bench_front {call} {times} under callgrind ended with {done.returncode}")
     return int(re.search(rb"Collected : ([0-9]+)", done.stderr).group(1))
 
 

@@ -16,7 +16,7 @@ const TO: Address = Address {
 };
 
 fn dial_of(alloc: Global, input: &[u8], size: u32) -> Result<MemDial, NoMemory> {
-    let links = vec![in alloc; link_of(alloc, input, size, 100)?]?;
+    let links = vec![in alloc; link_of(alloc, input, size, 100, Vec::new(alloc))?]?;
     MemDial::new(alloc, links, Vec::new(alloc))
 }
 
@@ -149,7 +149,15 @@ pub fn show_exchange(rt: &HostRuntime, row: &str) -> io::Result<()> {
 
 // A dial of one link, which takes so many bytes.
 fn narrow_dial(alloc: Global, room: u64) -> Result<MemDial, NoMemory> {
-    let links = vec![in alloc; link_of(alloc, b"HTTP/1.1 204 No\r\n\r\n", 300, room)?]?;
+    let links = vec![in alloc;
+        link_of(
+            alloc,
+            b"HTTP/1.1 204 No\r\n\r\n",
+            300,
+            room,
+            Vec::new(alloc)
+        )?,
+    ]?;
     MemDial::new(alloc, links, Vec::new(alloc))
 }
 

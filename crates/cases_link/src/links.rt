@@ -25,8 +25,14 @@ pub fn frame_of(word: &str) -> Frame {
     }
 }
 
-/// A link that gives these bytes, in reads of so many at most, and takes so many.
-pub fn link_of(alloc: Global, input: &[u8], size: u32, room: u64) -> Result<MemLink, NoMemory>
+/// A link that gives these bytes, in reads of so many at most, takes so many, and fails at the reads of these numbers.
+pub fn link_of(
+    alloc: Global,
+    input: &[u8],
+    size: u32,
+    room: u64,
+    read_fails: Vec<u64>,
+) -> Result<MemLink, NoMemory>
     ensures { IfOk result IsUnused }
 {
     let sizes = vec![in alloc; size; 300]?;
@@ -37,7 +43,7 @@ pub fn link_of(alloc: Global, input: &[u8], size: u32, room: u64) -> Result<MemL
             input,
             room,
             sizes,
-            read_fails: Vec::new(alloc),
+            read_fails,
             write_fails: Vec::new(alloc),
         },
     )

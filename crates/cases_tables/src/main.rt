@@ -1,65 +1,37 @@
-//! Cases of the Table of APIServices: a moment in microseconds since 1970, and APIServices in JSON: their Table at that moment. And
-//! cases of merge patches of one of them.
+//! Cases of the Table of APIServices and of merge patches: a moment in microseconds since 1970, and APIServices in JSON: their Table at
+//! that moment; what its columns say; and what a patch makes of an APIService, and of any value.
 //!
-//! Expected texts follow the types of `meta/v1`, kube-aggregator's `ConvertToTable` and RFC 7396, and are put together by hand.
+//! Expected texts follow the types of `meta/v1`, kube-aggregator's `ConvertToTable`, kube-apiserver's and kube-aggregator's sources where a
+//! file says so, and RFC 7396. What none of them has was worked out by hand.
 #![tactic(auto)]
 
-use apiservice_rows::read_rows;
-use case_rows::{fields, is_row, read_cases, spelled};
-use front_base::{Moment, number_of};
-use service_patches::patched_row;
-use service_tables::service_table;
-use std::alloc::Global;
+mod columns;
+mod merges;
+mod tables;
+
+use case_rows::{is_row, read_cases};
+use columns::show_column;
+use merges::show_merge;
 use std::io;
+use tables::show_table;
 
 // The files of cases, in the order in which they are shown.
 const MATTERS: &str = "\
+accepts.txt
+durations.txt
+columns.txt
 tables.txt
 ages.txt
 patches.txt
+rfc7396.txt
+merges.txt
 ";
 
-fn table_of(alloc: Global, moment: &str, objects: &str) -> Option<String> {
-    let now = Moment::new(number_of(moment.as_bytes())?)?;
-    let rows = read_rows(alloc, objects.as_bytes()).ok()?;
-    let text = service_table(alloc, rows.as_slice(), now).ok()?;
-    Some(spelled(alloc, text.as_slice()))
-}
-
-// An APIService that was created at that time.
-fn created(alloc: Global, time: &str) -> Option<String> {
-    format!(in alloc;
-        "{{\"kind\":\"APIService\",\"apiVersion\":\"apiregistration.k8s.io/v1\",\"metadata\":{{\"name\":\"v1.a\",\"creationTimestamp\":{time}}},\"spec\":{{\"group\":\"a\",\"version\":\"v1\",\"groupPriorityMinimum\":1,\"versionPriority\":1}}}}"
-    ).ok()
-}
-
-fn patched(alloc: Global, object: &str, patch: &str) -> Option<String> {
-    let row = patched_row(alloc, "v1.a", object.as_bytes(), patch.as_bytes()).ok()??;
-    Some(spelled(alloc, row.object.as_slice()))
-}
-
-fn text_of(alloc: Global, matter: &str, row: &str) -> Option<String> {
-    let (first, rest) = fields(row);
-    match matter {
-        "tables.txt" => table_of(alloc, first, rest),
-        "ages.txt" => table_of(alloc, first, created(alloc, rest)?.as_str()),
-        _ => patched(alloc, first, rest),
-    }
-}
-
-// The part of a Table that its rows are.
-fn rows_part(text: &str) -> &str {
-    match text.split_once("\"rows\":") {
-        Some((_, rows)) => rows,
-        None => text,
-    }
-}
-
 fn show(rt: &HostRuntime, matter: &str, row: &str) -> io::Result<()> {
-    match text_of(rt.alloc(), matter, row) {
-        Some(text) if matter == "ages.txt" => println!(rt; "{row} => {}", rows_part(text.as_str())),
-        Some(text) => println!(rt; "{row} => {}", text.as_str()),
-        None => println!(rt; "{row} => none"),
+    match matter {
+        "accepts.txt" | "durations.txt" | "columns.txt" => show_column(rt, matter, row),
+        "rfc7396.txt" | "merges.txt" => show_merge(rt, row),
+        _ => show_table(rt, matter, row),
     }
 }
 

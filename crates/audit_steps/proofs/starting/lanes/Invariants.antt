@@ -1,6 +1,0 @@
-use Rattle.std.proofs.Common.{◌≡◌, []}
-use Rattle.std.specs.Prelude.{replicate}
-use Rattle.audit_steps.proofs.starting.lanes.Given as goal
-
-abbrev pub invariant-loop-bay : goal.invariant-loop-bay
-invariant-loop-bay g l = l.lanes.items ≡ replicate l.bay []

@@ -1,7 +1,0 @@
-use Rattle.std.proofs.Common.{◌≡◌, []}
-use Rattle.std.specs.Prelude.{replicate}
-use Rattle.two_worlds.specs.Steps.{start_bay}
-use Rattle.audit_steps.proofs.starting.start_bays.Given as goal
-
-abbrev pub invariant-loop-bay : goal.invariant-loop-bay
-invariant-loop-bay l = l.own.items ≡ replicate l.bay start_bay

@@ -1,6 +1,0 @@
-use Rattle.std.specs.List.{All}
-use Rattle.front_ports.specs.Memory.{IsUnused}
-use Rattle.fault_rows.proofs.ports.dial_of.Given as goal
-
-abbrev pub invariant-loop-line : goal.invariant-loop-line
-invariant-loop-line l = All IsUnused l.links.items

@@ -1,5 +1,0 @@
-use Rattle.front_bench.proofs.look_ups.shared.Given as goal
-
--- the name of these routes
-abbrev pub ghosts-share : goal.ghosts-share
-ghosts-share g a = record { home = a.routes.home; opening = a.routes.opening }

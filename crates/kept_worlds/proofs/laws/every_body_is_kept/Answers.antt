@@ -1,9 +1,0 @@
-use Rattle.kept_worlds.proofs.KeptLemmas.{kept_of}
-use Rattle.kept_worlds.proofs.ValueLemmas.{is_text}
-use Rattle.kept_worlds.proofs.laws.every_body_is_kept.Goals as goal
-
-pub returns-clause-texts : goal.returns-clause-texts
-returns-clause-texts c = is_text
-
-pub returns-clause-bodies : goal.returns-clause-bodies
-returns-clause-bodies c = kept_of

@@ -1,9 +1,0 @@
-use Rattle.kept_worlds.proofs.DeterminedLemmas.{one_step, one_run}
-use Rattle.kept_worlds.proofs.KeptLemmas.{keep, keep_keeps}
-use Rattle.kept_worlds.proofs.laws.steps_are_determined.Goals as goal
-
-pub returns-clause-step : goal.returns-clause-step
-returns-clause-step c own s t u taken answer other h k = one_step keep (keep_keeps c.one_kept.ensures.one) own s t u taken answer other h k
-
-pub returns-clause-run : goal.returns-clause-run
-returns-clause-run c own s t u steps answers others h k = one_run keep (keep_keeps c.one_kept.ensures.one) own s t u steps answers others h k

@@ -1,0 +1,4 @@
+mod BeginLemmas
+mod FinishLemmas
+mod HandlingLemmas
+mod StartLemmas

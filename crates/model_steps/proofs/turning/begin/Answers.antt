@@ -1,0 +1,22 @@
+use Rattle.std.proofs.Common.{◌≤◌, length, ap, refl, arith}
+use Rattle.model_steps.proofs.TurnLemmas.{idle_step, same_bays, turned_begin}
+use Rattle.model_steps.proofs.turning.begin.Goals as goal
+use Rattle.model_worlds.specs.Requests.{wish_of}
+use Rattle.model_worlds.specs.Setup.{Setup}
+use Rattle.model_worlds.specs.Steps.{begin, step}
+use Rattle.model_worlds.specs.declared.step.Step.TheVariants as step_is
+
+pub returns-then-place-as_slice-clause-ok : goal.returns-then-place-as_slice-clause-ok
+unfolding step
+returns-then-place-as_slice-clause-ok c =
+    let past : length c.args.state.now.bays ≤ c.args.bay = omega (arith, ap length c.as_slice.ensures) in
+    idle_step c.turns_are_steps.ensures.none c.args.setup.now c.args.state.now c.args.bay (step_is.Begin c.args.bay c.args.request.now c.args.peer c.args.moment) (λ (s : Setup). begin s c.args.bay (wish_of s c.args.peer c.args.request.now c.args.moment) c.args.moment) past (λ keep. refl)
+
+pub returns-clause-ok : goal.returns-clause-ok
+returns-clause-ok c =
+    turned_begin c.turns_are_steps.ensures.taken c.args.setup.now c.args.state.now c.args.bay c.args.peer c.args.request.now
+    c.args.moment _ _ c.begin.result c.at_mut-own.ensures.value c.begin.ensures.ok
+
+pub returns-clause-err : goal.returns-clause-err
+returns-clause-err c =
+    same_bays c.args.state.now c.args.bay _ _ c.begin.result c.at_mut-own.ensures.value c.begin.ensures.err

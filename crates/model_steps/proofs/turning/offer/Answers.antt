@@ -1,0 +1,21 @@
+use Rattle.std.proofs.Common.{◌≤◌, length, ap, refl, arith}
+use Rattle.model_steps.proofs.TurnLemmas.{idle_step, same_state, turned_any}
+use Rattle.model_steps.proofs.turning.offer.Goals as goal
+use Rattle.model_worlds.specs.Setup.{Setup}
+use Rattle.model_worlds.specs.Steps.{in_exchange, offer, step}
+use Rattle.model_worlds.specs.declared.step.Step.TheVariants as step_is
+
+pub returns-then-place-as_slice-clause-ok : goal.returns-then-place-as_slice-clause-ok
+unfolding step
+returns-then-place-as_slice-clause-ok c =
+    let past : length c.args.state.now.bays ≤ c.args.bay = omega (arith, ap length c.as_slice.ensures) in
+    idle_step c.turns_are_steps.ensures.none c.args.setup.now c.args.state.now c.args.bay (step_is.Offer c.args.bay c.args.sink c.args.works) (λ (s : Setup). in_exchange (offer s c.args.bay c.args.sink c.args.works)) past (λ keep. refl)
+
+pub returns-clause-ok : goal.returns-clause-ok
+unfolding step
+returns-clause-ok c =
+    turned_any c.turns_are_steps.ensures.taken c.args.setup.now c.args.state.now c.args.bay (step_is.Offer c.args.bay c.args.sink c.args.works) (λ (s : Setup). in_exchange (offer s c.args.bay c.args.sink c.args.works)) _ _ _ c.offer.result c.at_mut-own.ensures.value (λ keep. refl) c.offer.ensures.ok
+
+pub returns-clause-err : goal.returns-clause-err
+returns-clause-err c =
+    same_state c.args.state.now c.args.bay _ _ _ c.offer.result c.at_mut-own.ensures.value c.offer.ensures.err

@@ -1,2 +1,0 @@
-mod HandlingLemmas
-mod StartLemmas

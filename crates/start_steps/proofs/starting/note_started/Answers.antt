@@ -1,8 +1,0 @@
-use Rattle.start_steps.proofs.StartLemmas.{started_as}
-use Rattle.start_steps.proofs.starting.note_started.Goals as goal
-use Rattle.sink_steps.specs.Fixed.{setup_of}
-
-pub returns-in-Ok-clause-ok : goal.returns-in-Ok-clause-ok
-returns-in-Ok-clause-ok c = λ keep.
-    started_as (setup_of c.args.setup.now keep) c.args.status c.args.moment c.args.opened.now c.in-Ok.waiting
-    (c.in-Ok.ensures keep)

@@ -1,5 +1,0 @@
-use Rattle.two_worlds.proofs.PartLemmas.{parts_always}
-use Rattle.two_worlds.proofs.laws.lines_stay_in_order.Goals as goal
-
-pub returns : goal.returns
-returns c = parts_always

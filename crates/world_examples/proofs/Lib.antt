@@ -1,5 +1,0 @@
-mod ActingRuns
-mod Bodies
-mod ManagedRuns
-mod Runs
-mod Texts

@@ -1,6 +1,0 @@
-use Rattle.std.specs.List.{All}
-use Rattle.front_ports.specs.Memory.{IsUnused}
-use Rattle.world_parts.proofs.parts.backend_of.Given as goal
-
-abbrev pub invariant-loop-row : goal.invariant-loop-row
-invariant-loop-row l = All IsUnused l.links.items
