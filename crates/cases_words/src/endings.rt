@@ -15,6 +15,8 @@ fn status_of(code: u8) -> Status {
         8 => Status::NumbersSpent,
         9 => Status::Input,
         10 => Status::Log,
+        11 => Status::NotDelivered,
+        12 => Status::NothingListed,
         _ => Status::Done,
     }
 }

@@ -2,6 +2,7 @@
 use crate::endings::{ended_with, said_of_own};
 use crate::shelf::{given_of, names_of};
 use case_rows::{bytes_of, fields};
+use front_base::Text;
 use front_config::LoadFault;
 use http_edge::End;
 use refusal_text::{Refusal, position_of};
@@ -45,6 +46,8 @@ fn refusal_of(alloc: Global, row: &str) -> Option<Refusal> {
             fault: LoadFault::NoMemory,
         }),
         "Request" => Some(request_of(rest)),
+        "UnreadToken" => Some(Refusal::UnreadToken(Text::copy_of(alloc, rest).ok()?)),
+        "BadToken" => Some(Refusal::BadToken(Text::copy_of(alloc, rest).ok()?)),
         _ => None,
     }
 }

@@ -86,6 +86,8 @@ impl Ended {
     ) -> Option<&'static str> {
         match &self.why {
             Some(Refusal::Files { .. }) => files,
+            Some(Refusal::UnreadToken(name)) if name.as_str() == "-" => input,
+            Some(Refusal::UnreadToken(_)) => files,
             Some(Refusal::Input) => input,
             Some(Refusal::Output) => output,
             _ => None,

@@ -24,6 +24,10 @@ pub enum Status {
     Input,
     /// A line of a log doesn't conform to its policy.
     Log,
+    /// What had to be sent wasn't taken: lines of a log are lost, or a front door hasn't taken what it was told last.
+    NotDelivered,
+    /// No server answered with its list of resources.
+    NothingListed,
 }
 
 impl Status {
@@ -42,6 +46,8 @@ impl Status {
             Status::NumbersSpent => 8,
             Status::Input => 9,
             Status::Log => 10,
+            Status::NotDelivered => 11,
+            Status::NothingListed => 12,
         }
     }
 
@@ -58,6 +64,8 @@ impl Status {
             Status::NumbersSpent => Some("numbers spent"),
             Status::Input => Some("input"),
             Status::Log => Some("log"),
+            Status::NotDelivered => Some("not delivered"),
+            Status::NothingListed => Some("nothing listed"),
         }
     }
 }

@@ -65,6 +65,15 @@ abbrev pub number_or : ℕ → Option (List ℕ) → Result ℕ WordsFault
 number_or default None = Ok default
 number_or default (Some text) = found_or Usage (number_of text)
 
+abbrev pub some_number : Option ℕ → Result (Option ℕ) WordsFault
+some_number None = Err Usage
+some_number (Some n) = Ok (Some n)
+
+-- the number that a value has, if there is one
+abbrev pub number_in : Option (List ℕ) → Result (Option ℕ) WordsFault
+number_in None = Ok None
+number_in (Some text) = some_number (number_of text)
+
 abbrev pub ranged_name : Ranged → List ℕ
 ranged_name option.MaxEventSize = codes "max-event-size"
 ranged_name option.Moment = codes "moment"
@@ -84,8 +93,11 @@ ranged_name option.ShutdownTimeout = codes "shutdown-timeout"
 ranged_name option.Tries = codes "tries"
 ranged_name option.Rate = codes "rate"
 ranged_name option.Burst = codes "burst"
-ranged_name option.Rests = codes "rests"
+ranged_name option.RetryWait = codes "retry-wait-ms"
+ranged_name option.FromLine = codes "from-line"
+ranged_name option.RequestTimeout = codes "request-timeout-ms"
 ranged_name option.Rounds = codes "rounds"
+ranged_name option.Every = codes "every"
 ranged_name option.Threshold = codes "threshold"
 
 -- the ends of an option's range
@@ -108,8 +120,11 @@ least option.ShutdownTimeout = 0
 least option.Tries = 1
 least option.Rate = 1
 least option.Burst = 1
-least option.Rests = 1
+least option.RetryWait = 1
+least option.FromLine = 1
+least option.RequestTimeout = 1
 least option.Rounds = 1
+least option.Every = 1
 least option.Threshold = 1
 
 abbrev pub most : Ranged → ℕ
@@ -131,11 +146,14 @@ most option.ShutdownTimeout = 3600000
 most option.Tries = 10
 most option.Rate = 1000
 most option.Burst = 1000
-most option.Rests = 1000000
-most option.Rounds = 1000
+most option.RetryWait = 30000
+most option.FromLine = 281474976710656
+most option.RequestTimeout = 600000
+most option.Rounds = 1000000
+most option.Every = 86400
 most option.Threshold = 10
 
--- its number where it isn't given
+-- its number where it isn't given, of `every` 0 for none
 abbrev pub default_of : Ranged → ℕ
 default_of option.MaxEventSize = 1048576
 default_of option.Moment = 0
@@ -155,13 +173,20 @@ default_of option.ShutdownTimeout = 20000
 default_of option.Tries = 3
 default_of option.Rate = 10
 default_of option.Burst = 15
-default_of option.Rests = 100000
-default_of option.Rounds = 1
+default_of option.RetryWait = 1000
+default_of option.FromLine = 1
+default_of option.RequestTimeout = 10000
+default_of option.Rounds = 3
+default_of option.Every = 0
 default_of option.Threshold = 3
 
 -- the number that is given to an option, or its default
 abbrev pub number_given : Ranged → List Named → Result ℕ WordsFault
 number_given option given = number_or (default_of option) (value_of (ranged_name option) given)
+
+-- the number that is given to an option, if one is
+abbrev pub number_if_given : Ranged → List Named → Result (Option ℕ) WordsFault
+number_if_given option given = number_in (value_of (ranged_name option) given)
 
 abbrev pub is_number : Result ℕ WordsFault → Bool
 is_number (Ok n) = true

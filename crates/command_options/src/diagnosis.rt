@@ -4,7 +4,7 @@ ghost use Rattle.std.specs.Prelude.{◌<◌, IfOk, IfSome};
 use crate::asked::is_command;
 use crate::given::short_number;
 use crate::spelling::behind_dashes;
-use crate::table::{ValueKind, kind_of, options_for, required_by, sink_of};
+use crate::table::{ValueKind, excluded_by, kind_of, options_for, required_by, sink_of};
 use front_base::cut_at;
 
 // No command has more options.
@@ -33,6 +33,8 @@ pub enum WordFault {
     NotMode,
     /// The option is the mode of a sink that isn't named.
     NoSink,
+    /// The option can't stand beside another one that is given: `excluded_by` names it.
+    Excluded,
     /// The command can't be without an option that isn't given: `required_by` names it.
     Lacking,
 }
@@ -111,6 +113,18 @@ impl<'k> Seen<'k> {
         }
         None
     }
+
+    // The word of the first option that can't stand beside another one that is given.
+    fn excluded(&self) -> Option<usize> {
+        for name in self.known {
+            if let (Some(other), Some(place)) = (excluded_by(name), self.place(name)) {
+                if self.place(other).is_some() {
+                    return Some(place);
+                }
+            }
+        }
+        None
+    }
 }
 
 // The name of the option that begins with this word, where it waits for its value, or its fault.
@@ -141,12 +155,19 @@ fn begun<'w>(
     }
 }
 
-// What is missing beside the options that were given: the sink of a mode, or what the command can't be without.
+// What is wrong with the options that were given as a whole: the sink of a mode is missing, two of them can't stand beside one another,
+// or one is missing that the command can't be without.
 fn lack(command: &str, seen: &Seen<'_>) -> Option<BadWord> {
     if let Some(place) = seen.mode_alone() {
         return Some(BadWord {
             place,
             fault: WordFault::NoSink,
+        });
+    }
+    if let Some(place) = seen.excluded() {
+        return Some(BadWord {
+            place,
+            fault: WordFault::Excluded,
         });
     }
     if seen.place(required_by(command)?).is_some() {
@@ -204,7 +225,8 @@ fn help_fault(words: &[String]) -> BadWord {
 }
 
 /// The first word that makes words no command line of that command, and what is wrong with it. A mode whose sink isn't
-/// named is told after all others, and then an option that is missing, of the command's word. Of words that are a command line it says `UnknownCommand`, as of another command's word.
+/// named is told after all others, then an option that can't stand beside another one, and then an option that is missing, of the
+/// command's word. Of words that are a command line it says `UnknownCommand`, as of another command's word.
 /// After `help`, the first word that names no command is told, or else the one after the command's.
 pub fn bad_word(command: &str, words: &[String]) -> BadWord {
     let fault = match words {

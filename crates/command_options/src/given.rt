@@ -136,6 +136,19 @@ pub fn short_number(text: &str) -> Option<u64>
     number_of(text.as_bytes())
 }
 
+/// The number that an option of that name has, if it is given. A text of another kind makes the words no command line.
+pub fn number_in(name: &str, options: &Options) -> Result<Option<u64>, WordsFault>
+    ensures { result ≡ spec.number_in (spec.value_of name.now options.now) }
+{
+    match value_of(name, options) {
+        Some(text) => match short_number(text) {
+            Some(number) => Ok(Some(number)),
+            None => Err(WordsFault::Usage),
+        },
+        None => Ok(None),
+    }
+}
+
 /// The number that an option of that name has, or its default. A text of another kind makes the words no command line.
 pub fn number_or(default: u64, name: &str, options: &Options) -> Result<u64, WordsFault>
     ensures { result ≡ spec.number_or default (spec.value_of name.now options.now) }

@@ -28,7 +28,7 @@ pub use files::{FileNames, file_names};
 pub use flag::{has_flag, with_flag};
 pub use given::{Options, given_of, is_given, text_of, value_of};
 pub use laws::{both_spellings, clap_agrees, the_flag_is_one_word};
-pub use ranged::{Ranged, have_numbers, in_range, number_given};
+pub use ranged::{Ranged, have_numbers, in_range, number_given, number_if_given};
 pub use table::{
-    ValueKind, command_with, kind_of, options_for, ranged_named, required_by, sink_of,
+    ValueKind, command_with, excluded_by, kind_of, options_for, ranged_named, required_by, sink_of,
 };

@@ -19,6 +19,9 @@ pub const ROUTES: &str = "routes";
 /// Of `check`, a flag: a summary of a log that conforms is written too.
 pub const SUMMARY: &str = "summary";
 
+/// Of `check`, a flag: it goes on behind the first line that doesn't conform.
+pub const ALL: &str = "all";
+
 /// Of `serve`: the address at which it listens.
 pub const LISTEN: &str = "listen";
 
@@ -74,11 +77,17 @@ pub const RATE: &str = "rate";
 /// Of `ship`: how many posts its throttle gives at once.
 pub const BURST: &str = "burst";
 
-/// Of `ship`: how often it asks its throttle for one post at most.
-pub const RESTS: &str = "rests";
+/// Of `ship`: how long it waits before the second try of a batch.
+pub const RETRY_WAIT: &str = "retry-wait-ms";
+
+/// Of `ship`: the number of the first line that is shipped.
+pub const FROM_LINE: &str = "from-line";
 
 /// Of `resources`: the file with an earlier document.
 pub const PREVIOUS: &str = "previous";
+
+/// Of `resources` and `probe`: how long one request to a server may take.
+pub const REQUEST_TIMEOUT: &str = "request-timeout-ms";
 
 /// Of `probe`: the front door that is told.
 pub const FRONT: &str = "front";
@@ -86,8 +95,14 @@ pub const FRONT: &str = "front";
 /// Of `probe`: the bearer token of the user who tells it.
 pub const TOKEN: &str = "token";
 
+/// Of `probe`: the file with that token.
+pub const TOKEN_FILE: &str = "token-file";
+
 /// Of `probe`: how often each service is asked.
 pub const ROUNDS: &str = "rounds";
+
+/// Of `probe`: the time from the beginning of a round to that of the next one.
+pub const EVERY: &str = "every";
 
 /// Of `probe`: how many probes one after another change a condition.
 pub const THRESHOLD: &str = "threshold";

@@ -3,11 +3,12 @@ ghost use Rattle.std.specs.Prelude.{◌≡◌, ◌≤◌, IfOk};
 ghost use Rattle.command_options.specs.Options as spec;
 
 use crate::fault::WordsFault;
-use crate::given::{Options, number_or};
+use crate::given::{Options, number_in, number_or};
 use crate::names::{
-    BATCH_BUFFER, BATCH_MAX_SIZE, BATCH_MAX_WAIT, BAYS, BURST, CONNECTIONS, DIAL_TIMEOUT,
-    IDLE_TIMEOUT, MAX_BATCH_SIZE, MAX_EVENT_SIZE, MIN_RATE, MOMENT, RATE, READ_HEADER_TIMEOUT,
-    RESPONSE_HEADER_TIMEOUT, RESTS, ROUNDS, SHUTDOWN_TIMEOUT, STALL_TIMEOUT, THRESHOLD, TRIES,
+    BATCH_BUFFER, BATCH_MAX_SIZE, BATCH_MAX_WAIT, BAYS, BURST, CONNECTIONS, DIAL_TIMEOUT, EVERY,
+    FROM_LINE, IDLE_TIMEOUT, MAX_BATCH_SIZE, MAX_EVENT_SIZE, MIN_RATE, MOMENT, RATE,
+    READ_HEADER_TIMEOUT, REQUEST_TIMEOUT, RESPONSE_HEADER_TIMEOUT, RETRY_WAIT, ROUNDS,
+    SHUTDOWN_TIMEOUT, STALL_TIMEOUT, THRESHOLD, TRIES,
 };
 
 /// The options whose numbers have a range. Timeouts are in milliseconds, sizes in bytes.
@@ -49,10 +50,16 @@ pub enum Ranged {
     Rate,
     /// `--audit-webhook-batch-throttle-burst` of kube-apiserver, with its default: posts at once.
     Burst,
-    /// How often the throttle is asked for one post at most, with a rest after each refusal.
-    Rests,
-    /// How often each service is asked.
+    /// How long the second try of a batch waits after the first, in milliseconds.
+    RetryWait,
+    /// The number of the first line that is shipped, from 1.
+    FromLine,
+    /// How long one request to a server may take in all, in milliseconds.
+    RequestTimeout,
+    /// How often each service is asked. What it is where it isn't given depends on `Threshold` and `Every`: see `number_if_given`.
     Rounds,
+    /// Seconds between the beginnings of two rounds.
+    Every,
     /// How many probes one after another change a condition, as `failureThreshold` of a pod's probe.
     Threshold,
 }
@@ -81,8 +88,11 @@ impl Ranged {
             Ranged::Tries => TRIES,
             Ranged::Rate => RATE,
             Ranged::Burst => BURST,
-            Ranged::Rests => RESTS,
+            Ranged::RetryWait => RETRY_WAIT,
+            Ranged::FromLine => FROM_LINE,
+            Ranged::RequestTimeout => REQUEST_TIMEOUT,
             Ranged::Rounds => ROUNDS,
+            Ranged::Every => EVERY,
             Ranged::Threshold => THRESHOLD,
         }
     }
@@ -98,8 +108,9 @@ impl Ranged {
             Ranged::Bays | Ranged::BatchBuffer | Ranged::BatchMaxSize => 1,
             Ranged::IdleTimeout | Ranged::ReadHeaderTimeout | Ranged::StallTimeout => 1,
             Ranged::DialTimeout | Ranged::ResponseHeaderTimeout => 1,
-            Ranged::Tries | Ranged::Rate | Ranged::Burst | Ranged::Rests => 1,
-            Ranged::Rounds | Ranged::Threshold => 1,
+            Ranged::Tries | Ranged::Rate | Ranged::Burst | Ranged::RetryWait => 1,
+            Ranged::FromLine | Ranged::RequestTimeout => 1,
+            Ranged::Rounds | Ranged::Every | Ranged::Threshold => 1,
         }
     }
 
@@ -121,33 +132,40 @@ impl Ranged {
             Ranged::StallTimeout | Ranged::DialTimeout => 3_600_000,
             Ranged::ResponseHeaderTimeout | Ranged::ShutdownTimeout => 3_600_000,
             Ranged::Tries | Ranged::Threshold => 10,
-            Ranged::Rate | Ranged::Burst | Ranged::Rounds => 1_000,
-            Ranged::Rests => 1_000_000,
+            Ranged::Rate | Ranged::Burst => 1_000,
+            Ranged::RetryWait => 30_000,
+            // As many lines as a run can number.
+            Ranged::FromLine => 281_474_976_710_656,
+            Ranged::RequestTimeout => 600_000,
+            Ranged::Rounds => 1_000_000,
+            // A day.
+            Ranged::Every => 86_400,
         }
     }
 
-    /// The number that it has where it isn't given.
+    /// The number that it has where it isn't given; of `Every` 0, which stands for none, and of `Rounds` the one without `--every` and
+    /// `--threshold`.
     pub fn default_number(self) -> u64
         ensures { result ≡ spec.default_of self }
     {
         match self {
             Ranged::MaxEventSize => 1_048_576,
-            Ranged::Moment | Ranged::Connections => 0,
+            Ranged::Moment | Ranged::Connections | Ranged::Every => 0,
             Ranged::Bays => 64,
             Ranged::BatchBuffer => 10_000,
             Ranged::BatchMaxSize => 400,
             Ranged::BatchMaxWait | Ranged::StallTimeout => 30_000,
             Ranged::MaxBatchSize => 10_485_760,
             Ranged::IdleTimeout | Ranged::ResponseHeaderTimeout => 60_000,
-            Ranged::ReadHeaderTimeout => 10_000,
+            Ranged::ReadHeaderTimeout | Ranged::RequestTimeout => 10_000,
             Ranged::MinRate => 8_192,
             Ranged::DialTimeout => 5_000,
             Ranged::ShutdownTimeout => 20_000,
-            Ranged::Tries | Ranged::Threshold => 3,
+            Ranged::Tries | Ranged::Threshold | Ranged::Rounds => 3,
             Ranged::Rate => 10,
             Ranged::Burst => 15,
-            Ranged::Rests => 100_000,
-            Ranged::Rounds => 1,
+            Ranged::RetryWait => 1_000,
+            Ranged::FromLine => 1,
         }
     }
 }
@@ -157,6 +175,13 @@ pub fn number_given(option: Ranged, options: &Options) -> Result<u64, WordsFault
     ensures { result ≡ spec.number_given option options.now }
 {
     number_or(option.default_number(), option.name(), options)
+}
+
+/// The number that is given to an option, if one is, whatever its range. A text of another kind makes the words no command line.
+pub fn number_if_given(option: Ranged, options: &Options) -> Result<Option<u64>, WordsFault>
+    ensures { result ≡ spec.number_if_given option options.now }
+{
+    number_in(option.name(), options)
 }
 
 /// Each of the options that is given has a number.

@@ -1,10 +1,11 @@
 // The options of each command, for what is told of a bad word.
 use crate::names::{
-    BATCH_BUFFER, BATCH_MAX_SIZE, BATCH_MAX_WAIT, BAYS, BURST, CONNECTIONS, DIAL_TIMEOUT,
-    ENDPOINTS, EXIT_ON_STDIN_EOF, FRONT, IDLE_TIMEOUT, LISTEN, LOG_MODE, LOG_PATH, MAX_BATCH_SIZE,
-    MAX_EVENT_SIZE, METRICS_PATH, MIN_RATE, MOMENT, POLICY, PREVIOUS, RATE, READ_HEADER_TIMEOUT,
-    RESPONSE_HEADER_TIMEOUT, RESTS, REUSE_PORT, ROUNDS, ROUTES, SERVICES, SHUTDOWN_TIMEOUT,
-    STALL_TIMEOUT, SUMMARY, THRESHOLD, TOKEN, TOKENS, TRIES, WEBHOOK_MODE, WEBHOOK_URL,
+    ALL, BATCH_BUFFER, BATCH_MAX_SIZE, BATCH_MAX_WAIT, BAYS, BURST, CONNECTIONS, DIAL_TIMEOUT,
+    ENDPOINTS, EVERY, EXIT_ON_STDIN_EOF, FROM_LINE, FRONT, IDLE_TIMEOUT, LISTEN, LOG_MODE,
+    LOG_PATH, MAX_BATCH_SIZE, MAX_EVENT_SIZE, METRICS_PATH, MIN_RATE, MOMENT, POLICY, PREVIOUS,
+    RATE, READ_HEADER_TIMEOUT, REQUEST_TIMEOUT, RESPONSE_HEADER_TIMEOUT, RETRY_WAIT, REUSE_PORT,
+    ROUNDS, ROUTES, SERVICES, SHUTDOWN_TIMEOUT, STALL_TIMEOUT, SUMMARY, THRESHOLD, TOKEN,
+    TOKEN_FILE, TOKENS, TRIES, WEBHOOK_MODE, WEBHOOK_URL,
 };
 use crate::ranged::Ranged;
 
@@ -18,7 +19,7 @@ const EXPLAIN: [&str; 7] = [
     ROUTES,
 ];
 
-const CHECK: [&str; 2] = [POLICY, SUMMARY];
+const CHECK: [&str; 3] = [POLICY, SUMMARY, ALL];
 
 const SERVE: [&str; 26] = [
     TOKENS,
@@ -49,19 +50,30 @@ const SERVE: [&str; 26] = [
     EXIT_ON_STDIN_EOF,
 ];
 
-const SHIP: [&str; 7] = [
+const SHIP: [&str; 8] = [
     WEBHOOK_URL,
     BATCH_MAX_SIZE,
     MAX_BATCH_SIZE,
     TRIES,
     RATE,
     BURST,
-    RESTS,
+    RETRY_WAIT,
+    FROM_LINE,
 ];
 
-const RESOURCES: [&str; 3] = [SERVICES, ENDPOINTS, PREVIOUS];
+const RESOURCES: [&str; 4] = [SERVICES, ENDPOINTS, PREVIOUS, REQUEST_TIMEOUT];
 
-const PROBE: [&str; 6] = [SERVICES, ENDPOINTS, FRONT, TOKEN, ROUNDS, THRESHOLD];
+const PROBE: [&str; 9] = [
+    SERVICES,
+    ENDPOINTS,
+    FRONT,
+    TOKEN,
+    TOKEN_FILE,
+    ROUNDS,
+    EVERY,
+    THRESHOLD,
+    REQUEST_TIMEOUT,
+];
 
 /// The names of the options of a command, without their dashes. A command of another name has none.
 pub fn options_for(command: &str) -> &'static [&'static str] {
@@ -108,11 +120,11 @@ pub enum ValueKind {
 /// What the value of the option of that name is.
 pub fn kind_of(name: &str) -> ValueKind {
     match name {
-        ROUTES | SUMMARY | REUSE_PORT | EXIT_ON_STDIN_EOF => ValueKind::Flag,
+        ROUTES | SUMMARY | ALL | REUSE_PORT | EXIT_ON_STDIN_EOF => ValueKind::Flag,
         LOG_MODE | WEBHOOK_MODE => ValueKind::Mode,
         TOKENS | POLICY | SERVICES | ENDPOINTS => ValueKind::Text,
-        LISTEN | LOG_PATH | WEBHOOK_URL | METRICS_PATH | PREVIOUS | FRONT | TOKEN =>
-            ValueKind::Text,
+        LISTEN | LOG_PATH | WEBHOOK_URL | METRICS_PATH => ValueKind::Text,
+        PREVIOUS | FRONT | TOKEN | TOKEN_FILE => ValueKind::Text,
         _ => ValueKind::Number,
     }
 }
@@ -138,8 +150,11 @@ pub fn ranged_named(name: &str) -> Option<Ranged> {
         TRIES => Some(Ranged::Tries),
         RATE => Some(Ranged::Rate),
         BURST => Some(Ranged::Burst),
-        RESTS => Some(Ranged::Rests),
+        RETRY_WAIT => Some(Ranged::RetryWait),
+        FROM_LINE => Some(Ranged::FromLine),
+        REQUEST_TIMEOUT => Some(Ranged::RequestTimeout),
         ROUNDS => Some(Ranged::Rounds),
+        EVERY => Some(Ranged::Every),
         THRESHOLD => Some(Ranged::Threshold),
         _ => None,
     }
@@ -150,6 +165,14 @@ pub fn sink_of(name: &str) -> Option<&'static str> {
     match name {
         LOG_MODE => Some(LOG_PATH),
         WEBHOOK_MODE => Some(WEBHOOK_URL),
+        _ => None,
+    }
+}
+
+/// The option that the option of that name can't stand beside.
+pub fn excluded_by(name: &str) -> Option<&'static str> {
+    match name {
+        TOKEN_FILE => Some(TOKEN),
         _ => None,
     }
 }

@@ -23,7 +23,7 @@ use Rattle.command_ends.specs.Why.{TellsServing, TellsWords, status_of_load, sta
 use Rattle.refusal_text.specs.declared.refusal.Refusal.{Refusal}
 use Rattle.explain_run.specs.declared.setup.Setup.{Setup}
 use Rattle.command_ends.specs.declared.status.Status.{Status}
-use Rattle.command_ends.specs.declared.status.Status.TheVariants.{Done, Usage, Configuration, ReadFault, PortFault, NoMemory, WriteFault, NumbersSpent, Input, Log}
+use Rattle.command_ends.specs.declared.status.Status.TheVariants.{Done, Usage, Configuration, ReadFault, PortFault, NoMemory, WriteFault, NumbersSpent, Input, Log, NotDelivered, NothingListed}
 
 usage_due : (r : Result Command WordsFault) → words.Gives {A = ExplainWords} Explain (Err words_fault.Usage) r → r ≡ Err words_fault.Usage
 usage_due (Ok a) e = absurd (cc e)
@@ -110,6 +110,8 @@ module _ (line : List (List ℕ)) (files : FilesPort) (input output : Port) (why
   misused_by NumbersSpent e h = absurd h
   misused_by Input e h = absurd h
   misused_by Log e h = absurd h
+  misused_by NotDelivered e h = absurd h
+  misused_by NothingListed e h = absurd h
 
   pub misused_is : (status : Status) → command_of line ≡ Err words_fault.Usage → Run line files input output status why large
       → (status ≡ Usage) ⊎ (status ≡ NoMemory)

@@ -24,6 +24,8 @@ fn why_of_serving(status: Status, progress: &Progress) -> Option<Refusal>
         Status::NoMemory => None,
         Status::NumbersSpent => None,
         Status::Log => None,
+        Status::NotDelivered => None,
+        Status::NothingListed => None,
     }
 }
 

@@ -15,7 +15,7 @@ use Rattle.front_config.specs.declared.fault.Which.{Which}
 use Rattle.front_config.specs.declared.fault.Which.TheVariants as file
 use Rattle.refusal_text.specs.Place.{place_of}
 use Rattle.refusal_text.specs.declared.refusal.Refusal.{Refusal}
-use Rattle.refusal_text.specs.declared.refusal.Refusal.TheVariants.{Words, NotUtf8, Limits, Listen, Webhook, OwnWebhook, Front, Token, Files, Request, Input, Output}
+use Rattle.refusal_text.specs.declared.refusal.Refusal.TheVariants.{Words, NotUtf8, Limits, Listen, Webhook, OwnWebhook, Front, Token, UnreadToken, BadToken, Files, Request, Input, Output}
 
 -- the option that names a file
 abbrev pub option_of : Which → List ℕ
@@ -103,6 +103,10 @@ abbrev pub reason_or : List ℕ → Option (List ℕ) → List ℕ
 reason_or words None = words
 reason_or words (Some reason) = reason
 
+-- `--token-file=FILE: `, with the file's name as it was given
+abbrev pub token_head : List ℕ → List ℕ
+token_head name = codes "--token-file=" ++ (name ++ codes ": ")
+
 -- `request NUMBER, at byte BYTE: `
 abbrev pub request_head : ℕ → ℕ → List ℕ
 request_head number byte = codes "request " ++ (decimal number ++ (codes ", at byte " ++ (decimal byte ++ codes ": ")))
@@ -126,6 +130,8 @@ Says (Webhook url) reason line = line ≡ webhook_line url
 Says (OwnWebhook url) reason line = line ≡ own_webhook_line url
 Says (Front text) reason line = line ≡ front_line text
 Says Token reason line = line ≡ codes "--token: not of the characters '!' to '~'"
+Says (UnreadToken name) reason line = line ≡ token_head name ++ reason_or (codes "could not be read") reason
+Says (BadToken name) reason line = line ≡ token_head name ++ codes "not of the characters '!' to '~'"
 Says (Files names fault) reason line = SaysFile names fault reason line
 Says (Request number byte end) reason line = Begins line (request_head number byte)
 Says Input reason line = line ≡ codes "standard input: " ++ reason_or (codes "could not be read") reason

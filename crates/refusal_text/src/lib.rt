@@ -15,6 +15,7 @@ mod place;
 mod reason;
 mod refusal;
 mod text;
+mod token;
 mod usage;
 
 pub use json_place::{Position, json_stop, position_of};

@@ -22,6 +22,10 @@ pub enum Refusal {
     Front(Text),
     /// The text of `--token` can't stand in a header.
     Token,
+    /// The file of `--token-file` could not be read.
+    UnreadToken(Text),
+    /// What the file of `--token-file` holds can't stand in a header.
+    BadToken(Text),
     /// The files that these names name weren't loaded.
     Files { names: FileNames, fault: LoadFault },
     /// A request of the input is refused or cut short: its number, and the number of its first byte in the input, both

@@ -4,6 +4,7 @@ ghost use Rattle.refusal_text.specs.Text as spec;
 use crate::addresses::{front_line, listen_line, own_webhook_line, webhook_line};
 use crate::file_line::{file_line, reason_or};
 use crate::refusal::Refusal;
+use crate::token::{bad_token_line, unread_token_line};
 use crate::usage::usage_line;
 use command_options::Ranged;
 use http_edge::End;
@@ -81,6 +82,8 @@ pub fn refusal_text(
         Refusal::OwnWebhook(url) => own_webhook_line(alloc, url.as_str()),
         Refusal::Front(text) => front_line(alloc, text.as_str()),
         Refusal::Token => String::from_str(alloc, "--token: not of the characters '!' to '~'"),
+        Refusal::UnreadToken(name) => unread_token_line(alloc, name.as_str(), reason),
+        Refusal::BadToken(name) => bad_token_line(alloc, name.as_str()),
         Refusal::Files { names, fault } => file_line(alloc, names, fault, reason),
         Refusal::Request { number, byte, end } => request_line(alloc, *number, *byte, *end),
         Refusal::Input => input_line(alloc, reason),

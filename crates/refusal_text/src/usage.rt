@@ -1,6 +1,6 @@
 // What is wrong with words that are no command line.
 use command_options::{
-    BadWord, WordFault, command_with, options_for, ranged_named, required_by, sink_of,
+    BadWord, WordFault, command_with, excluded_by, options_for, ranged_named, required_by, sink_of,
 };
 use std::alloc::{AllocError, Global};
 use strsim::levenshtein;
@@ -109,6 +109,14 @@ fn no_sink(alloc: Global, option: &str) -> Result<String, AllocError> {
     }
 }
 
+// An option beside another one that it can't stand beside.
+fn excluded(alloc: Global, option: &str) -> Result<String, AllocError> {
+    match excluded_by(option.trim_start_matches('-')) {
+        Some(other) => format!(in alloc; "{option}: not beside --{other}"),
+        None => format!(in alloc; "{option}: not beside another option"),
+    }
+}
+
 // A word that is no option and no value. Who writes a file's name there is told that it is read from standard input.
 fn not_option(alloc: Global, words: &[String], word: &str) -> Result<String, AllocError> {
     match words {
@@ -154,6 +162,7 @@ fn fault_line(
         WordFault::NotNumber => not_number(alloc, option),
         WordFault::NotMode => format!(in alloc; "{option}: not batch, blocking or blocking-strict"),
         WordFault::NoSink => no_sink(alloc, option),
+        WordFault::Excluded => excluded(alloc, option),
         WordFault::Lacking => lacking(alloc, word),
     }
 }
