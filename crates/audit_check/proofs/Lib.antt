@@ -6,4 +6,5 @@ pub mod LogLemmas
 pub mod OwnLemmas
 pub mod PlaceLemmas
 pub mod SeenLemmas
+pub mod UserLemmas
 pub mod VerdictLemmas

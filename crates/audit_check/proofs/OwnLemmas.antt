@@ -1,7 +1,7 @@
 -- The lines of an exchange conform.
-use Rattle.std.proofs.Common.{◌≡◌, ℕ, suc, ◌<◌, ◌≤◌, ◌+◌, Bool, true, false, List, [], ◌∷◌, ◌++◌, length, Some, None, map, refl, sym, ap, ◌∙◌, arith, ◌⊎◌, inl, inr, ⊎_elim, subst, lit<}
+use Rattle.std.proofs.Common.{◌≡◌, ℕ, suc, ◌<◌, ◌≤◌, ◌+◌, Bool, true, false, List, [], ◌∷◌, ◌++◌, length, Option, Some, None, map, refl, sym, ap, ◌∙◌, arith, ◌⊎◌, inl, inr, ⊎_elim, subst, lit<}
 use Rattle.std.specs.List.{AllByRecursion}
-use Rattle.std.specs.Prelude.{codes, IfSome, not, ◌&&◌, ◌||◌, filter, nat_le, is_some, is_none, if◌then◌else◌}
+use Rattle.std.specs.Prelude.{codes, IfSome, not, ◌&&◌, ◌||◌, filter, is_some, is_none, if◌then◌else◌}
 use Rattle.front_base.specs.AuditId.{AuditId}
 use Rattle.front_base.specs.Info.{is_long_running}
 use Rattle.front_base.specs.declared.info.Info.{Info}
@@ -12,6 +12,8 @@ use Rattle.front_base.specs.declared.stage.Stage.{Stage}
 use Rattle.front_base.specs.declared.stage.Stage.TheVariants as stages
 use Rattle.json_prune.specs.Kept.{Keeps}
 use Rattle.json_prune.specs.Kept.{kept as value_kept}
+use Rattle.json_prune.specs.Mend.{mended}
+use Rattle.json_prune.specs.Prune.{managed}
 use Rattle.json_span.specs.Value.{Value, StandsFor, flat}
 use Rattle.policy_rules.specs.Policy.{first}
 use Rattle.policy_rules.specs.declared.decision.Decision.{Decision}
@@ -29,14 +31,14 @@ use Rattle.stage_event.specs.declared.facts.Kept.{Kept}
 use Rattle.stage_event.specs.declared.facts.Kept.TheVariants as kept
 use Rattle.stage_event.specs.declared.show.Show.{Show}
 use Rattle.stage_event.specs.declared.show.Show.TheVariants as show
-use Rattle.event_text.specs.Line.{line_text, stripped}
-use Rattle.truncate_backend.specs.Fits.{fitted}
+use Rattle.event_text.specs.Line.{body_members, line_text, stripped}
+use Rattle.truncate_backend.specs.Fits.{fitted, objects}
 use Rattle.truncate_backend.specs.declared.fitted.Fit.{Fit}
 use Rattle.truncate_backend.specs.declared.fitted.Fit.TheVariants as fit
 use Rattle.audit_core.specs.Owed.{omits, events_at, owed_at, lines_in, fitted_lines}
 use Rattle.audit_reader.specs.Ranges.{IsReference}
-use Rattle.audit_reader.specs.Plain.{Fits, IsPlain, IsBody, IsCompact, named_or_none, somebody_or_none, no_body, is_level, is_stage}
-use Rattle.audit_check.specs.Agreement.{info_of, IsInPlace, IsDecided, decision_on, is_answered, is_complete}
+use Rattle.audit_reader.specs.Plain.{Fits, IsPlain, IsBody, IsKeptJson, named_or_none, somebody_or_none, no_body, is_level, is_stage}
+use Rattle.audit_check.specs.Agreement.{info_of, IsInPlace, IsDecided, decision_on, is_answered, is_complete, user_in_place, acting_in_place}
 use Rattle.audit_check.specs.Conforms.{AllConform}
 use Rattle.audit_check.specs.Lines.{IsLine, HasStage, rank}
 use Rattle.audit_check.specs.OwnLines.{AreInRange, AreOfOthers, IsKeptOfAny, IsLineOf}
@@ -60,7 +62,7 @@ event_is_made stage level.RequestResponse facts h = refl
 
 -- ---- bodies
 
--- what is kept of a body is compact
+-- what is kept of a body may stand in an event
 abbrev pub IsShown : Kept → Type 0
 IsShown k = IsBody (object k)
 
@@ -84,28 +86,40 @@ response_body stages.ResponseStarted b k h = tt
 response_body stages.ResponseComplete b k h = shown_body b k h
 response_body stages.Panic b k h = tt
 
--- the law of kept bodies
-abbrev pub KeepsJson : Type 0
-KeepsJson = (omit : Bool) (text : List ℕ) (v : Value) → StandsFor text v → StandsFor (flat (value_kept omit v)) (value_kept omit v)
+-- the laws of kept bodies
+pub record KeptLaws : Type 0 where
+  pub stands : (omit : Bool) (text : List ℕ) (v : Value) → StandsFor text v → StandsFor (flat (value_kept omit v)) (value_kept omit v)
+  pub once : (text : List ℕ) (v : Value) → StandsFor text v → mended (mended v) ≡ mended v
+  pub order : (v : Value) → managed (mended v) ≡ mended (managed v)
 
-keeps_compact : KeepsJson → (omit : Bool) (text body : List ℕ) → Keeps omit text body → IsCompact text
-keeps_compact law omit text body h =
-    (value_kept omit h.0, subst (λ (t : List ℕ). StandsFor t (value_kept omit h.0)) (sym h.2) (law omit body h.0 h.1), h.2)
+-- what is kept has no half of a surrogate pair
+kept_is_mended : KeptLaws → (omit : Bool) (text : List ℕ) (v : Value) → StandsFor text v → mended (value_kept omit v) ≡ value_kept omit v
+kept_is_mended law false text v h = law.once text v h
+kept_is_mended law true text v h =
+    ap mended (sym (law.order v)) ∙ (sym (law.order (mended v)) ∙ (ap managed (law.once text v h) ∙ law.order v))
 
-kept_shown : KeepsJson → (omit : Bool) (body : List ℕ) (k : Kept) → IsKept omit body k → IsShown k
-kept_shown law omit body (kept.Compact text) h = keeps_compact law omit text body h.1
+keeps_json : KeptLaws → (omit : Bool) (text body : List ℕ) → Keeps omit text body → IsKeptJson text
+keeps_json law omit text body h = (
+  value_kept omit h.0,
+  subst (λ (t : List ℕ). StandsFor t (value_kept omit h.0)) (sym h.2) (law.stands omit body h.0 h.1),
+  h.2,
+  kept_is_mended law omit body h.0 h.1,
+)
+
+kept_shown : KeptLaws → (omit : Bool) (body : List ℕ) (k : Kept) → IsKept omit body k → IsShown k
+kept_shown law omit body (kept.Compact text) h = keeps_json law omit text body h.1
 kept_shown law omit body kept.NotAsked h = tt
 kept_shown law omit body kept.NotJson h = tt
 kept_shown law omit body kept.Over h = tt
 kept_shown law omit body kept.CutOff h = tt
 
-pub shown : KeepsJson → (show : Show) (body : List ℕ) (k : Kept) → IsKeptAs show body k → IsShown k
+pub shown : KeptLaws → (show : Show) (body : List ℕ) (k : Kept) → IsKeptAs show body k → IsShown k
 shown law show.Nothing body k h = subst IsShown (sym h) tt
 shown law show.Whole body k h = kept_shown law false body k h
 shown law show.Pruned body k h = kept_shown law true body k h
 
 -- what is kept of some body is, and what shows nothing
-pub shown_of_any : KeepsJson → (show : Show) (k : Kept) → IsKeptOfAny show k → IsShown k
+pub shown_of_any : KeptLaws → (show : Show) (k : Kept) → IsKeptOfAny show k → IsShown k
 shown_of_any law show k (inl h) = shown law show h.0 k h.1
 shown_of_any law show k (inr h) = subst IsBody (sym h) tt
 
@@ -182,6 +196,8 @@ pub record Recorded (policy : Policy) (method : List ℕ) (d : Decision) (facts 
   pub info : facts.info ≡ audit_info method facts.target
   pub decision : d ≡ first policy facts.user facts.info
   pub acting : somebody_or_none facts.acting ≡ true
+  pub user_placed : user_in_place facts.user ≡ true
+  pub acting_placed : acting_in_place facts.user facts.acting ≡ true
   pub request : IsShown facts.request
   pub reply : IsShown facts.reply
   pub in_range : AreInRange facts
@@ -228,13 +244,17 @@ made_plain s own facts l g a q p =
       response = response_body s (reply_due own facts.info) facts.reply p;
     }
 
-made_placed : (s : Stage) (own : Level) (facts : Facts) → IsInPlace facts.info (made s own facts)
-made_placed s own facts =
+made_placed : (s : Stage) (own : Level) (facts : Facts) → user_in_place facts.user ≡ true → acting_in_place facts.user facts.acting ≡ true
+    → IsInPlace facts.info (made s own facts)
+made_placed s own facts u a =
     record {
       object_ref = refl;
       status = status_placed s facts.status;
       request = request_placed s (request_due own facts.info) facts.request;
       response = response_placed s (reply_due own facts.info) facts.reply;
+      truncated = refl;
+      user = u;
+      acting = a;
     }
 
 stripped_fits : (e : Event) → Fits e → Fits (stripped e)
@@ -259,15 +279,40 @@ stripped_plain : (e : Event) → IsPlain e → IsPlain (stripped e)
 stripped_plain e h =
     record { level = h.level; stage = h.stage; impersonated = h.impersonated; object_ref = h.object_ref; whole = refl; request = tt; response = tt }
 
-stripped_placed : (info : Info) (e : Event) → IsInPlace info e → IsInPlace info (stripped e)
-stripped_placed info e h = record { object_ref = h.object_ref; status = h.status; request = refl; response = refl }
+or_last : (a : Bool) → (a || true) ≡ true
+or_last true = refl
+or_last false = refl
 
-stripped_agrees : (policy : Policy) (e : Event) → Agrees policy e → Agrees policy (stripped e)
-stripped_agrees policy e h =
+-- a body stood in the event
+abbrev HasBody : Event → Type 0
+HasBody e = objects e ≡ [] → ⊥
+
+may_have : (request reply : Option (List ℕ)) (a b : Bool) → (no_body request || a) ≡ true → (no_body reply || b) ≡ true
+    → (body_members (codes "requestObject") request ++ body_members (codes "responseObject") reply ≡ [] → ⊥) → (a || b) ≡ true
+may_have None None a b p q h = absurd (h refl)
+may_have None (Some body) a b p q h = rw q (or_last a)
+may_have (Some body) reply a b p q h = rw p refl
+
+stripped_placed : (info : Info) (e : Event) → IsInPlace info e → HasBody e → IsInPlace info (stripped e)
+stripped_placed info e h body =
+    record {
+      object_ref = h.object_ref;
+      status = h.status;
+      request = refl;
+      response = refl;
+      truncated =
+          may_have e.request_object e.response_object (is_answered e.stage && request_due e.level info) (is_complete e.stage && reply_due e.level info)
+          h.request h.response body;
+      user = h.user;
+      acting = h.acting;
+    }
+
+stripped_agrees : (policy : Policy) (e : Event) → Agrees policy e → HasBody e → Agrees policy (stripped e)
+stripped_agrees policy e h body =
     record {
       fits = stripped_fits e h.fits;
       plain = stripped_plain e h.plain;
-      in_place = stripped_placed (info_of e) e h.in_place;
+      in_place = stripped_placed (info_of e) e h.in_place body;
       decided = record { level = h.decided.level; stage = h.decided.stage };
     }
 
@@ -279,7 +324,7 @@ made_agrees law policy method d facts h s l g kept =
     record {
       fits = made_fits s d.level facts h.in_range;
       plain = made_plain s d.level facts l g h.acting h.request h.reply;
-      in_place = subst (λ (i : Info). IsInPlace i e) info (made_placed s d.level facts);
+      in_place = subst (λ (i : Info). IsInPlace i e) info (made_placed s d.level facts h.user_placed h.acting_placed);
       decided = subst (λ (i : Info). IsDecided (decision_on policy i e) e) info decided;
     }
 
@@ -294,19 +339,26 @@ Rises policy id low (e ∷ es) = Agrees policy e × (e.id ≡ id) × (low ≤ ra
 abbrev pub StaysBelow : List (List ℕ) → AuditId → ℕ → Type 0
 StaysBelow lines id low = (stage : Stage) → HasStage lines id stage → rank stage < low
 
--- the fit of an event is the line of one that agrees
-abbrev pub FitsAs : Policy → Event → Fit → Type 0
-FitsAs policy e (fit.Whole line) = line ≡ line_text e
-FitsAs policy e (fit.Stripped line) = line ≡ line_text (stripped e)
-FitsAs policy e (fit.TooLarge size) = Unit {0}
+-- the laws of fitted events
+pub record FitLaws : Type 0 where
+  pub whole : (e : Event) (max : ℕ) (line : List ℕ) → fitted e max ≡ fit.Whole line → (line ≡ line_text e) × (length line ≤ max)
+  pub stripped : (e : Event) (max : ℕ) (line : List ℕ) → fitted e max ≡ fit.Stripped line
+      → (line ≡ line_text (stripped e)) × (length line ≤ max) × (max < length (line_text e))
+  pub bare : (e : Event) (max : ℕ) (line : List ℕ) → objects e ≡ [] → fitted e max ≡ fit.Stripped line → ⊥
 
-fits_if : (policy : Policy) (e : Event) (a b : Bool) → FitsAs policy e (if a then fit.Whole (line_text e) else if b then fit.Stripped (line_text (stripped e)) else fit.TooLarge (length (line_text (stripped e))))
-fits_if policy e true b = refl
-fits_if policy e false true = refl
-fits_if policy e false false = tt
+-- the fit of an event is its line, or where it had a body the line without
+abbrev pub FitsAs : Event → Fit → Type 0
+FitsAs e (fit.Whole line) = line ≡ line_text e
+FitsAs e (fit.Stripped line) = (line ≡ line_text (stripped e)) × HasBody e
+FitsAs e (fit.TooLarge size) = Unit {0}
 
-fitted_as : (policy : Policy) (e : Event) (max : ℕ) → FitsAs policy e (fitted e max)
-fitted_as policy e max = fits_if policy e (nat_le (length (line_text e)) max) (nat_le (length (line_text (stripped e))) max)
+fits_as : FitLaws → (e : Event) (max : ℕ) (f : Fit) → fitted e max ≡ f → FitsAs e f
+fits_as law e max (fit.Whole line) is = (law.whole e max line is).0
+fits_as law e max (fit.Stripped line) is = ((law.stripped e max line is).0, λ none. law.bare e max line none is)
+fits_as law e max (fit.TooLarge size) is = tt
+
+fitted_as : FitLaws → (e : Event) (max : ℕ) → FitsAs e (fitted e max)
+fitted_as law e max = fits_as law e max (fitted e max) refl
 
 below_up : (a low r : ℕ) → a < low → low ≤ r → a < r
 below_up a low r h k = omega arith
@@ -334,35 +386,35 @@ stays : (lines : List (List ℕ)) (id : AuditId) (low high : ℕ) → low ≤ hi
 stays lines id low high up below = λ stage has. below_next (rank stage) low high (below stage has) up
 
 -- a fitted event conforms, and then the rest
-fit_conforms : OneEvent → (policy : Policy) (before rest : List (List ℕ)) (e : Event) (f : Fit) (id : AuditId) (low : ℕ) → FitsAs policy e f → Agrees policy e → e.id ≡ id → low ≤ rank e.stage → StaysBelow before id low →
+fit_conforms : OneEvent → (policy : Policy) (before rest : List (List ℕ)) (e : Event) (f : Fit) (id : AuditId) (low : ℕ) → FitsAs e f → Agrees policy e → e.id ≡ id → low ≤ rank e.stage → StaysBelow before id low →
     ((after : List (List ℕ)) → StaysBelow after id (suc (rank e.stage)) → AllConform policy after rest) → AllConform policy before (lines_in f ++ rest)
 fit_conforms law policy before rest e (fit.Whole line) id low is h own up below go =
     subst (λ (l : List ℕ). AllConform policy before (l ∷ rest)) (sym is) (one_more law policy before rest e id low h own up below go)
 fit_conforms law policy before rest e (fit.Stripped line) id low is h own up below go =
-    subst (λ (l : List ℕ). AllConform policy before (l ∷ rest)) (sym is) (one_more law policy before rest (stripped e) id low (stripped_agrees policy e h) own up below go)
+    subst (λ (l : List ℕ). AllConform policy before (l ∷ rest)) (sym is.0) (one_more law policy before rest (stripped e) id low (stripped_agrees policy e h is.1) own up below go)
 fit_conforms law policy before rest e (fit.TooLarge size) id low is h own up below go =
     go before (stays before id low (rank e.stage) up below)
 
-pub lines_conform : OneEvent → (policy : Policy) (max : ℕ) (id : AuditId) (events : List Event) (low : ℕ) (before : List (List ℕ)) → Rises policy id low events → StaysBelow before id low → AllConform policy before (fitted_lines max events)
-lines_conform law policy max id [] low before h below = tt
-lines_conform law policy max id (e ∷ es) low before h below =
-    fit_conforms law policy before (fitted_lines max es) e (fitted e max) id low (fitted_as policy e max) h.0 h.1 h.2 below
-    (λ after later. lines_conform law policy max id es (suc (rank e.stage)) after h.3 later)
+pub lines_conform : OneEvent → FitLaws → (policy : Policy) (max : ℕ) (id : AuditId) (events : List Event) (low : ℕ) (before : List (List ℕ)) → Rises policy id low events → StaysBelow before id low → AllConform policy before (fitted_lines max events)
+lines_conform law fits policy max id [] low before h below = tt
+lines_conform law fits policy max id (e ∷ es) low before h below =
+    fit_conforms law policy before (fitted_lines max es) e (fitted e max) id low (fitted_as fits e max) h.0 h.1 h.2 below
+    (λ after later. lines_conform law fits policy max id es (suc (rank e.stage)) after h.3 later)
 
 -- ---- and are lines of its request
 
 line_of : (policy : Policy) (e : Event) (id : AuditId) → Agrees policy e → e.id ≡ id → IsLineOf id (line_text e)
 line_of policy e id h own = record { event = e; line = record { fits = h.fits; plain = h.plain; spells = refl }; id_is = own }
 
-fit_is_of : (policy : Policy) (e : Event) (f : Fit) (id : AuditId) (rest : List (List ℕ)) → FitsAs policy e f → Agrees policy e → e.id ≡ id → AllByRecursion (IsLineOf id) rest → AllByRecursion (IsLineOf id) (lines_in f ++ rest)
+fit_is_of : (policy : Policy) (e : Event) (f : Fit) (id : AuditId) (rest : List (List ℕ)) → FitsAs e f → Agrees policy e → e.id ≡ id → AllByRecursion (IsLineOf id) rest → AllByRecursion (IsLineOf id) (lines_in f ++ rest)
 fit_is_of policy e (fit.Whole line) id rest is h own others = (subst (IsLineOf id) (sym is) (line_of policy e id h own), others)
-fit_is_of policy e (fit.Stripped line) id rest is h own others = (subst (IsLineOf id) (sym is) (line_of policy (stripped e) id (stripped_agrees policy e h) own), others)
+fit_is_of policy e (fit.Stripped line) id rest is h own others = (subst (IsLineOf id) (sym is.0) (line_of policy (stripped e) id (stripped_agrees policy e h is.1) own), others)
 fit_is_of policy e (fit.TooLarge size) id rest is h own others = others
 
-lines_are_of : (policy : Policy) (max : ℕ) (id : AuditId) (events : List Event) (low : ℕ) → Rises policy id low events → AllByRecursion (IsLineOf id) (fitted_lines max events)
-lines_are_of policy max id [] low h = tt
-lines_are_of policy max id (e ∷ es) low h =
-    fit_is_of policy e (fitted e max) id (fitted_lines max es) (fitted_as policy e max) h.0 h.1 (lines_are_of policy max id es (suc (rank e.stage)) h.3)
+lines_are_of : FitLaws → (policy : Policy) (max : ℕ) (id : AuditId) (events : List Event) (low : ℕ) → Rises policy id low events → AllByRecursion (IsLineOf id) (fitted_lines max events)
+lines_are_of fits policy max id [] low h = tt
+lines_are_of fits policy max id (e ∷ es) low h =
+    fit_is_of policy e (fitted e max) id (fitted_lines max es) (fitted_as fits e max) h.0 h.1 (lines_are_of fits policy max id es (suc (rank e.stage)) h.3)
 
 -- ---- the events that are due
 
@@ -409,35 +461,35 @@ events_rise law policy method d facts h l (s ∷ ss) low rise =
 stays_none : (lines : List (List ℕ)) (id : AuditId) → AreOfOthers lines id → StaysBelow lines id 0
 stays_none lines id h = λ stage has. absurd (h stage has)
 
-due_conform : OneEvent → VerbAlone → (policy : Policy) (method : List ℕ) (d : Decision) (facts : Facts) (max : ℕ) (before : List (List ℕ)) → Recorded policy method d facts → is_level d.level ≡ true → AreOfOthers before facts.id →
+due_conform : OneEvent → FitLaws → VerbAlone → (policy : Policy) (method : List ℕ) (d : Decision) (facts : Facts) (max : ℕ) (before : List (List ℕ)) → Recorded policy method d facts → is_level d.level ≡ true → AreOfOthers before facts.id →
     AllConform policy before (fitted_lines max (events_at d.level d.omit facts))
-due_conform law verb policy method d facts max before h l others =
-    lines_conform law policy max facts.id (events_at d.level d.omit facts) 0 before
+due_conform law fits verb policy method d facts max before h l others =
+    lines_conform law fits policy max facts.id (events_at d.level d.omit facts) 0 before
     (events_rise verb policy method d facts h l (due.stages facts.info) 0 (stages_rise (is_long_running facts.info)))
     (stays_none before facts.id others)
 
-pub own_conform : OneEvent → VerbAlone → (policy : Policy) (method : List ℕ) (own : Level) (d : Decision) (facts : Facts) (max : ℕ) (before : List (List ℕ)) → own ≡ d.level → Recorded policy method d facts → AreOfOthers before facts.id →
+pub own_conform : OneEvent → FitLaws → VerbAlone → (policy : Policy) (method : List ℕ) (own : Level) (d : Decision) (facts : Facts) (max : ℕ) (before : List (List ℕ)) → own ≡ d.level → Recorded policy method d facts → AreOfOthers before facts.id →
     AllConform policy before (fitted_lines max (owed_at own d.omit facts))
-own_conform law verb policy method level.None d facts max before e h others = tt
-own_conform law verb policy method level.Metadata d facts max before e h others =
-    subst (λ (l : Level). AllConform policy before (fitted_lines max (events_at l d.omit facts))) (sym e) (due_conform law verb policy method d facts max before h (ap is_level (sym e)) others)
-own_conform law verb policy method level.Request d facts max before e h others =
-    subst (λ (l : Level). AllConform policy before (fitted_lines max (events_at l d.omit facts))) (sym e) (due_conform law verb policy method d facts max before h (ap is_level (sym e)) others)
-own_conform law verb policy method level.RequestResponse d facts max before e h others =
-    subst (λ (l : Level). AllConform policy before (fitted_lines max (events_at l d.omit facts))) (sym e) (due_conform law verb policy method d facts max before h (ap is_level (sym e)) others)
+own_conform law fits verb policy method level.None d facts max before e h others = tt
+own_conform law fits verb policy method level.Metadata d facts max before e h others =
+    subst (λ (l : Level). AllConform policy before (fitted_lines max (events_at l d.omit facts))) (sym e) (due_conform law fits verb policy method d facts max before h (ap is_level (sym e)) others)
+own_conform law fits verb policy method level.Request d facts max before e h others =
+    subst (λ (l : Level). AllConform policy before (fitted_lines max (events_at l d.omit facts))) (sym e) (due_conform law fits verb policy method d facts max before h (ap is_level (sym e)) others)
+own_conform law fits verb policy method level.RequestResponse d facts max before e h others =
+    subst (λ (l : Level). AllConform policy before (fitted_lines max (events_at l d.omit facts))) (sym e) (due_conform law fits verb policy method d facts max before h (ap is_level (sym e)) others)
 
-due_are_of : VerbAlone → (policy : Policy) (method : List ℕ) (d : Decision) (facts : Facts) (max : ℕ) → Recorded policy method d facts → is_level d.level ≡ true →
+due_are_of : FitLaws → VerbAlone → (policy : Policy) (method : List ℕ) (d : Decision) (facts : Facts) (max : ℕ) → Recorded policy method d facts → is_level d.level ≡ true →
     AllByRecursion (IsLineOf facts.id) (fitted_lines max (events_at d.level d.omit facts))
-due_are_of verb policy method d facts max h l =
-    lines_are_of policy max facts.id (events_at d.level d.omit facts) 0
+due_are_of fits verb policy method d facts max h l =
+    lines_are_of fits policy max facts.id (events_at d.level d.omit facts) 0
     (events_rise verb policy method d facts h l (due.stages facts.info) 0 (stages_rise (is_long_running facts.info)))
 
-pub own_are_of : VerbAlone → (policy : Policy) (method : List ℕ) (own : Level) (d : Decision) (facts : Facts) (max : ℕ) → own ≡ d.level → Recorded policy method d facts →
+pub own_are_of : FitLaws → VerbAlone → (policy : Policy) (method : List ℕ) (own : Level) (d : Decision) (facts : Facts) (max : ℕ) → own ≡ d.level → Recorded policy method d facts →
     AllByRecursion (IsLineOf facts.id) (fitted_lines max (owed_at own d.omit facts))
-own_are_of verb policy method level.None d facts max e h = tt
-own_are_of verb policy method level.Metadata d facts max e h =
-    subst (λ (l : Level). AllByRecursion (IsLineOf facts.id) (fitted_lines max (events_at l d.omit facts))) (sym e) (due_are_of verb policy method d facts max h (ap is_level (sym e)))
-own_are_of verb policy method level.Request d facts max e h =
-    subst (λ (l : Level). AllByRecursion (IsLineOf facts.id) (fitted_lines max (events_at l d.omit facts))) (sym e) (due_are_of verb policy method d facts max h (ap is_level (sym e)))
-own_are_of verb policy method level.RequestResponse d facts max e h =
-    subst (λ (l : Level). AllByRecursion (IsLineOf facts.id) (fitted_lines max (events_at l d.omit facts))) (sym e) (due_are_of verb policy method d facts max h (ap is_level (sym e)))
+own_are_of fits verb policy method level.None d facts max e h = tt
+own_are_of fits verb policy method level.Metadata d facts max e h =
+    subst (λ (l : Level). AllByRecursion (IsLineOf facts.id) (fitted_lines max (events_at l d.omit facts))) (sym e) (due_are_of fits verb policy method d facts max h (ap is_level (sym e)))
+own_are_of fits verb policy method level.Request d facts max e h =
+    subst (λ (l : Level). AllByRecursion (IsLineOf facts.id) (fitted_lines max (events_at l d.omit facts))) (sym e) (due_are_of fits verb policy method d facts max h (ap is_level (sym e)))
+own_are_of fits verb policy method level.RequestResponse d facts max e h =
+    subst (λ (l : Level). AllByRecursion (IsLineOf facts.id) (fitted_lines max (events_at l d.omit facts))) (sym e) (due_are_of fits verb policy method d facts max h (ap is_level (sym e)))

@@ -6,7 +6,7 @@ use Rattle.front_base.specs.declared.info.Info.{Info}
 use Rattle.stage_event.specs.Events.{object_ref}
 use Rattle.stage_event.specs.declared.event.Event.{Event}
 use Rattle.stage_event.specs.declared.event.ObjectRef.{ObjectRef}
-use Rattle.audit_check.specs.Agreement.{IsInPlace, is_in_place, is_same_object, is_same_reference, status_in_place, request_in_place, response_in_place}
+use Rattle.audit_check.specs.Agreement.{IsInPlace, is_in_place, is_same_object, is_same_reference, status_in_place, request_in_place, response_in_place, truncated_in_place, bodies_in_place, user_in_place, acting_in_place, users_in_place}
 
 both : (a b : Bool) → (a && b) ≡ true → (a ≡ true) × (b ≡ true)
 both true b e = (refl, e)
@@ -52,13 +52,26 @@ self_object (Some a) = self_reference a
 
 pub in_place : (info : Info) (e : Event) → is_in_place info e ≡ true → IsInPlace info e
 in_place info e h =
-    let p2 = both _ (response_in_place info e) h in
-    let p1 = both _ (request_in_place info e) p2.0 in
-    let p0 = both (is_same_object e.object_ref (object_ref info)) (status_in_place e) p1.0 in
-    record { object_ref = one_object e.object_ref (object_ref info) p0.0; status = p0.1; request = p1.1; response = p2.1 }
+    let p = both (is_same_object e.object_ref (object_ref info)) _ h in
+    let q = both (status_in_place e) _ p.1 in
+    let r = both (bodies_in_place info e) (users_in_place e) q.1 in
+    let s = both (request_in_place info e) _ r.0 in
+    let t = both (response_in_place info e) (truncated_in_place info e) s.1 in
+    let u = both (user_in_place e.user) (acting_in_place e.user e.impersonated) r.1 in
+    record {
+      object_ref = one_object e.object_ref (object_ref info) p.0;
+      status = q.0;
+      request = s.0;
+      response = t.0;
+      truncated = t.1;
+      user = u.0;
+      acting = u.1;
+    }
 
 pub not_in_place : (info : Info) (e : Event) → is_in_place info e ≡ false → IsInPlace info e → ⊥
 not_in_place info e h p =
     let object : is_same_object e.object_ref (object_ref info) ≡ true = ap (is_same_object e.object_ref) (sym p.object_ref) ∙ self_object e.object_ref in
-    let all : is_in_place info e ≡ true = and_true _ _ (and_true _ _ (and_true _ _ object p.status) p.request) p.response in
+    let bodies : bodies_in_place info e ≡ true = and_true _ _ p.request (and_true _ _ p.response p.truncated) in
+    let users : users_in_place e ≡ true = and_true _ _ p.user p.acting in
+    let all : is_in_place info e ≡ true = and_true _ _ object (and_true _ _ p.status (and_true _ _ bodies users)) in
     cc (h, all)

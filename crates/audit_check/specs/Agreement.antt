@@ -1,18 +1,23 @@
 -- Whether an event agrees with the request that it tells of, and with a policy (Kubernetes, "Auditing").
-use Rattle.std.specs.Prelude.{◌≡◌, Bool, true, false, ◌&&◌, ◌||◌, Option, Some, None, bytes_eq, codes, is_some, is_none, if◌then◌else◌}
+use Rattle.std.specs.Prelude.{◌≡◌, Bool, true, false, not, ◌&&◌, ◌||◌, Option, Some, None, bytes_eq, codes, is_some, is_none, if◌then◌else◌}
+use Rattle.std.specs.List.{list_any}
 use Rattle.audit_core.specs.Owed.{omits}
 use Rattle.audit_reader.specs.Plain.{no_body}
 use Rattle.front_base.specs.declared.info.Info.{Info}
 use Rattle.front_base.specs.declared.stage.Stage.{Stage}
 use Rattle.front_base.specs.declared.stage.Stage.TheVariants.{RequestReceived, ResponseStarted, ResponseComplete, Panic}
+use Rattle.front_base.specs.declared.user.User.{User}
 use Rattle.policy_rules.specs.Policy.{first}
 use Rattle.policy_rules.specs.declared.decision.Decision.{Decision}
 use Rattle.policy_rules.specs.declared.policy.Policy.{Policy}
 use Rattle.request_info.specs.Request.{audit_info}
 use Rattle.stage_event.specs.Due.{request_due, reply_due}
-use Rattle.stage_event.specs.Events.{object_ref}
+use Rattle.stage_event.specs.Events.{is_empty, object_ref}
 use Rattle.stage_event.specs.declared.event.Event.{Event}
 use Rattle.stage_event.specs.declared.event.ObjectRef.{ObjectRef}
+use Rattle.token_users.specs.Act.{has_group, masters}
+use Rattle.token_users.specs.Carried.{has_blank_ends}
+use Rattle.token_users.specs.Who.{authenticated}
 
 -- what the request asked for: a line has its target and its verb, and the method decides nothing else
 abbrev pub info_of : Event → Info
@@ -43,13 +48,34 @@ request_in_place info e = no_body e.request_object || (is_answered e.stage && re
 abbrev pub response_in_place : Info → Event → Bool
 response_in_place info e = no_body e.response_object || (is_complete e.stage && reply_due e.level info)
 
--- a request for this may have such an event: the object that it names is the request's, and the status and the bodies
--- stand where they may
+-- bodies were taken out only where one may stand
+abbrev pub truncated_in_place : Info → Event → Bool
+truncated_in_place info e =
+    not e.truncated || ((is_answered e.stage && request_due e.level info) || (is_complete e.stage && reply_due e.level info))
+
+-- neither the name nor a group begins or ends with a blank, which no header carries
+abbrev pub user_in_place : User → Bool
+user_in_place user = not (has_blank_ends user.name || list_any has_blank_ends user.groups)
+
+-- somebody with a name and without an ID, whom the front door knows
+abbrev pub is_acted_as : User → Bool
+is_acted_as user = not (is_empty user.name) && (is_empty user.uid && has_group authenticated user.groups)
+
+-- only a member of `system:masters` acts as another user
+abbrev pub acting_in_place : User → Option User → Bool
+acting_in_place user None = true
+acting_in_place user (Some other) = has_group masters user.groups && is_acted_as other
+
+-- a request for this may have such an event: the object that it names is the request's, the status and the bodies stand where
+-- they may, as does the note that bodies were taken out, and its users are some that a request may have
 pub record IsInPlace (info : Info) (e : Event) : Type 0 where
   pub object_ref : e.object_ref ≡ object_ref info
   pub status : status_in_place e ≡ true
   pub request : request_in_place info e ≡ true
   pub response : response_in_place info e ≡ true
+  pub truncated : truncated_in_place info e ≡ true
+  pub user : user_in_place e.user ≡ true
+  pub acting : acting_in_place e.user e.impersonated ≡ true
 
 -- the level is the one that was decided, and the stage is not left out
 pub record IsDecided (decision : Decision) (e : Event) : Type 0 where
@@ -77,9 +103,14 @@ is_same_object None (Some b) = false
 is_same_object (Some a) None = false
 is_same_object (Some a) (Some b) = is_same_reference a b
 
+abbrev pub bodies_in_place : Info → Event → Bool
+bodies_in_place info e = request_in_place info e && (response_in_place info e && truncated_in_place info e)
+
+abbrev pub users_in_place : Event → Bool
+users_in_place e = user_in_place e.user && acting_in_place e.user e.impersonated
+
 abbrev pub is_in_place : Info → Event → Bool
 is_in_place info e =
     is_same_object e.object_ref (object_ref info)
-    && status_in_place e
-    && request_in_place info e
-    && response_in_place info e
+    && (status_in_place e
+    && (bodies_in_place info e && users_in_place e))

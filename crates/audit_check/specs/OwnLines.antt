@@ -1,6 +1,6 @@
 -- What the facts of an exchange meet by the types of their fields, since contracts see texts and numbers without these bounds; and what is
 -- known of those that are recorded.
-use Rattle.std.specs.Prelude.{◌≡◌, ◌⊎◌, ℕ, ◌<◌, ◌^◌, List, None, IfSome}
+use Rattle.std.specs.Prelude.{◌≡◌, ◌⊎◌, ℕ, ◌<◌, ◌^◌, List, [], None, IfSome, Ok}
 use Rattle.audit_core.specs.Errand.{attributes_in, info_in}
 use Rattle.audit_core.specs.Exchange.{KeepsRequest, decision_in, facts_by}
 use Rattle.audit_core.specs.declared.settings.Settings.{Settings}
@@ -18,6 +18,8 @@ use Rattle.stage_event.specs.declared.event.Event.{Event}
 use Rattle.stage_event.specs.declared.facts.Facts.{Facts}
 use Rattle.stage_event.specs.declared.facts.Kept.{Kept}
 use Rattle.stage_event.specs.declared.show.Show.{Show}
+use Rattle.token_users.specs.File.{file_records}
+use Rattle.token_users.specs.declared.record.Record.{Record}
 
 pub record AreInRange (facts : Facts) : Type 0 where
   pub boot : facts.id.boot < 2 ^ 64
@@ -34,6 +36,10 @@ pub record AreInRange (facts : Facts) : Type 0 where
   pub received : facts.received < MOMENT_END
   pub started : facts.started < MOMENT_END
   pub complete : facts.complete < MOMENT_END
+
+-- there are no tokens, or they are those of a token file that is accepted
+abbrev pub AreOfFile : List Record → Type 0
+AreOfFile tokens = (tokens ≡ []) ⊎ ((bytes : List ℕ) × (file_records bytes ≡ Ok tokens))
 
 -- the lines are of other requests
 abbrev pub AreOfOthers : List (List ℕ) → AuditId → Type 0

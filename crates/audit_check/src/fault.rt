@@ -12,8 +12,8 @@ use policy_rules::Decision;
 pub enum LineFault {
     /// It is the line of no event.
     Form,
-    /// The object that it names isn't that of its request, or a status or a body stands where none may, or none where
-    /// one must.
+    /// The object that it names isn't that of its request; or a status, a body or the note that bodies were taken out stands
+    /// where none may, or no status where one must; or its users are none that a request can have.
     Place,
     /// Its level isn't the one that the policy gives, or its stage is left out there.
     Level { first: Decision },

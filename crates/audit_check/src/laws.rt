@@ -14,11 +14,13 @@ ghost use Rattle.stage_event.specs.declared.facts.Facts.{Facts};
 ghost use Rattle.audit_check.specs.Conforms.{AllConform, IsKnown, Judges};
 ghost use Rattle.audit_check.specs.declared.fault.LineFault.{LineFault};
 ghost use Rattle.audit_check.specs.Logs.{MayStand, StagesRise};
-ghost use Rattle.audit_check.specs.OwnLines.{AreInRange, AreOfOthers, IsLineOf, IsRecorded};
+ghost use Rattle.audit_check.specs.OwnLines.{AreInRange, AreOfFile, AreOfOthers, IsLineOf, IsRecorded};
 
 use audit_reader::reads_back;
-use json_prune::kept_is_json;
+use json_prune::{kept_is_json, mended_once};
 use request_info::the_method_gives_the_verb_alone;
+use token_users::users_are_carried;
+use truncate_backend::{no_objects_no_strip, what_fits};
 
 /// A log conforms exactly where each of its lines may stand in one, and each has a later stage than the lines of its request
 /// before it.
@@ -40,26 +42,31 @@ pub fn one_judgement()
 }
 
 /// The lines of each request that is recorded, fitted to any length, conform to the policy that it was recorded by, after any lines of
-/// other requests. It holds whatever came of the request, and each of them is a line of this request.
+/// other requests, where the known tokens are those of a token file, or none. It holds whatever came of the request, and each of them is a line of
+/// this request.
 pub fn recorded_lines()
     ensures conform { (set : Settings) (stamp : Stamp) (r : Request) (d : Decision) (facts : Facts) (max : ℕ)
-        (before : List (List ℕ)) → IsRecorded set stamp r d facts → AreInRange facts
+        (before : List (List ℕ)) → AreOfFile set.tokens → IsRecorded set stamp r d facts → AreInRange facts
         → AreOfOthers before facts.id → AllConform set.policy before (fitted_lines max (owed d facts)) }
     ensures own { (set : Settings) (stamp : Stamp) (r : Request) (d : Decision) (facts : Facts) (max : ℕ)
-        → IsRecorded set stamp r d facts → AreInRange facts
+        → AreOfFile set.tokens → IsRecorded set stamp r d facts → AreInRange facts
         → AllByRecursion (IsLineOf facts.id) (fitted_lines max (owed d facts)) }
 {
     kept_is_json();
+    mended_once();
     the_method_gives_the_verb_alone();
+    users_are_carried();
+    what_fits();
+    no_objects_no_strip();
     reads_back();
 }
 
 /// The lines of each exchange, fitted to any length, conform to the policy that it was recorded by, after any lines of
-/// other requests.
+/// other requests, where the known tokens are those of a token file, or none.
 pub fn own_lines()
     ensures { (set : Settings) (stamp : Stamp) (r : Request) (handling : Handling) (note : LinkNote) (body : List ℕ)
-        (x : Answered) (max : ℕ) (before : List (List ℕ)) → IsAnswered set stamp r handling note body x → AreInRange x.facts
-        → AreOfOthers before x.facts.id → AllConform set.policy before (fitted_lines max (owed x.decision x.facts)) }
+        (x : Answered) (max : ℕ) (before : List (List ℕ)) → AreOfFile set.tokens → IsAnswered set stamp r handling note body x
+        → AreInRange x.facts → AreOfOthers before x.facts.id → AllConform set.policy before (fitted_lines max (owed x.decision x.facts)) }
 {
     recorded_lines();
 }

@@ -16,6 +16,7 @@ mod fault;
 mod laws;
 mod place;
 mod seen;
+mod users;
 
 pub use checker::Checker;
 pub use fault::LineFault;

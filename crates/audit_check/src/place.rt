@@ -1,7 +1,9 @@
 // Whether an event agrees with its request.
-ghost use Rattle.std.specs.Prelude.{◌≡◌, IfOk};
+ghost use Rattle.std.specs.Prelude.{◌≡◌, ◌&&◌, IfOk};
+ghost use Rattle.stage_event.specs.Due.{reply_due, request_due};
 ghost use Rattle.audit_check.specs.Agreement as spec;
 
+use crate::users::{is_acting_in_place, is_user_in_place};
 use front_base::{Info, NoMemory, Stage};
 use request_info::audit_info;
 use stage_event::{Event, ObjectRef, object_ref, reply_due, request_due};
@@ -60,16 +62,50 @@ fn is_status_in_place(event: &Event) -> bool
     }
 }
 
+// Whether the request's body may stand.
+fn may_show_request(event: &Event, info: &Info) -> bool
+    ensures { result ≡ (spec.is_answered event.now.stage && request_due event.now.level info.now) }
+{
+    is_answered(event.stage) && request_due(event.level, info)
+}
+
+// Whether the reply's body may stand.
+fn may_show_reply(event: &Event, info: &Info) -> bool
+    ensures { result ≡ (spec.is_complete event.now.stage && reply_due event.now.level info.now) }
+{
+    is_complete(event.stage) && reply_due(event.level, info)
+}
+
 fn is_request_in_place(event: &Event, info: &Info) -> bool
     ensures { result ≡ spec.request_in_place info.now event.now }
 {
-    event.request_object.is_none() || is_answered(event.stage) && request_due(event.level, info)
+    event.request_object.is_none() || may_show_request(event, info)
 }
 
 fn is_response_in_place(event: &Event, info: &Info) -> bool
     ensures { result ≡ spec.response_in_place info.now event.now }
 {
-    event.response_object.is_none() || is_complete(event.stage) && reply_due(event.level, info)
+    event.response_object.is_none() || may_show_reply(event, info)
+}
+
+fn is_truncated_in_place(event: &Event, info: &Info) -> bool
+    ensures { result ≡ spec.truncated_in_place info.now event.now }
+{
+    !event.truncated || may_show_request(event, info) || may_show_reply(event, info)
+}
+
+fn are_bodies_in_place(event: &Event, info: &Info) -> bool
+    ensures { result ≡ spec.bodies_in_place info.now event.now }
+{
+    is_request_in_place(event, info)
+        && is_response_in_place(event, info)
+        && is_truncated_in_place(event, info)
+}
+
+fn are_users_in_place(event: &Event) -> bool
+    ensures { result ≡ spec.users_in_place event.now }
+{
+    is_user_in_place(&event.user) && is_acting_in_place(&event.user, &event.impersonated)
 }
 
 // Whether a request for this may have such an event.
@@ -81,7 +117,7 @@ pub fn is_in_place(alloc: Global, event: &Event, info: &Info) -> Result<bool, No
     drop(named);
     Ok(
         same && is_status_in_place(event)
-            && is_request_in_place(event, info)
-            && is_response_in_place(event, info),
+            && are_bodies_in_place(event, info)
+            && are_users_in_place(event),
     )
 }

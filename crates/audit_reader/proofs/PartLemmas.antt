@@ -25,7 +25,7 @@ use Rattle.stamp_text.specs.Dates.{moment_of}
 use Rattle.stamp_text.specs.Ids.{audit_id_of}
 use Rattle.audit_reader.specs.Bodies.{body_if_at}
 use Rattle.audit_reader.specs.Moments.{micros_at}
-use Rattle.audit_reader.specs.Plain.{IsBody, IsCompact}
+use Rattle.audit_reader.specs.Plain.{IsBody, IsKeptJson}
 use Rattle.audit_reader.specs.EventLine.{which_at, user_member_at, who_at, from_at, reply_at, times_at}
 
 -- the laws of the crates below
@@ -140,7 +140,7 @@ no_value (token t) text e h = no_token (subst IsToken (sym h.1 ∙ e) h.0)
 no_value (array vs) text e h = absurd (cc (sym h.2 ∙ e))
 no_value (object_of ms) text e h = absurd (cc (sym h.2 ∙ e))
 
-filled : (body : List ℕ) → IsCompact body → body ≢ []
+filled : (body : List ℕ) → IsKeptJson body → body ≢ []
 filled body h e =
     let p = h.1.0 in
     let parts = empty_parts p.0 (p.1 ++ p.2) (sym p.6 ∙ e) in

@@ -11,18 +11,19 @@ use Rattle.front_base.specs.declared.level.Level.TheVariants as levels
 use Rattle.front_base.specs.declared.moment.TheConstants.{MOMENT_END}
 use Rattle.front_base.specs.declared.stage.Stage.{Stage}
 use Rattle.front_base.specs.declared.stage.Stage.TheVariants as stages
+use Rattle.json_prune.specs.Mend.{mended}
 use Rattle.json_span.specs.Value.{Value, StandsFor, flat}
 use Rattle.event_members.specs.Ranges.{IsUtf8, IsUser, IsReference, IsPeer}
 use Rattle.event_members.specs.declared.fault.EventFault.{EventFault}
 use Rattle.event_members.specs.declared.fault.EventFault.TheVariants.{NotAnEvent, NoMemory}
 
--- the bytes are a JSON text without white space
-abbrev pub IsCompact : List ℕ → Type 0
-IsCompact body = (v : Value) × StandsFor body v × (body ≡ flat v)
+-- the bytes are a JSON text without white space, and with no escape of half a surrogate pair
+abbrev pub IsKeptJson : List ℕ → Type 0
+IsKeptJson body = (v : Value) × StandsFor body v × (body ≡ flat v) × (mended v ≡ v)
 
 abbrev pub IsBody : Option (List ℕ) → Type 0
 IsBody None = Unit {0}
-IsBody (Some body) = IsCompact body
+IsBody (Some body) = IsKeptJson body
 
 -- a test was answered, unless memory ran out
 abbrev pub Tells : Result Bool EventFault → Type 0 → Type 0
@@ -68,7 +69,7 @@ abbrev pub stripped_or_whole : Event → Bool
 stripped_or_whole e = not e.truncated || (no_body e.request_object && no_body e.response_object)
 
 -- it has a level and a stage that are recorded, what may be left out is left out or not empty, and the objects are
--- compact JSON
+-- compact JSON without half a surrogate pair
 pub record IsPlain (e : Event) : Type 0 where
   pub level : is_level e.level ≡ true
   pub stage : is_stage e.stage ≡ true

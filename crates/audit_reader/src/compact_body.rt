@@ -1,4 +1,4 @@
-// Bodies, which are compact JSON.
+// Bodies, which are compact JSON without half a surrogate pair.
 ghost use Rattle.std.specs.Prelude.{◌≡◌, ◌↔◌, true, IfOk};
 ghost use Rattle.audit_reader.specs.Bodies as spec;
 ghost use Rattle.audit_reader.specs.Plain as plain;
@@ -6,7 +6,8 @@ ghost use Rattle.event_members.specs.TextMembers.{Gives};
 
 use event_members::{EventFault, after_if, skip_comma};
 use front_base::Bytes;
-use json_span::{JsonError, compact, compact_keeps_the_value, one_value, value_len};
+use json_prune::{keep, kept_is_json, mended_once};
+use json_span::{JsonError, one_value, value_len};
 use std::alloc::Global;
 
 // A body that may be left out.
@@ -30,13 +31,15 @@ pub fn body_if<'b>(
     }
 }
 
-// Whether the bytes are a compact JSON text.
-fn is_compact(alloc: Global, body: &[u8]) -> Result<bool, EventFault>
-    ensures { plain.Tells result (plain.IsCompact body.now) }
+// Whether the bytes are what would be kept of them.
+fn is_kept_json(alloc: Global, body: &[u8]) -> Result<bool, EventFault>
+    ensures { plain.Tells result (plain.IsKeptJson body.now) }
 {
     one_value();
-    match compact(alloc, body) {
-        Ok(joined) => Ok(joined.as_slice() == body),
+    kept_is_json();
+    mended_once();
+    match keep(alloc, body, false) {
+        Ok(kept) => Ok(kept.as_slice() == body),
         Err(JsonError::NotJson(_)) => Ok(false),
         Err(JsonError::NoMemory) => Err(EventFault::NoMemory),
     }
@@ -46,7 +49,7 @@ pub fn is_plain_body(alloc: Global, body: &Option<Bytes>) -> Result<bool, EventF
     ensures { plain.Tells result (plain.IsBody body.now) }
 {
     match body {
-        Some(body) => is_compact(alloc, body.as_slice()),
+        Some(body) => is_kept_json(alloc, body.as_slice()),
         None => Ok(true),
     }
 }

@@ -3,7 +3,7 @@ use Rattle.std.proofs.Common.{◌≡◌, ℕ, ◌+◌, ◌<◌, Bool, List, [], 
 use Rattle.std.specs.List.{AllByRecursion, Contains}
 use Rattle.audit_check.specs.Conforms.{AllConform}
 use Rattle.audit_check.specs.Lines.{HasStage}
-use Rattle.audit_check.specs.OwnLines.{AreInRange, AreOfOthers, IsLineOf, IsRecorded}
+use Rattle.audit_check.specs.OwnLines.{AreInRange, AreOfFile, AreOfOthers, IsLineOf, IsRecorded}
 use Rattle.audit_core.specs.Owed.{fitted_lines, owed}
 use Rattle.audit_core.specs.declared.offers.Outcome.{Outcome}
 use Rattle.audit_core.specs.declared.settings.Settings.{Settings}
@@ -28,11 +28,11 @@ use Rattle.stage_event.specs.declared.facts.Facts.{Facts}
 -- the laws of lines of a request
 abbrev pub LinesConform : Type 0
 LinesConform = (set : Settings) (stamp : Stamp) (r : Request) (d : Decision) (facts : Facts) (max : ℕ) (before : List (List ℕ))
-    → IsRecorded set stamp r d facts → AreInRange facts → AreOfOthers before facts.id → AllConform set.policy before (fitted_lines max (owed d facts))
+    → AreOfFile set.tokens → IsRecorded set stamp r d facts → AreInRange facts → AreOfOthers before facts.id → AllConform set.policy before (fitted_lines max (owed d facts))
 
 abbrev pub LinesAreOwn : Type 0
 LinesAreOwn = (set : Settings) (stamp : Stamp) (r : Request) (d : Decision) (facts : Facts) (max : ℕ)
-    → IsRecorded set stamp r d facts → AreInRange facts → AllByRecursion (IsLineOf facts.id) (fitted_lines max (owed d facts))
+    → AreOfFile set.tokens → IsRecorded set stamp r d facts → AreInRange facts → AllByRecursion (IsLineOf facts.id) (fitted_lines max (owed d facts))
 
 -- the requests of lines have lower numbers
 abbrev AreBefore : List (List ℕ) → ℕ → Type 0
@@ -57,7 +57,7 @@ of_its_bay id bay (line ∷ lines) e h =
     let own = h.0 in
     (record { event = own.event; line = own.line; bay_is = ap (λ (i : AuditId). i.bay) own.id_is ∙ e }, of_its_bay id bay lines e h.1)
 
-module _ (one : OneEvent) (conform : LinesConform) (own : LinesAreOwn) (set : Settings) (boot bay : ℕ) where
+module _ (one : OneEvent) (conform : LinesConform) (own : LinesAreOwn) (set : Settings) (tokens : AreOfFile set.tokens) (boot bay : ℕ) where
   id_of : (number : ℕ) (x : Exchange) → IsNoted set boot bay number x → x.facts.id ≡ record { boot = boot; bay = bay; number = number }
   id_of number x h = ap (λ (f : Facts). f.id) h.recorded.facts_are ∙ h.id_is
 
@@ -76,7 +76,7 @@ module _ (one : OneEvent) (conform : LinesConform) (own : LinesAreOwn) (set : Se
 
   own_of : (number : ℕ) (x : Exchange) → IsNoted set boot bay number x → AreInRange x.facts
       → AllByRecursion (IsLineOf x.facts.id) (fitted_lines set.max_event (owed x.decision x.facts))
-  own_of number x h range = own set h.stamp h.request x.decision x.facts set.max_event h.recorded range
+  own_of number x h range = own set h.stamp h.request x.decision x.facts set.max_event tokens h.recorded range
 
   owed_after : (number : ℕ) (xs : List Exchange) (before : List (List ℕ)) → AreNoted set boot bay number xs → AllInRange xs → AreBefore before number
       → AllConform set.policy before (all_texts set xs)
@@ -85,7 +85,7 @@ module _ (one : OneEvent) (conform : LinesConform) (own : LinesAreOwn) (set : Se
       let mine = fitted_lines set.max_event (owed x.decision x.facts) in
       let h = noted.0 in
       both_conform set.policy before mine (all_texts set xs)
-      (conform set h.stamp h.request x.decision x.facts set.max_event before h.recorded range.0
+      (conform set h.stamp h.request x.decision x.facts set.max_event before tokens h.recorded range.0
       (λ stage has. never x.facts.id.number number (number_of number x h) (low x.facts.id stage has)))
       (owed_after (number + 1) xs (before ++ mine) noted.1 range.1
       (next_before number x.facts.id before mine low (own_of number x h range.0) (number_of number x h)))
@@ -107,10 +107,10 @@ module _ (one : OneEvent) (conform : LinesConform) (own : LinesAreOwn) (set : Se
       none : {A : Type 0} (text : List ℕ) → Contains [] text → A
       none text h = absurd (let small = h.1 in omega arith)
 
-pub lines_of_bays : OneEvent → LinesConform → LinesAreOwn → (set : Settings) (boot : ℕ) (keeps : Outcome → Bool) (sink : Sink) (xs : ℕ → List Exchange) (lines : List Line)
+pub lines_of_bays : OneEvent → LinesConform → LinesAreOwn → (set : Settings) → AreOfFile set.tokens → (boot : ℕ) (keeps : Outcome → Bool) (sink : Sink) (xs : ℕ → List Exchange) (lines : List Line)
     → ((bay : ℕ) → AreNoted set boot bay 0 (xs bay)) → ((bay : ℕ) → AllInRange (xs bay)) → AreWoven keeps set sink xs lines → AllConform set.policy [] (texts lines)
-lines_of_bays one conform own set boot keeps sink xs lines noted range woven =
+lines_of_bays one conform own set tokens boot keeps sink xs lines noted range woven =
     woven_conform one set.policy lines
     (λ bay. subst (λ (ls : List Line). IsLogOf set.policy bay [] (texts ls)) (sym (woven bay))
-    (bay_log one conform own set boot bay (xs bay) (texts (lines_for keeps sink bay 0 (offered_in set (xs bay)) (offers_in (xs bay)))) (noted bay) (range bay)
+    (bay_log one conform own set tokens boot bay (xs bay) (texts (lines_for keeps sink bay 0 (offered_in set (xs bay)) (offers_in (xs bay)))) (noted bay) (range bay)
     (kept_of_all keeps set sink bay 0 (xs bay) (offers_in (xs bay)))))

@@ -1,5 +1,6 @@
 ghost use Rattle.std.specs.Prelude.{ℕ, Bool, List, []};
 ghost use Rattle.audit_check.specs.Conforms.{AllConform};
+ghost use Rattle.audit_check.specs.OwnLines.{AreOfFile};
 ghost use Rattle.audit_core.specs.declared.offers.Outcome.{Outcome};
 ghost use Rattle.audit_core.specs.declared.settings.Settings.{Settings};
 ghost use Rattle.audit_core.specs.declared.sinks.Sink.{Sink};
@@ -31,10 +32,10 @@ pub fn exchanges_are_recorded<C>()
 {}
 
 /// The lines of bays conform to the policy that their exchanges were recorded by, in whichever order the bays take turns, and whichever
-/// of their offers were taken.
+/// of their offers were taken, where the known tokens are those of a token file, or none.
 pub fn woven_lines_conform()
     ensures { (set : Settings) (boot : ℕ) (keeps : Outcome → Bool) (sink : Sink) (xs : ℕ → List Exchange) (lines : List Line)
-        → ((bay : ℕ) → AreNoted set boot bay 0 (xs bay)) → ((bay : ℕ) → AllInRange (xs bay)) → AreWoven keeps set sink xs lines
+        → AreOfFile set.tokens → ((bay : ℕ) → AreNoted set boot bay 0 (xs bay)) → ((bay : ℕ) → AllInRange (xs bay)) → AreWoven keeps set sink xs lines
         → AllConform set.policy [] (texts lines) }
 {
     recorded_lines();

@@ -6,6 +6,7 @@
 //! a log that conforms, in their order, conform too.
 //!
 //! Not promised: that facts are in the range of their types, which is a premise. Contracts see numbers and texts without these ranges.
+//! Another premise is met by what `front_config` reads: the known tokens are those of a token file, or there are none.
 //!
 //! Nothing runs here: these are laws of definitions.
 #![tactic(auto)]

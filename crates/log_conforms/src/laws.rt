@@ -1,5 +1,6 @@
 ghost use Rattle.std.specs.Prelude.{◌≡◌, ◌⊎◌, Bool, List, []};
 ghost use Rattle.audit_check.specs.Conforms.{AllConform};
+ghost use Rattle.audit_check.specs.OwnLines.{AreOfFile};
 ghost use Rattle.audit_core.specs.Offers.{mode_of};
 ghost use Rattle.audit_core.specs.declared.offers.Outcome.{Outcome};
 ghost use Rattle.audit_core.specs.declared.settings.Settings.{Settings};
@@ -23,13 +24,13 @@ use front_ports::Door;
 use run_laws::{accepted_lines_are_batched, tried_lines_are_those_offered};
 
 /// Lines conform to the policy of a run that have of each bay, in order, the lines of those offers to a sink that became such, as all
-/// that were taken, or tried. It holds in whichever order the bays take turns.
+/// that were taken, or tried. It holds in whichever order the bays take turns. Here and below the known tokens are those of a token file, or none.
 pub fn lines_of_a_run_conform<P: Plant, R: Routes>()
     ensures { (set : Settings) (options : RunOptions) (before after : PlantTells P.D.C) (tables : List R)
         (ended : Ended R P.L P.W P.H P.K P.Y P.D)
         (served : RunServed (bay_handles R.Routes P.L.Dial P.W.BatchSink P.H.BatchSink P.K.Clock P.Y.Diary P.D.Door
         P.D.C.Source P.D.C.ByteSink P.D.C.Conn.own) P.Rt set options P.opens before after tables ended)
-        → BaysInRange (run_exchanges served)
+        → AreOfFile set.tokens → BaysInRange (run_exchanges served)
         → (keeps : Outcome → Bool) (sink : Sink) (lines : List Line) → AreWoven keeps set sink (run_exchanges served) lines
         → AllConform set.policy [] (texts lines) }
 {
@@ -44,7 +45,7 @@ pub fn batched_logs_conform<P: Plant, R: Routes>()
         (sink : Sink) (set : Settings) (options : RunOptions) (before after : PlantTells P.D.C) (tables : List R)
         (ended : Ended R P.L P.W P.H P.K P.Y P.D)
         (served : RunServed h P.Rt set options P.opens before after tables ended)
-        → BaysInRange (run_exchanges served)
+        → AreOfFile set.tokens → BaysInRange (run_exchanges served)
         → mode_of set sink ≡ Batch
         → BatchesConform h (side_sink h sink) (side_opens P.opens options sink) set sink options (side_allots served sink) (run_exchanges served)
         ended.bays.items (side_end ended sink) }
@@ -62,7 +63,7 @@ pub fn logs_at_once_conform<P: Plant, R: Routes>()
         (sink : Sink) (set : Settings) (options : RunOptions) (before after : PlantTells P.D.C) (tables : List R)
         (ended : Ended R P.L P.W P.H P.K P.Y P.D)
         (served : RunServed h P.Rt set options P.opens before after tables ended)
-        → BaysInRange (run_exchanges served)
+        → AreOfFile set.tokens → BaysInRange (run_exchanges served)
         → (mode_of set sink ≡ Blocking) ⊎ (mode_of set sink ≡ Strict) → (lines : List Line)
         → AreTriedByBays (side_sink h sink) (side_end ended sink).own.items lines → AllConform set.policy [] (texts lines) }
 {

@@ -5,9 +5,9 @@ use Rattle.audit_core.specs.Exchange.{facts_by, sent_body}
 use Rattle.audit_check.proofs.laws.own_lines.Goals as goal
 
 pub returns : goal.returns
-returns c = λ set stamp r handling note body x max before answered in_range others.
+returns c = λ set stamp r handling note body x max before tokens answered in_range others.
     let known = answered.facts_are in
-    c.recorded_lines.ensures.conform set stamp r x.decision x.facts max before
+    c.recorded_lines.ensures.conform set stamp r x.decision x.facts max before tokens
     (record {
       decision_is = answered.decision_is;
       request_is = known.request_is;
