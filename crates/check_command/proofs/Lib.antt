@@ -1,2 +1,6 @@
+mod BadLemmas
+mod CheckLemmas
 mod ConfigLemmas
 mod FlagLemmas
+mod ReviewLemmas
+mod RunLemmas

@@ -3,6 +3,7 @@ use Rattle.std.specs.Prelude.{◌≡◌, ℕ, Bool, true, false, List, Option}
 use Rattle.std.specs.Io.KnownBytes.{Appends}
 use Rattle.check_command.specs.Run.{Run, why_of}
 use Rattle.check_command.specs.Words.{asks_summary}
+use Rattle.check_command.specs.declared.check.Checked.{Checked}
 use Rattle.front_ports.specs.Written.{AppendsFront}
 use Rattle.command_ends.specs.Ports.{FilesPort, HasFailed, IsSound, IsUntouched, Port, State}
 use Rattle.command_ends.specs.declared.status.Status.{Status}
@@ -32,9 +33,9 @@ FollowsIf false answered told output status why = EndsSo answered told output st
 FollowsIf true answered told output status why = Follows answered told output status why
 
 -- a run, up to its answer, and what follows
-pub record RunSummed (words : List (List ℕ)) (files : FilesPort) (input output : Port) (status : Status) (why : Option Refusal) : Type 0 where
+pub record RunSummed (words : List (List ℕ)) (files : FilesPort) (input output : Port) (status : Status) (why : Option Refusal) (checked : Option Checked) : Type 0 where
   pub middle : State
   pub answered : Status
   pub told : Option Refusal
-  pub run : Run words files input (record { before = output.before; after = middle }) answered told
+  pub run : Run words files input (record { before = output.before; after = middle }) answered told checked
   pub follows : FollowsIf (asks_summary words) answered told (record { before = middle; after = output.after }) status why

@@ -1,10 +1,10 @@
 // What is written of a log.
-ghost use Rattle.std.specs.Prelude.{◌≡◌, ◌<◌, ◌^◌, ◌++◌, IfOk, codes, string_bytes};
-ghost use Rattle.std.specs.Fmt.{decimal};
+ghost use Rattle.std.specs.Prelude.{◌≡◌, ◌++◌, IfOk, OnOk, string_bytes};
 ghost use Rattle.check_command.specs.Answer as spec;
 
+use crate::bad_lines::{BadLine, BadLines};
+use crate::check::{CheckEnd, Checked};
 use audit_check::LineFault;
-use log_check::{CheckEnd, Checked};
 use std::alloc::{AllocError, Global};
 
 // The word of a reason why a line doesn't conform.
@@ -20,12 +20,24 @@ fn word_of(fault: LineFault) -> &'static str
     }
 }
 
+fn line_text(alloc: Global, line: u64, fault: LineFault) -> Result<String, AllocError>
+    ensures { IfOk result (λ text. string_bytes text ≡ spec.line_text line fault) }
+{
+    let word = word_of(fault);
+    format!(in alloc; "line {line} {word}\n")
+}
+
 fn refused_text(alloc: Global, lines: u64, fault: LineFault) -> Result<String, AllocError>
     ensures { IfOk result (λ text. string_bytes text ≡ spec.refused_text lines fault) }
 {
     let line = lines.saturating_add(1);
-    let word = word_of(fault);
-    format!(in alloc; "line {line} {word}\n")
+    line_text(alloc, line, fault)
+}
+
+fn events_text(alloc: Global, lines: u64) -> Result<String, AllocError>
+    ensures { IfOk result (λ text. string_bytes text ≡ spec.events_text lines) }
+{
+    format!(in alloc; "events {lines}\n")
 }
 
 /// The line that tells how far a log conforms, with a line feed; nothing where that isn't known.
@@ -34,11 +46,43 @@ pub fn answer_text(alloc: Global, checked: Checked) -> Result<String, AllocError
 {
     let lines = checked.lines;
     match checked.end {
-        CheckEnd::Done => format!(in alloc; "events {lines}\n"),
+        CheckEnd::Done => events_text(alloc, lines),
         CheckEnd::Refused(fault) => refused_text(alloc, lines, fault),
         CheckEnd::Cut => refused_text(alloc, lines, LineFault::Form),
         CheckEnd::ReadFault | CheckEnd::NumbersSpent | CheckEnd::NoMemory => Ok(String::new(alloc)),
     }
+}
+
+fn push_lines(out: &mut Vec<u8>, alloc: Global, bad: &[BadLine]) -> Result<(), AllocError>
+    ensures { OnOk result (out.new.items ≡ out.old.items ++ spec.lines_text bad.now) }
+{
+    for line in bad {
+        let text = line_text(alloc, line.number, line.why)?;
+        out.extend_from_slice(text.as_bytes())?;
+    }
+    Ok(())
+}
+
+fn bad_text(alloc: Global, bad: &BadLines) -> Result<Vec<u8>, AllocError>
+    ensures { IfOk result (λ text. text.items ≡ spec.bad_text bad.now) }
+{
+    let count = bad.count;
+    let mut out = Vec::new(alloc);
+    push_lines(&mut out, alloc, bad.first.as_slice())?;
+    let counted = format!(in alloc; "bad lines {count}\n")?;
+    out.extend_from_slice(counted.as_bytes())?;
+    Ok(out)
+}
+
+/// What is written of a whole log of so many lines: of those that don't conform the first ones and how many there are, or how many lines
+/// there are where all conform.
+pub fn review_text(alloc: Global, lines: u64, bad: &BadLines) -> Result<Vec<u8>, AllocError>
+    ensures { IfOk result (λ text. text.items ≡ spec.review_text lines bad.now) }
+{
+    if bad.count == 0 {
+        return Ok(events_text(alloc, lines)?.into_bytes());
+    }
+    bad_text(alloc, bad)
 }
 
 // Why the line after those that conform doesn't, in words.
@@ -46,7 +90,7 @@ fn reason_of(end: CheckEnd) -> Option<&'static str> {
     match end {
         CheckEnd::Refused(LineFault::Form) => Some("not an event as this server writes it"),
         CheckEnd::Refused(LineFault::Place) => {
-            Some("its object reference, status or bodies are not those of its request")
+            Some("its object reference, status, bodies or users can't be those of its request")
         }
         CheckEnd::Refused(LineFault::Level { .. }) => {
             Some("the policy has another level for it, or omits its stage")

@@ -38,6 +38,7 @@ fn follow<O: ByteSink>(
 ) -> CheckEnded
     ensures follows { spec.Follows ended.status ended.why
         (port (O.written out.old) (O.write_faults out.old) (O.written out.new) (O.write_faults out.new)) result.status result.why }
+    ensures same { result.checked ≡ ended.checked }
     ensures later { O.write_faults out.old ≤ O.write_faults out.new }
 {
     match ended.status {
@@ -68,13 +69,13 @@ pub fn run_summed<F: Files, S: Source, O: ByteSink>(
         (F.files files.new) (F.failed files.new) (F.faults files.new))
         (port (S.left input.old) (S.read_faults input.old) (S.left input.new) (S.read_faults input.new))
         (port (O.written out.old) (O.write_faults out.old) (O.written out.new) (O.write_faults out.new))
-        result.status result.why }
+        result.status result.why result.checked }
     ensures run { spec.RunSummed (map string_bytes words.now.items)
         (files_port (F.files files.old) (F.failed files.old) (F.faults files.old)
         (F.files files.new) (F.failed files.new) (F.faults files.new))
         (port (S.left input.old) (S.read_faults input.old) (S.left input.new) (S.read_faults input.new))
         (port (O.written out.old) (O.write_faults out.old) (O.written out.new) (O.write_faults out.new))
-        result.status result.why }
+        result.status result.why result.checked }
     ensures kept { KeepsFiles (F.files files.old) (F.files files.new) }
     ensures files_later { F.faults files.old ≤ F.faults files.new }
     ensures read_later { S.read_faults input.old ≤ S.read_faults input.new }

@@ -6,11 +6,10 @@
 #![tactic(auto)]
 
 use case_rows::{is_row, read_cases};
-use check_command::{reason_text, run_summed};
+use check_command::{Checked, reason_text, run_summed};
 use command_ends::{Ended, ReaderSource, SystemFiles};
 use front_base::Bytes;
 use front_ports::{Files, MemBytes};
-use log_check::Checked;
 use std::alloc::{AllocError, Global};
 use std::process::ExitCode;
 

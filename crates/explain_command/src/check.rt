@@ -1,8 +1,7 @@
 // The command `check`, over this process's files, input and output.
 use crate::ending::finish_told;
-use check_command::{CheckEnded, reason_text, run_summed};
+use check_command::{CheckEnded, Checked, reason_text, run_summed};
 use command_ends::{Ended, ReaderSource, SystemFiles, WriterSink};
-use log_check::Checked;
 use std::process::ExitCode;
 use warned_files::WarnedFiles;
 

@@ -39,6 +39,8 @@ Exit status:
   8  there are more than 2^48 requests or lines
   9  a request is malformed, too large or cut short
   10 a line of a log does not conform to its policy, or can't be shipped
+  11 lines of a log were lost, or a front door has not taken what it was told
+  12 no list of resources is fresh
 
 With a status other than 0 one line on standard error names the status, and a
 second one says what was refused, and why.
@@ -115,6 +117,8 @@ Options are written --NAME=VALUE or --NAME VALUE.
                              lines and requests, and the requests by level,
                              verb, status, user and resource, at most ten rows
                              each. It is no part of what is proved of check
+  --all                      goes on behind the first line that doesn't conform,
+                             and lists up to 100 such lines
 
   -h, --help                 prints this help
 
@@ -210,14 +214,15 @@ const SHIP_HELP: &str = "\
 Usage: apiaggd ship [OPTION].. < LOG
 
 Posts the lines of an audit log to a webhook, in batches and in their order, as
-'serve' does in mode batch. A batch whose post fails is posted again, and then
-its lines are lost. No more is posted than a throttle allows. Reads the lines
-from standard input.
+'serve' does in mode batch. A batch whose post fails is posted again after a
+wait, and its lines are lost where the last try fails. No more is posted than a
+throttle allows. Reads the lines from standard input.
 
 At the end of the log it prints how many lines were read, posted and lost, and
-how many posts there were, and ends with status 0. At a line that is not a JSON
-text, has more than 4194304 bytes or no line feed it ends with status 10, once
-the lines before it are shipped.
+how many posts there were, and ends with status 0 where no line was lost, and
+else with status 11. At a line that is not a JSON text, has more than 4194304
+bytes or no line feed it ends with status 10, once the lines before it are
+shipped.
 
 Options are written --NAME=VALUE or --NAME VALUE.
 
@@ -229,8 +234,12 @@ Options are written --NAME=VALUE or --NAME VALUE.
   --tries=N                  most posts of a batch: 1 to 10 (default: 3)
   --rate=N                   posts a second: 1 to 1000 (default: 10)
   --burst=N                  posts at once: 1 to 1000 (default: 15)
-  --rests=N                  how often one post waits for the throttle, for a
-                             millisecond each: 1 to 1000000 (default: 100000)
+  --retry-wait-ms=N          milliseconds that the second try of a batch waits: 1 to
+                             30000; the next waits are doubled, up to 30000
+                             (default: 1000)
+  --from-line=N              number of the first line that is shipped; those
+                             before it are read past: 1 to 281474976710656
+                             (default: 1)
 
   -h, --help                 prints this help
 
@@ -251,8 +260,8 @@ order of discovery. A list is fresh where the server answered it in this run,
 stale where an earlier document has it, and missing where neither does.
 
 An unavailable APIService, or one without an address, is not asked. A server
-that does not answer such a list within a minute is no fault of the run, which
-ends with status 0.
+that does not answer such a list in time is no fault of the run, which ends with
+status 0 where some list is fresh, and with status 12 where none is.
 
 Options are written --NAME=VALUE or --NAME VALUE.
 
@@ -261,6 +270,8 @@ Options are written --NAME=VALUE or --NAME VALUE.
                              (default: none)
   --previous=FILE            earlier document, as a run printed it
                              (default: none)
+  --request-timeout-ms=N     milliseconds that one request may take in all: 1 to
+                             600000 (default: 10000)
 
   -h, --help                 prints this help
 
@@ -274,8 +285,8 @@ const PROBE_HELP: &str = "\
 Usage: apiaggd probe [OPTION]..
 
 Asks the services of APIServices whether they answer, and tells a front door of
-each that is available now, or isn't any more: it puts the APIService with that
-condition Available, as any client may.
+each that is available now, or isn't any more: it changes the condition
+Available of that APIService, as any client may.
 
 In each round each service is asked, at its endpoint, for the resources of its
 API. A status of 200 to 299 is good; any other answer is bad, and so is none, or
@@ -284,13 +295,14 @@ and the condition is another one, the front door is told, and a line is printed:
   ROUND NAME up|down STATUS
 with the status of the front door's answer, or none. It has taken what it was
 told where that is 200. After any other answer it is told again in the next
-round. At first a condition is that of the file.
+round. At the end the status is 11 where some APIService's last answer was
+another one, and else 0.
 
 Options are written --NAME=VALUE or --NAME VALUE.
 
 Files, each of at most 16777216 bytes:
   --apiservices=FILE   APIService objects, as JSON: one, or a list of at most
-                       1024 (default: none)
+                       1024 (default: those that the front door lists)
   --endpoints=FILE     where services are reached, as CSV: the key
                        NAMESPACE/NAME:PORT, and A.B.C.D:PORT (default: none)
 
@@ -299,12 +311,20 @@ Front door:
                        (default: 127.0.0.1:8001)
   --token=TOKEN        bearer token of a user in the group system:masters, of the
                        characters '!' to '~' (default: none)
+  --token-file=FILE    file with that token, --token-file=- for standard input;
+                       not beside --token (default: none)
 
 Probes:
-  --rounds=N           how often each service is asked: 1 to 1000 (default: 1).
-                       A millisecond lies between two rounds
+  --every=SECONDS      time from the beginning of a round to that of the next
+                       one: 1 to 86400. Rounds go on until standard input ends,
+                       or for --rounds (default: no time between rounds)
+  --rounds=N           how often each service is asked: 1 to 1000000 (default:
+                       the number of --threshold, with --every 1000000)
   --threshold=N        how many probes one after another change a condition:
                        1 to 10 (default: 3)
+  --request-timeout-ms=N
+                       milliseconds that one request may take in all: 1 to
+                       600000 (default: 10000)
 
   -h, --help           prints this help
 

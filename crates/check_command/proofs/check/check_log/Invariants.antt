@@ -1,7 +1,7 @@
 use Rattle.std.proofs.Common.{◌≡◌, ◌≤◌, ◌-◌}
 use Rattle.front_base.specs.declared.audit_id.TheConstants.{MOST_REQUESTS}
-use Rattle.log_check.specs.Checks.{SoFar}
-use Rattle.log_check.proofs.check.check_log.Given as goal
+use Rattle.check_command.specs.Checks.{SoFar}
+use Rattle.check_command.proofs.check.check_log.Given as goal
 
 abbrev pub invariant-checking : goal.invariant-checking
 invariant-checking g l = record {
