@@ -40,7 +40,7 @@ fn number_to(field: &str, place: usize, most: u32) -> u32
 fn word_of(end: ShipEnd) -> &'static str {
     match end {
         ShipEnd::Done => "done",
-        ShipEnd::NotJson => "not JSON",
+        ShipEnd::NotJson => "refused",
         ShipEnd::TooLong => "too long",
         ShipEnd::Cut => "cut",
         ShipEnd::ReadFault => "read fault",
@@ -73,9 +73,10 @@ fn ship(
         clock,
         bucket,
         number_to(numbers, 2, 10),
-        number_to(numbers, 5, 1_000_000),
+        u64::from(number_to(numbers, 5, 30_000)) * 1000,
     );
-    Some(ship_log(alloc, limits, &mut source, &mut sender))
+    let before = number(numbers, 7).min(1000);
+    Some(ship_log(alloc, limits, before, &mut source, &mut sender))
 }
 
 /// What becomes of the lines of a row.
@@ -88,8 +89,8 @@ pub fn show_ship(alloc: Global, row: &str) -> Option<String> {
     let word = word_of(shipment.end);
     let tally = shipment.tally;
     format!(in alloc;
-        "{word}: lines {}, posted {}, lost {}, posts {}",
-        shipment.lines, tally.posted, tally.lost, tally.posts
+        "{word}: passed {}, lines {}, posted {}, lost {}, posts {}",
+        shipment.passed, shipment.lines, tally.posted, tally.lost, tally.posts
     )
     .ok()
 }

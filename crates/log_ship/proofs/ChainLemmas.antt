@@ -2,6 +2,7 @@
 use Rattle.std.proofs.Common.{◌≡◌, ◌+◌, ◌-◌, ◌^◌, min, ℕ, List, [], ◌∷◌, ◌++◌, Option, Some, None, refl, sym, ap, ◌∙◌, subst, append-nil, append_assoc}
 use Rattle.front_base.specs.Line.{Line}
 use Rattle.front_ports.specs.Told.{Grows}
+use Rattle.retry_throttle.specs.Clocks.{ClockTells, Passed}
 use Rattle.retry_throttle.specs.Sendings.{Rules}
 use Rattle.retry_throttle.specs.Shippings.{Ships}
 use Rattle.retry_throttle.specs.declared.sent.Sent.{Sent}
@@ -19,6 +20,11 @@ grows_on (Some a) (Some b) (Some c) xs ys p q = q ∙ (ap (λ l. l ++ ys) p ∙ 
 grows_none : {T : Type 0} (a : Option (List T)) → Grows a a []
 grows_none None = refl
 grows_none (Some a) = sym (append-nil a)
+
+-- what calls of a clock come to, one after another
+pub record ClockLaws : Type 0 where
+  pub none : (c : ClockTells) → Passed c [] 0 c
+  pub more : (c d e : ClockTells) (ms ns : List ℕ) (i j : ℕ) → Passed c ms i d → Passed d ns j e → Passed c (ms ++ ns) (i + j) e
 
 -- ---- one batch more
 
@@ -43,26 +49,26 @@ module _ (rules : Rules) where
 
   -- ---- all posts of a chain
 
-  pub posted : (p : Side) (batches : List (List Line)) (ends : List Sent) (q : Side) → Chain rules p batches ends q → Posted rules p batches ends q
-  posted p [] [] q c = record {
+  pub posted : ClockLaws → (p : Side) (batches : List (List Line)) (ends : List Sent) (q : Side) → Chain rules p batches ends q → Posted rules p batches ends q
+  posted laws p [] [] q c = record {
     outcomes = [];
     ends_are = refl;
     ships = ap (λ (z : Side). z.bucket) c;
     tries = record { grows = subst (λ (z : Side). Grows p.sink.tries z.sink.tries []) (sym c) (grows_none p.sink.tries) };
-    moments = record { grows = subst (λ (z : Side). Grows p.given z.given []) (sym c) (grows_none p.given) };
+    clock = subst (λ (z : Side). Passed p.clock [] 0 z.clock) (sym c) (laws.none p.clock);
   }
-  posted p [] (e ∷ ends) q c = absurd c
-  posted p (b ∷ batches) [] q c = absurd c
-  posted p (b ∷ batches) (e ∷ ends) q c =
+  posted laws p [] (e ∷ ends) q c = absurd c
+  posted laws p (b ∷ batches) [] q c = absurd c
+  posted laws p (b ∷ batches) (e ∷ ends) q c =
       let m = c.0 in
       let s : SendsOne rules p b e m = c.1 in
-      let r = posted m batches ends q c.2 in
+      let r = posted laws m batches ends q c.2 in
       record {
         outcomes = (s.delivery, e) ∷ r.outcomes;
         ends_are = ap (λ l. e ∷ l) r.ends_are;
         ships = (m.bucket, s.delivers, subst (λ text. Ships rules text m.bucket batches r.outcomes q.bucket) s.text_is r.ships);
         tries = record { grows = grows_on p.sink.tries m.sink.tries q.sink.tries _ _ s.tries.grows r.tries.grows };
-        moments = record { grows = grows_on p.given m.given q.given _ _ s.moments.grows r.moments.grows };
+        clock = laws.more p.clock m.clock q.clock _ _ _ _ s.clock r.clock;
       }
 
 -- ---- one batch is counted

@@ -1,2 +1,3 @@
 mod ChainLemmas
 mod ShipLemmas
+mod TextLemmas

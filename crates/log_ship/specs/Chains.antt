@@ -1,24 +1,25 @@
 -- Batches that a sender sends one after another.
-use Rattle.std.specs.Prelude.{◌≡◌, ◌+◌, ◌-◌, ◌^◌, min, ℕ, List, [], ◌∷◌, length, Option}
+use Rattle.std.specs.Prelude.{◌≡◌, ◌+◌, ◌-◌, ◌^◌, min, ℕ, List, [], ◌∷◌, length}
 use Rattle.front_base.specs.Line.{Line}
 use Rattle.truncate_backend.specs.Told.{Joined}
 use Rattle.truncate_backend.specs.Tries.{SinkTells}
 use Rattle.retry_throttle.specs.Buckets.{Level}
+use Rattle.retry_throttle.specs.Clocks.{ClockTells, Passed}
 use Rattle.retry_throttle.specs.Sendings.{Rules, Delivery, Sends}
-use Rattle.retry_throttle.specs.Shippings.{Ships, all_tries, all_asked}
+use Rattle.retry_throttle.specs.Shippings.{Ships, all_tries, all_moments, all_rests}
 use Rattle.retry_throttle.specs.declared.sent.Sent.{Sent}
 use Rattle.retry_throttle.specs.declared.sent.Sent.TheVariants.{Done, GaveUp, Throttled}
 use Rattle.log_ship.specs.declared.tally.Tally.{Tally}
 
--- what a sender tells: its sink, the moments of its clock, and its bucket
+-- what a sender tells: its sink, its clock, and its bucket
 pub record Side : Type 0 where
   pub sink : SinkTells
-  pub given : Option (List ℕ)
+  pub clock : ClockTells
   pub bucket : Level
 
 -- one batch was sent
 abbrev pub SendsOne : Rules → Side → List Line → Sent → Side → Type 0
-SendsOne rules p lines end q = Sends rules lines p.bucket p.sink p.given end q.bucket q.sink q.given
+SendsOne rules p lines end q = Sends rules lines p.bucket p.sink p.clock end q.bucket q.sink q.clock
 
 -- these batches were sent, one after another, and this became of each
 abbrev pub Chain : Rules → Side → List (List Line) → List Sent → Side → Type 0
@@ -31,13 +32,13 @@ abbrev pub ends_of : List (Delivery × Sent) → List Sent
 ends_of [] = []
 ends_of (d ∷ ds) = d.1 ∷ ends_of ds
 
--- all of their posts: the sink's tries and the clock's moments are joined by theirs, in order
+-- all of their posts: the sink's tries are joined by theirs, and the clock gave their moments and rested as they say, in order
 pub record Posted (rules : Rules) (p : Side) (batches : List (List Line)) (ends : List Sent) (q : Side) : Type 0 where
   pub outcomes : List (Delivery × Sent)
   pub ends_are : ends_of outcomes ≡ ends
   pub ships : Ships rules p.sink.text p.bucket batches outcomes q.bucket
   pub tries : Joined p.sink.tries (all_tries outcomes) q.sink.tries
-  pub moments : Joined p.given (all_asked outcomes) q.given
+  pub clock : Passed p.clock (all_moments outcomes) (all_rests outcomes) q.clock
 
 -- ---- counts
 

@@ -1,3 +1,4 @@
 pub mod Chains
 pub mod Shipped
 pub mod Sides
+pub mod Texts

@@ -7,11 +7,15 @@
 #![tactic(auto)]
 
 mod end;
+mod laws;
 mod next;
+mod pass;
 mod send;
 mod ship;
 mod tally;
+mod texts;
 
 pub use end::ShipEnd;
+pub use laws::event_lines_are_shippable;
 pub use ship::{Shipment, ship_log};
 pub use tally::Tally;

@@ -4,12 +4,13 @@ ghost use Rattle.front_ports.specs.Cause.{Rose};
 ghost use Rattle.log_ship.specs.Shipped as spec;
 
 use crate::end::ShipEnd;
+use crate::texts::{LineFault, check_line};
 use front_ports::Source;
-use json_span::check;
 use log_lines::{LineBuffer, LineStop, ReadStop, next_line};
+use std::alloc::Global;
 
 // Why no line comes. `more` says whether bytes are held that are no line.
-fn end_of(stop: LineStop, spent: bool, more: bool) -> ShipEnd
+pub(crate) fn end_of(stop: LineStop, spent: bool, more: bool) -> ShipEnd
     ensures { result ≡ spec.end_of stop spent more }
 {
     match stop {
@@ -23,9 +24,10 @@ fn end_of(stop: LineStop, spent: bool, more: bool) -> ShipEnd
     }
 }
 
-/// Reads until a whole line is held that is a JSON text, and answers its length without its line feed. It stays held. `spent` says that no
+/// Reads until a whole line is held that can be shipped, and answers its length without its line feed. It stays held. `spent` says that no
 /// more may be read.
 pub fn next_text<S: Source>(
+    alloc: Global,
     input: &mut S,
     buffer: &mut LineBuffer,
     spent: bool,
@@ -44,8 +46,9 @@ pub fn next_text<S: Source>(
     if spent {
         return Err(ShipEnd::NumbersSpent);
     }
-    match check(&buffer.as_slice()[..length]) {
+    match check_line(alloc, &buffer.as_slice()[..length]) {
         Ok(()) => Ok(length),
-        Err(_) => Err(ShipEnd::NotJson),
+        Err(LineFault::NotShippable) => Err(ShipEnd::NotJson),
+        Err(LineFault::NoMemory) => Err(ShipEnd::NoMemory),
     }
 }

@@ -38,8 +38,8 @@ fn send_lines<B: BatchSink, K: Clock>(
 )
     requires some { 0 < length batch.old.lines }
     requires behind { (sender_bucket sender.old).last ≤ K.last (sender_clock sender.old) }
-    ensures sends { spec.SendsLines (sender_rules sender.old) (side_of B.tells K.given sender.old) batch.old.lines tally.old
-        (side_of B.tells K.given sender.new) tally.new }
+    ensures sends { spec.SendsLines (sender_rules sender.old) (side_of B.tells K.given K.last K.rests sender.old) batch.old.lines tally.old
+        (side_of B.tells K.given K.last K.rests sender.new) tally.new }
     ensures batch { batch.new ≡ record { limits = batch.old.limits; lines = [] } }
     ensures behind { (sender_bucket sender.new).last ≤ K.last (sender_clock sender.new) }
     ensures rules { sender_rules sender.new ≡ sender_rules sender.old }
@@ -58,8 +58,8 @@ pub fn send_rest<B: BatchSink, K: Clock>(
     tally: &mut Tally,
 )
     requires behind { (sender_bucket sender.old).last ≤ K.last (sender_clock sender.old) }
-    ensures sends { spec.SendsRest (sender_rules sender.old) (side_of B.tells K.given sender.old) batch.old.lines tally.old
-        (side_of B.tells K.given sender.new) tally.new }
+    ensures sends { spec.SendsRest (sender_rules sender.old) (side_of B.tells K.given K.last K.rests sender.old) batch.old.lines tally.old
+        (side_of B.tells K.given K.last K.rests sender.new) tally.new }
     ensures behind { (sender_bucket sender.new).last ≤ K.last (sender_clock sender.new) }
     ensures rules { sender_rules sender.new ≡ sender_rules sender.old }
 {
@@ -91,10 +91,10 @@ pub fn add_text<B: BatchSink, K: Clock>(
 ) -> Result<(), NoMemory>
     requires short { length text.now ≤ MOST_LINE_BYTES }
     requires behind { (sender_bucket sender.old).last ≤ K.last (sender_clock sender.old) }
-    ensures ok { OnOk result (spec.Adds (sender_rules sender.old) (side_of B.tells K.given sender.old) batch.old
-        (record { bay = 0; number = number; bytes = text.now }) tally.old (side_of B.tells K.given sender.new) batch.new tally.new) }
-    ensures err { OnErr result (spec.Stays (side_of B.tells K.given sender.old) batch.old tally.old
-        (side_of B.tells K.given sender.new) batch.new tally.new) }
+    ensures ok { OnOk result (spec.Adds (sender_rules sender.old) (side_of B.tells K.given K.last K.rests sender.old) batch.old
+        (record { bay = 0; number = number; bytes = text.now }) tally.old (side_of B.tells K.given K.last K.rests sender.new) batch.new tally.new) }
+    ensures err { OnErr result (spec.Stays (side_of B.tells K.given K.last K.rests sender.old) batch.old tally.old
+        (side_of B.tells K.given K.last K.rests sender.new) batch.new tally.new) }
     ensures behind { (sender_bucket sender.new).last ≤ K.last (sender_clock sender.new) }
     ensures rules { sender_rules sender.new ≡ sender_rules sender.old }
 {

@@ -2,8 +2,9 @@
 use Rattle.std.proofs.Common.{◌≡◌, ◌≤◌, ◌+◌, ◌-◌, ◌*◌, ◌/◌, ℕ, true, if◌then◌else◌, List, [], ◌∷◌, ◌++◌, refl, sym, ap, ◌∙◌, subst, append-nil, append_assoc}
 use Rattle.front_base.specs.Line.{Line}
 use Rattle.retry_throttle.specs.Buckets.{Level, full, gives, asked}
-use Rattle.retry_throttle.specs.Tokens.{tokens, IsRising, count_between}
-use Rattle.retry_throttle.specs.Sendings.{Rules, Refuses, Grants, Post, Delivery, IsPost, Fail, Delivers, moments_of, asked_at}
+use Rattle.retry_throttle.specs.Clocks.{IsRising}
+use Rattle.retry_throttle.specs.Tokens.{tokens, count_between}
+use Rattle.retry_throttle.specs.Sendings.{Rules, Refuses, Grants, Post, Delivery, IsPost, Fail, Delivers, asked_of, asked_at}
 use Rattle.retry_throttle.specs.Shippings.{Ships, all_asked, taken_at, all_taken}
 use Rattle.retry_throttle.specs.declared.bucket.TheConstants.{TOKEN}
 use Rattle.retry_throttle.specs.declared.sent.Sent.{Sent}
@@ -42,44 +43,42 @@ given b m n h g e = record {
   rises = λ ys r. (h, subst (λ z. IsRising z.last ys) e r);
 }
 
-granted : (rules : Rules) (b : Level) (ms : List ℕ) (m : ℕ) (n : Level) → Grants rules b ms m n → Gives b (ms ++ m ∷ []) (m ∷ []) n
-granted rules b ms m n g = join b g.between n ms (m ∷ []) [] (m ∷ []) (refused b ms g.between g.refuses) (given g.between m n g.later g.given g.asked_is)
+granted : (b : Level) (ms : List ℕ) (m : ℕ) (n : Level) → Grants b ms m n → Gives b (ms ++ m ∷ []) (m ∷ []) n
+granted b ms m n g = join b g.between n ms (m ∷ []) [] (m ∷ []) (refused b ms g.between g.refuses) (given g.between m n g.later g.given g.asked_is)
 
--- posts of a batch, whether they are done or not
-abbrev Posted : Rules → (List Line → List ℕ) → List Line → Level → List Post → Level → Type 0
-Posted rules text lines b [] n = n ≡ b
-Posted rules text lines b (p ∷ ps) n = (m : Level) × IsPost rules text lines b p m × Posted rules text lines m ps n
+-- the tokens of posts
+abbrev Posted : Level → List Post → Level → Type 0
+Posted b [] n = n ≡ b
+Posted b (p ∷ ps) n = (m : Level) × Grants b p.refused p.taken m × Posted m ps n
+
+then_posted : (b : Level) (ps : List Post) (m : Level) (p : Post) (n : Level) → Posted b ps m → Grants m p.refused p.taken n → Posted b (ps ++ p ∷ []) n
+then_posted b [] m p n f i = (n, subst (λ z. Grants z p.refused p.taken n) f i, refl)
+then_posted b (q ∷ ps) m p n f i = (f.0, f.1, then_posted f.0 ps m p n f.2 i)
+
+posted : (b : Level) (ps : List Post) (n : Level) → Posted b ps n → Gives b (asked_of ps) (taken_at ps) n
+posted b [] n f = none b n f
+posted b (p ∷ ps) n f =
+    join b f.0 n (p.refused ++ p.taken ∷ []) (asked_of ps) (p.taken ∷ []) (taken_at ps) (granted b p.refused p.taken f.0 f.1) (posted f.0 ps n f.2)
+
+ended : (b : Level) (d : Delivery) (n : Level) → d.refused ≡ [] → Posted b d.posts n → Gives b (asked_at d) (taken_at d.posts) n
+ended b d n e f =
+    subst (λ l. Gives b l (taken_at d.posts) n) (sym (append-nil (asked_of d.posts)) ∙ ap (λ l. asked_of d.posts ++ l) (sym e)) (posted b d.posts n f)
 
 module _ (rules : Rules) (text : List Line → List ℕ) (lines : List Line) where
-  failed : (b : Level) (ps : List Post) (n : Level) → Fail rules text lines b ps n → Posted rules text lines b ps n
-  failed b [] n f = f
-  failed b (p ∷ ps) n f = (f.0, f.1, failed f.0 ps n f.3)
-
-  then_done : (b : Level) (ps : List Post) (m : Level) (p : Post) (n : Level) → Fail rules text lines b ps m → IsPost rules text lines m p n
-      → Posted rules text lines b (ps ++ p ∷ []) n
-  then_done b [] m p n f i = (n, subst (λ z. IsPost rules text lines z p n) f i, refl)
-  then_done b (q ∷ ps) m p n f i = (f.0, f.1, then_done f.0 ps m p n f.3 i)
-
-  posted : (b : Level) (ps : List Post) (n : Level) → Posted rules text lines b ps n → Gives b (moments_of ps) (taken_at ps) n
-  posted b [] n f = none b n f
-  posted b (p ∷ ps) n f =
-      subst (λ l. Gives b l (p.taken ∷ taken_at ps) n) (append_assoc p.refused (p.taken ∷ []) (moments_of ps))
-      (join b f.0 n (p.refused ++ p.taken ∷ []) (moments_of ps) (p.taken ∷ []) (taken_at ps) (granted rules b p.refused p.taken f.0 f.1.grants) (posted f.0 ps n f.2))
-
-  ended : (b : Level) (d : Delivery) (n : Level) → d.refused ≡ [] → Posted rules text lines b d.posts n → Gives b (asked_at d) (taken_at d.posts) n
-  ended b d n e f =
-      subst (λ l. Gives b l (taken_at d.posts) n) (sym (append-nil (moments_of d.posts)) ∙ ap (λ l. moments_of d.posts ++ l) (sym e)) (posted b d.posts n f)
+  failed : (k : ℕ) (b : Level) (ps : List Post) (n : Level) → Fail rules text lines k b ps n → Posted b ps n
+  failed k b [] n f = f
+  failed k b (p ∷ ps) n f = (f.0, f.1.grants, failed (k + 1) f.0 ps n f.3)
 
   delivered : (b : Level) (d : Delivery) (end : Sent) (n : Level) → Delivers rules text lines b d end n → Gives b (asked_at d) (taken_at d.posts) n
   delivered b d (Done k) n f =
       let i = f.1 in
       ended b d n i.no_more
-      (subst (λ ps. Posted rules text lines b ps n) (sym i.posts_are) (then_done b i.failed i.between i.last n i.fail i.is_post))
-  delivered b d (GaveUp k fault) n f = ended b d n f.1.no_more (failed b d.posts n f.1.fail)
+      (subst (λ ps. Posted b ps n) (sym i.posts_are) (then_posted b i.failed i.between i.last n (failed 0 b i.failed i.between i.fail) i.is_post.grants))
+  delivered b d (GaveUp k fault) n f = ended b d n f.1.no_more (failed 0 b d.posts n f.1.fail)
   delivered b d (Throttled k) n f =
       let i = f.1 in
       subst (λ l. Gives b (asked_at d) l n) (append-nil (taken_at d.posts))
-      (join b i.between n (moments_of d.posts) d.refused (taken_at d.posts) [] (posted b d.posts i.between (failed b d.posts i.between i.fail))
+      (join b i.between n (asked_of d.posts) d.refused (taken_at d.posts) [] (posted b d.posts i.between (failed 0 b d.posts i.between i.fail))
       (refused i.between d.refused n i.throttles.refuses))
 
 shipped : (rules : Rules) (text : List Line → List ℕ) (b : Level) (batches : List (List Line)) (ds : List (Delivery × Sent)) (n : Level)

@@ -1,4 +1,7 @@
+mod ApartLemmas
+mod ClockLemmas
+mod GiveLemmas
+mod PauseLemmas
+mod PostLemmas
 mod TokenLemmas
 mod WaitLemmas
-mod PostLemmas
-mod GiveLemmas

@@ -10,10 +10,12 @@ use Rattle.truncate_backend.specs.declared.tries.SinkFault.TheVariants as faults
 use Rattle.truncate_backend.specs.declared.tries.TryAnswer.{TryAnswer}
 use Rattle.truncate_backend.specs.declared.tries.TryAnswer.TheVariants as answers
 use Rattle.retry_throttle.specs.Buckets.{Level}
-use Rattle.retry_throttle.specs.Sendings.{Rules, Post, IsPost, Fail, Delivery, Delivers, Sends, RoseFor, CountsPosts, Posts, Waited, tries_of, moments_of}
+use Rattle.retry_throttle.specs.Clocks.{ClockTells, Passed}
+use Rattle.retry_throttle.specs.Pauses.{Pauses, rests_in, wait_after}
+use Rattle.retry_throttle.specs.Sendings.{Rules, Post, IsPost, Fail, Delivery, Delivers, Sends, RoseFor, CountsPosts, Posts, Waited, tries_of, moments_in, moments_of, rests_of}
 use Rattle.retry_throttle.specs.declared.sent.Sent.{Sent}
 use Rattle.retry_throttle.specs.declared.sent.Sent.TheVariants.{Done, GaveUp, Throttled}
-use Rattle.retry_throttle.proofs.WaitLemmas.{joined_on, joined_none}
+use Rattle.retry_throttle.proofs.ClockLemmas.{joined_on, joined_none, passed_none, passed_on}
 
 -- ---- what posts add
 
@@ -21,15 +23,23 @@ tries_more : (ps : List Post) (p : Post) → tries_of (ps ++ p ∷ []) ≡ tries
 tries_more [] p = refl
 tries_more (q ∷ ps) p = ap (λ l. q.try ∷ l) (tries_more ps p)
 
-moments_more : (ps : List Post) (p : Post) → moments_of (ps ++ p ∷ []) ≡ moments_of ps ++ (p.refused ++ p.taken ∷ [])
-moments_more [] p = refl
-moments_more (q ∷ ps) p =
-    ap (λ l. q.refused ++ (q.taken ∷ l)) (moments_more ps p) ∙ sym (append_assoc q.refused (q.taken ∷ moments_of ps) (p.refused ++ p.taken ∷ []))
+moments_more : (ps : List Post) (p : Post) → moments_of (ps ++ p ∷ []) ≡ moments_of ps ++ moments_in p
+moments_more [] p = append-nil (moments_in p)
+moments_more (q ∷ ps) p = ap (λ l. moments_in q ++ l) (moments_more ps p) ∙ sym (append_assoc (moments_in q) (moments_of ps) (moments_in p))
 
-fail_more : (rules : Rules) (text : List Line → List ℕ) (lines : List Line) (b : Level) (ps : List Post) (m : Level) (p : Post) (n : Level)
-    → Fail rules text lines b ps m → IsPost rules text lines m p n → p.try.note.answer ≢ answers.Done → Fail rules text lines b (ps ++ p ∷ []) n
-fail_more rules text lines b [] m p n f i d = (n, subst (λ z. IsPost rules text lines z p n) f i, d, refl)
-fail_more rules text lines b (q ∷ ps) m p n f i d = (f.0, f.1, f.2, fail_more rules text lines f.0 ps m p n f.3 i d)
+rests_more : (ps : List Post) (p : Post) → rests_of (ps ++ p ∷ []) ≡ rests_of ps + (rests_in p.paused + length p.refused)
+rests_more [] p = omega arith
+rests_more (q ∷ ps) p = let h = rests_more ps p in omega (arith, h)
+
+fail_more : (rules : Rules) (text : List Line → List ℕ) (lines : List Line) (k : ℕ) (b : Level) (ps : List Post) (m : Level) (p : Post) (n : Level)
+    → Fail rules text lines k b ps m → IsPost rules text lines (k + length ps) m p n → p.try.note.answer ≢ answers.Done
+    → Fail rules text lines k b (ps ++ p ∷ []) n
+fail_more rules text lines k b [] m p n f i d =
+    let e : k + 0 ≡ k = omega arith in
+    (n, subst (λ j. IsPost rules text lines j b p n) e (subst (λ z. IsPost rules text lines (k + 0) z p n) f i), d, refl)
+fail_more rules text lines k b (q ∷ ps) m p n f i d =
+    let e : k + length (q ∷ ps) ≡ k + 1 + length ps = omega arith in
+    (f.0, f.1, f.2, fail_more rules text lines (k + 1) f.0 ps m p n f.3 (subst (λ j. IsPost rules text lines j m p n) e i) d)
 
 -- ---- counts
 
@@ -83,43 +93,51 @@ counts_more s t u ps p r e c k =
 -- ---- one post more
 
 -- the post that a try makes after a token
-abbrev pub post_of : List Line → List ℕ → ℕ → ℕ → Result ⊤ SinkFault → Post
-post_of lines refused taken sent r = record { refused = refused; taken = taken; try = try_of lines sent (answer_of r) }
+abbrev pub post_of : List Line → List ℕ → List ℕ → ℕ → ℕ → Result ⊤ SinkFault → Post
+post_of lines paused refused taken sent r =
+    record { paused = paused; refused = refused; taken = taken; try = try_of lines sent (answer_of r) }
 
-module _ (rules : Rules) (lines : List Line) (b : Level) (s : SinkTells) (given : Option (List ℕ)) where
-  pub posts_start : 0 < rules.tries → Posts rules lines b s given 0 b s given
+module _ (rules : Rules) (lines : List Line) (b : Level) (s : SinkTells) (c : ClockTells) where
+  pub posts_start : 0 < rules.tries → Posts rules lines b s c 0 b s c
   posts_start h = record {
     posts = [];
     fail = refl;
     count_is = refl;
     few = h;
     tries = joined_none s.tries;
-    moments = joined_none given;
+    clock = passed_none c;
     counts = counts_start s;
     text_is = refl;
   }
 
-  module _ (count : ℕ) (m : Level) (t : SinkTells) (g1 : Option (List ℕ)) (o : Posts rules lines b s given count m t g1) (n : Level) (g2 : Option (List ℕ)) where
-    pub throttled : Waited rules m g1 false n g2 → Sends rules lines b s given (Throttled count) n t g2
+  module _ (count : ℕ) (m : Level) (t : SinkTells) (d : ClockTells) (o : Posts rules lines b s c count m t d) (n : Level) (e : ClockTells) where
+    pub throttled : Waited (wait_after rules.wait count) m d false n e → Sends rules lines b s c (Throttled count) n t e
     throttled w = record {
-      delivery = record { posts = o.posts; refused = w.0 };
+      delivery = record { posts = o.posts; paused = w.0; refused = w.1 };
       delivers = (
         sym o.count_is,
-        record { between = m; fail = o.fail; throttles = w.1; few = subst (λ k. k < rules.tries) (sym o.count_is) o.few },
+        record {
+          between = m;
+          fail = o.fail;
+          pauses = subst (λ k. Pauses (wait_after rules.wait k) w.0) (sym o.count_is) w.2;
+          throttles = w.3;
+          few = subst (λ k. k < rules.tries) (sym o.count_is) o.few;
+        },
       );
       tries = o.tries;
-      moments = joined_on given g1 g2 (moments_of o.posts) w.0 o.moments w.2;
+      clock = passed_on c d e (moments_of o.posts) (w.0 ++ w.1) (rests_of o.posts) (rests_in w.0 + length w.1) o.clock w.4;
       counts = o.counts;
       text_is = o.text_is;
     }
 
-    module _ (w : Waited rules m g1 true n g2) (u : SinkTells) (r : Result ⊤ SinkFault) (tried : Tried t lines r u) where
+    module _ (w : Waited (wait_after rules.wait count) m d true n e) (u : SinkTells) (r : Result ⊤ SinkFault) (tried : Tried t lines r u) where
       abbrev post : Post
-      post = post_of lines w.0 w.1 tried.sent r
+      post = post_of lines w.0 w.1 w.2 tried.sent r
 
-      is_post : IsPost rules s.text lines m post n
+      is_post : IsPost rules s.text lines (length o.posts) m post n
       is_post = record {
-        grants = w.2;
+        pauses = subst (λ k. Pauses (wait_after rules.wait k) w.0) (sym o.count_is) w.3;
+        grants = w.4;
         lines_are = refl;
         noted = subst (λ z. IsNoted z post.try) o.text_is (record { lines = refl; sent = tried.is.whole });
       }
@@ -128,12 +146,18 @@ module _ (rules : Rules) (lines : List Line) (b : Level) (s : SinkTells) (given 
       posts_tries = subst (λ z. Joined s.tries z u.tries) (sym (tries_more o.posts post))
           (joined_on s.tries t.tries u.tries (tries_of o.posts) (post.try ∷ []) o.tries tried.is.tries)
 
-      posts_moments : Joined given (moments_of (o.posts ++ post ∷ [])) g2
-      posts_moments = subst (λ z. Joined given z g2) (sym (moments_more o.posts post))
-          (joined_on given g1 g2 (moments_of o.posts) (w.0 ++ w.1 ∷ []) o.moments w.3)
+      posts_clock : Passed c (moments_of (o.posts ++ post ∷ [])) (rests_of (o.posts ++ post ∷ [])) e
+      posts_clock =
+          subst (λ z. Passed c z (rests_of (o.posts ++ post ∷ [])) e) (sym (moments_more o.posts post))
+          (subst (λ k. Passed c (moments_of o.posts ++ moments_in post) k e) (sym (rests_more o.posts post))
+          (passed_on c d e (moments_of o.posts) (moments_in post) (rests_of o.posts) (rests_in w.0 + length w.1) o.clock w.5))
 
-      posts_asked : Joined given (moments_of (o.posts ++ post ∷ []) ++ []) g2
-      posts_asked = subst (λ z. Joined given z g2) (sym (append-nil (moments_of (o.posts ++ post ∷ [])))) posts_moments
+      -- no wait and no asking after them
+      posts_end : Passed c (moments_of (o.posts ++ post ∷ []) ++ []) (rests_of (o.posts ++ post ∷ []) + 0) e
+      posts_end =
+          subst (λ z. Passed c z (rests_of (o.posts ++ post ∷ []) + 0) e) (sym (append-nil (moments_of (o.posts ++ post ∷ []))))
+          (subst (λ k. Passed c (moments_of (o.posts ++ post ∷ [])) k e) (let k : rests_of (o.posts ++ post ∷ []) ≡ rests_of (o.posts ++ post ∷ []) + 0 = omega arith in k)
+          posts_clock)
 
       posts_counts : CountsPosts s u (o.posts ++ post ∷ [])
       posts_counts = counts_more s t u o.posts post r refl o.counts tried.is.counts
@@ -141,11 +165,12 @@ module _ (rules : Rules) (lines : List Line) (b : Level) (s : SinkTells) (given 
       posts_count : length (o.posts ++ post ∷ []) ≡ count + 1
       posts_count = length-append o.posts (post ∷ []) ∙ ap (λ k. k + 1) o.count_is
 
-    pub delivered : (w : Waited rules m g1 true n g2) (u : SinkTells) → Tried t lines (Ok tt) u → Sends rules lines b s given (Done (count + 1)) n u g2
+    pub delivered : (w : Waited (wait_after rules.wait count) m d true n e) (u : SinkTells) → Tried t lines (Ok tt) u
+        → Sends rules lines b s c (Done (count + 1)) n u e
     delivered w u tried =
         let p = post w u (Ok tt) tried in
         record {
-          delivery = record { posts = o.posts ++ p ∷ []; refused = [] };
+          delivery = record { posts = o.posts ++ p ∷ []; paused = []; refused = [] };
           delivers = (
             sym (posts_count w u (Ok tt) tried),
             record {
@@ -156,54 +181,61 @@ module _ (rules : Rules) (lines : List Line) (b : Level) (s : SinkTells) (given 
               fail = o.fail;
               is_post = is_post w u (Ok tt) tried;
               done = refl;
+              no_wait = refl;
               no_more = refl;
               few = let f = o.few in omega (arith, posts_count w u (Ok tt) tried, f);
             },
           );
           tries = posts_tries w u (Ok tt) tried;
-          moments = posts_asked w u (Ok tt) tried;
+          clock = posts_end w u (Ok tt) tried;
           counts = posts_counts w u (Ok tt) tried;
           text_is = tried.is.text_is ∙ o.text_is;
         }
 
-    pub given_up : (w : Waited rules m g1 true n g2) (u : SinkTells) (fault : SinkFault) → Tried t lines (Err fault) u → count + 1 ≡ rules.tries
-        → Sends rules lines b s given (GaveUp (count + 1) fault) n u g2
-    given_up w u fault tried all =
-        let p = post w u (Err fault) tried in
-        record {
-          delivery = record { posts = o.posts ++ p ∷ []; refused = [] };
-          delivers = (
-            sym (posts_count w u (Err fault) tried),
-            record {
-              failed = o.posts;
-              last = p;
-              posts_are = refl;
-              fail = fail_more rules s.text lines b o.posts m p n o.fail (is_post w u (Err fault) tried) (not_done fault);
-              fault_is = refl;
-              no_more = refl;
-              all = posts_count w u (Err fault) tried ∙ all;
-            },
-          );
-          tries = posts_tries w u (Err fault) tried;
-          moments = posts_asked w u (Err fault) tried;
-          counts = posts_counts w u (Err fault) tried;
-          text_is = tried.is.text_is ∙ o.text_is;
-        }
+    module _ (w : Waited (wait_after rules.wait count) m d true n e) (u : SinkTells) (fault : SinkFault) (tried : Tried t lines (Err fault) u) where
+      failed_on : Fail rules s.text lines 0 b (o.posts ++ post w u (Err fault) tried ∷ []) n
+      failed_on =
+          let k : length o.posts ≡ 0 + length o.posts = omega arith in
+          fail_more rules s.text lines 0 b o.posts m (post w u (Err fault) tried) n o.fail
+          (subst (λ j. IsPost rules s.text lines j m (post w u (Err fault) tried) n) k (is_post w u (Err fault) tried)) (not_done fault)
 
-    pub posts_more : (w : Waited rules m g1 true n g2) (u : SinkTells) (fault : SinkFault) → Tried t lines (Err fault) u → count + 1 < rules.tries
-        → Posts rules lines b s given (count + 1) n u g2
-    posts_more w u fault tried few =
-        let p = post w u (Err fault) tried in
-        record {
-          posts = o.posts ++ p ∷ [];
-          fail = fail_more rules s.text lines b o.posts m p n o.fail (is_post w u (Err fault) tried) (not_done fault);
-          count_is = posts_count w u (Err fault) tried;
-          few = few;
-          tries = posts_tries w u (Err fault) tried;
-          moments = posts_moments w u (Err fault) tried;
-          counts = posts_counts w u (Err fault) tried;
-          text_is = tried.is.text_is ∙ o.text_is;
-        }
+      pub given_up : count + 1 ≡ rules.tries → Sends rules lines b s c (GaveUp (count + 1) fault) n u e
+      given_up all =
+          let p = post w u (Err fault) tried in
+          record {
+            delivery = record { posts = o.posts ++ p ∷ []; paused = []; refused = [] };
+            delivers = (
+              sym (posts_count w u (Err fault) tried),
+              record {
+                failed = o.posts;
+                last = p;
+                posts_are = refl;
+                fail = failed_on;
+                fault_is = refl;
+                no_wait = refl;
+                no_more = refl;
+                all = posts_count w u (Err fault) tried ∙ all;
+              },
+            );
+            tries = posts_tries w u (Err fault) tried;
+            clock = posts_end w u (Err fault) tried;
+            counts = posts_counts w u (Err fault) tried;
+            text_is = tried.is.text_is ∙ o.text_is;
+          }
+
+      pub posts_more : count + 1 < rules.tries → Posts rules lines b s c (count + 1) n u e
+      posts_more few =
+          let p = post w u (Err fault) tried in
+          record {
+            posts = o.posts ++ p ∷ [];
+            fail = failed_on;
+            count_is = posts_count w u (Err fault) tried;
+            few = few;
+            tries = posts_tries w u (Err fault) tried;
+            clock = posts_clock w u (Err fault) tried;
+            counts = posts_counts w u (Err fault) tried;
+            text_is = tried.is.text_is ∙ o.text_is;
+          }
 
 -- ---- how many posts
 

@@ -4,7 +4,8 @@ use Rattle.std.proofs.Math.Nat.{mul-add, mul-le-mul_left}
 use Rattle.std.proofs.lemmas.Bool.Decides.{nat_tests}
 use Rattle.std.proofs.lemmas.Bool.{cases_lt}
 use Rattle.retry_throttle.specs.Buckets.{Level, full, level_at, gives, asked}
-use Rattle.retry_throttle.specs.Tokens.{tokens, IsRising, count_between}
+use Rattle.retry_throttle.specs.Clocks.{IsRising}
+use Rattle.retry_throttle.specs.Tokens.{tokens, count_between}
 use Rattle.retry_throttle.specs.declared.bucket.TheConstants.{TOKEN}
 
 -- what is gained from one moment to another, and on to a third

@@ -1,29 +1,11 @@
 -- The askings before one post.
-use Rattle.std.proofs.Common.{◌≡◌, ◌<◌, ◌≤◌, ◌+◌, ℕ, true, false, List, [], ◌∷◌, ◌++◌, Option, Some, None, refl, sym, ap, ◌∙◌, subst, append-nil, append_assoc, length-append}
-use Rattle.front_ports.specs.Told.{Grows}
-use Rattle.truncate_backend.specs.Told.{Joined}
+use Rattle.std.proofs.Common.{◌≡◌, ◌<◌, ◌≤◌, ◌+◌, ℕ, Bool, true, false, List, [], ◌∷◌, ◌++◌, length, refl, sym, ap, ◌∙◌, subst, arith, length-append}
 use Rattle.retry_throttle.specs.Buckets.{Level, gives, asked}
-use Rattle.retry_throttle.specs.Sendings.{Rules, Refuses, Waited, Waits}
-
--- ---- lists that are told, over calls one after another
-
-grows_on : {T : Type 0} (a b c : Option (List T)) (xs ys : List T) → Grows a b xs → Grows b c ys → Grows a c (xs ++ ys)
-grows_on None None c xs ys p q = q
-grows_on None (Some b) c xs ys p q = cc p
-grows_on (Some a) None None xs ys p q = tt
-grows_on (Some a) None (Some c) xs ys p q = cc q
-grows_on (Some a) (Some b) None xs ys p q = tt
-grows_on (Some a) (Some b) (Some c) xs ys p q = q ∙ (ap (λ l. l ++ ys) p ∙ append_assoc a xs ys)
-
-pub joined_on : {T : Type 0} (a b c : Option (List T)) (xs ys : List T) → Joined a xs b → Joined b ys c → Joined a (xs ++ ys) c
-joined_on a b c xs ys p q = record { grows = grows_on a b c xs ys p.grows q.grows }
-
-grows_none : {T : Type 0} (a : Option (List T)) → Grows a a []
-grows_none None = refl
-grows_none (Some a) = sym (append-nil a)
-
-pub joined_none : {T : Type 0} (a : Option (List T)) → Joined a [] a
-joined_none a = record { grows = grows_none a }
+use Rattle.retry_throttle.specs.Clocks.{ClockTells, Passed}
+use Rattle.retry_throttle.specs.Pauses.{rests_in}
+use Rattle.retry_throttle.specs.Sendings.{Asked, Paused, Refuses, Waited, Waits}
+use Rattle.retry_throttle.specs.declared.pause.TheConstants.{MOST_RESTS}
+use Rattle.retry_throttle.proofs.ClockLemmas.{passed_none, passed_on}
 
 -- ---- askings that gave no token
 
@@ -33,41 +15,54 @@ refuses_more b [] n m r h g =
     (subst (λ z. z.last ≤ m) r h, subst (λ z. gives z m ≡ false) r g, ap (λ z. asked z m) r)
 refuses_more b (k ∷ ks) n m r h g = (r.0, r.1, refuses_more (asked b k) ks n m r.2 h g)
 
-module _ (rules : Rules) (b : Level) (given : Option (List ℕ)) where
-  pub waits_start : 0 < rules.rests → Waits rules b given 0 b given
-  waits_start h = record { refused = []; refuses = refl; count_is = refl; few = h; moments = joined_none given }
+module _ (b : Level) (c : ClockTells) where
+  pub waits_start : Waits b c 0 b c
+  waits_start = record { refused = []; refuses = refl; count_is = refl; few = omega arith; passed = passed_none c }
 
-  module _ (count : ℕ) (n : Level) (g1 g2 g3 : Option (List ℕ)) (m : ℕ) (w : Waits rules b given count n g1) (h : n.last ≤ m) (j : Joined g1 (m ∷ []) g2) where
-    pub waits_more : gives n m ≡ false → g3 ≡ g2 → count + 1 < rules.rests → Waits rules b given (count + 1) (asked n m) g3
-    waits_more g e few = record {
+  module _ (count : ℕ) (n : Level) (d e : ClockTells) (m : ℕ) (w : Waits b c count n d) (h : n.last ≤ m) (p : Passed d (m ∷ []) 0 e) where
+    one_more : length (w.refused ++ m ∷ []) ≡ count + 1
+    one_more = length-append w.refused (m ∷ []) ∙ ap (λ k. k + 1) w.count_is
+
+    rested_on : (f : ClockTells) → Passed e [] 1 f → Passed c (w.refused ++ m ∷ []) (length (w.refused ++ m ∷ [])) f
+    rested_on f r =
+        subst (λ k. Passed c (w.refused ++ m ∷ []) k f) (sym (length-append w.refused (m ∷ [])))
+        (passed_on c d f w.refused (m ∷ []) (length w.refused) 1 w.passed (passed_on d e f (m ∷ []) [] 0 1 p r))
+
+    pub waits_more : (f : ClockTells) → Passed e [] 1 f → gives n m ≡ false → count + 1 < MOST_RESTS → Waits b c (count + 1) (asked n m) f
+    waits_more f r g few = record {
       refused = w.refused ++ m ∷ [];
       refuses = refuses_more b w.refused n m w.refuses h g;
-      count_is = length-append w.refused (m ∷ []) ∙ ap (λ k. k + 1) w.count_is;
+      count_is = one_more;
       few = few;
-      moments = subst (λ z. Joined given (w.refused ++ m ∷ []) z) (sym e) (joined_on given g1 g2 w.refused (m ∷ []) w.moments j);
+      passed = rested_on f r;
     }
 
-    pub waits_out : gives n m ≡ false → g3 ≡ g2 → count + 1 ≡ rules.rests → Waited rules b given false (asked n m) g3
-    waits_out g e all = (
+    pub waits_out : (f : ClockTells) → Passed e [] 1 f → gives n m ≡ false → count + 1 ≡ MOST_RESTS → Asked b c false (asked n m) f
+    waits_out f r g all = (
       w.refused ++ m ∷ [],
-      record {
-        refuses = refuses_more b w.refused n m w.refuses h g;
-        all = length-append w.refused (m ∷ []) ∙ (ap (λ k. k + 1) w.count_is ∙ all);
-      },
-      subst (λ z. Joined given (w.refused ++ m ∷ []) z) (sym e) (joined_on given g1 g2 w.refused (m ∷ []) w.moments j),
+      record { refuses = refuses_more b w.refused n m w.refuses h g; all = one_more ∙ all },
+      rested_on f r,
     )
 
-    pub waits_granted : gives n m ≡ true → Waited rules b given true (asked n m) g2
+    pub waits_granted : gives n m ≡ true → Asked b c true (asked n m) e
     waits_granted g = (
       w.refused,
       m,
       record {
         between = n;
         refuses = w.refuses;
-        few = subst (λ k. k < rules.rests) (sym w.count_is) w.few;
+        few = subst (λ k. k < MOST_RESTS) (sym w.count_is) w.few;
         later = h;
         given = g;
         asked_is = refl;
       },
-      joined_on given g1 g2 w.refused (m ∷ []) w.moments j,
+      subst (λ k. Passed c (w.refused ++ m ∷ []) k e) (let k : length w.refused + 0 ≡ length w.refused = omega arith in k)
+          (passed_on c d e w.refused (m ∷ []) (length w.refused) 0 w.passed p),
     )
+
+-- ---- after a wait
+
+pub after_pause : (wait : ℕ) (b : Level) (c d e : ClockTells) (given : Bool) (n : Level) → Paused wait c d → Asked b d given n e → Waited wait b c given n e
+after_pause wait b c d e true n p a =
+    (p.0, a.0, a.1, p.1, a.2, passed_on c d e p.0 (a.0 ++ a.1 ∷ []) (rests_in p.0) (length a.0) p.2 a.3)
+after_pause wait b c d e false n p a = (p.0, a.0, p.1, a.1, passed_on c d e p.0 a.0 (rests_in p.0) (length a.0) p.2 a.2)

@@ -1,5 +1,8 @@
+pub mod Apart
 pub mod Buckets
-pub mod Tokens
-pub mod Senders
+pub mod Clocks
+pub mod Pauses
 pub mod Sendings
+pub mod Senders
 pub mod Shippings
+pub mod Tokens

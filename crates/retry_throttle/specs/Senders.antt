@@ -14,4 +14,4 @@ module _ {B K : Type 0} where
   sender_bucket sender = sender.bucket
 
   abbrev pub sender_rules : Sender B K → Rules
-  sender_rules sender = record { tries = sender.tries; rests = sender.rests }
+  sender_rules sender = record { tries = sender.tries; wait = sender.wait }

@@ -1,16 +1,11 @@
 -- The moments at which a bucket gives a token.
-use Rattle.std.specs.Prelude.{◌≤◌, ◌+◌, ℕ, List, [], ◌∷◌, ⊤, nat_le, ◌&&◌, if◌then◌else◌}
+use Rattle.std.specs.Prelude.{◌+◌, ℕ, List, [], ◌∷◌, nat_le, ◌&&◌, if◌then◌else◌}
 use Rattle.retry_throttle.specs.Buckets.{Level, gives, asked}
 
 -- those of these at which it gives one, when it is asked at each of them
 abbrev pub tokens : Level → List ℕ → List ℕ
 tokens b [] = []
 tokens b (m ∷ ms) = (if gives b m then m ∷ tokens (asked b m) ms else tokens (asked b m) ms)
-
--- none of them is before the one before it
-abbrev pub IsRising : ℕ → List ℕ → Type 0
-IsRising last [] = ⊤
-IsRising last (m ∷ ms) = (last ≤ m) × IsRising m ms
 
 -- how many of them are from one moment to another
 abbrev pub count_between : ℕ → ℕ → List ℕ → ℕ

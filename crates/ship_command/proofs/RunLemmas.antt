@@ -13,7 +13,8 @@ use Rattle.refusal_text.specs.declared.refusal.Refusal.{Refusal}
 use Rattle.ship_command.specs.Ended.{Left, EndsSo, TellsShip, status_for, status_of_ship, why_of}
 use Rattle.ship_command.specs.Run.{Refuses, RunsOver}
 use Rattle.ship_command.proofs.EndLemmas.{due, ends_so, failed_in}
-use Rattle.ship_summary.specs.Paces.{setup_of, told_by}
+use Rattle.retry_throttle.specs.Clocks.{ClockTells}
+use Rattle.ship_summary.specs.Paces.{before_of, setup_of, told_by}
 use Rattle.ship_summary.specs.Runs.{Ships}
 use Rattle.ship_summary.specs.Summaries.{Sums}
 use Rattle.ship_summary.specs.declared.summary.Summed.{Summed}
@@ -33,30 +34,30 @@ grows_on (Some a) (Some b) None xs ys p q = tt
 grows_on (Some a) (Some b) (Some c) xs ys p q = q ∙ (ap (λ l. l ++ ys) p ∙ append_assoc a xs ys)
 
 module _ {C : Type 0} (told : ShipWords) (opens : Openings) (m n : PlantTells C) (input output : Port) (left : Left) where
-  pub shipped_so : (k : PlantTells C) (sink0 : SinkTells) (given0 : Option (List ℕ)) (shipment : Shipment) (summed : Summed) (sink : SinkTells)
-      (given : Option (List ℕ)) → Called m (calls.Hook told.url ∷ []) k → k.faults ≡ m.faults → Called k (calls.Clock ∷ []) n → n.faults ≡ k.faults
-      → IsNewSink (hook_opens opens told.url) sink0 → IfSome given0 (λ moments. moments ≡ [])
-      → Ships told.pace (told_by sink0 given0) input.before.told input.after.told (HasFailed input) shipment (told_by sink given)
+  pub shipped_so : (k : PlantTells C) (sink0 : SinkTells) (clock0 : ClockTells) (shipment : Shipment) (summed : Summed) (sink : SinkTells)
+      (clock : ClockTells) → Called m (calls.Hook told.url ∷ []) k → k.faults ≡ m.faults → Called k (calls.Clock ∷ []) n → n.faults ≡ k.faults
+      → IsNewSink (hook_opens opens told.url) sink0 → IfSome clock0.given (λ moments. moments ≡ [])
+      → Ships told.pace (told_by sink0 clock0) input.before.told input.after.told (HasFailed input) shipment (told_by sink clock)
       → Sums shipment output.before.told output.after.told output.before.faults output.after.faults summed
       → KeepsCount input.before.faults input.after.faults shipment.end
-      → left.status ≡ status_for shipment.end summed → left.why ≡ why_of left.status → left.shipment ≡ Some shipment
-      → left.sink ≡ Some sink → left.given ≡ Some given → RunsOver told opens m n input output left
-  shipped_so k sink0 given0 shipment summed sink given hooked hook_sound clocked clock_sound new_sink no_moment ships sums keeps status why shipment_is
+      → left.status ≡ status_for shipment.end summed shipment.tally.lost → left.why ≡ why_of left.status → left.shipment ≡ Some shipment
+      → left.sink ≡ Some sink → left.clock ≡ Some clock → RunsOver told opens m n input output left
+  shipped_so k sink0 clock0 shipment summed sink clock hooked hook_sound clocked clock_sound new_sink no_moment ships sums keeps status why shipment_is
       sink_is clock_is = inr (record {
         called = record {
           made = record { grows = grows_on m.made k.made n.made (calls.Hook told.url ∷ []) (calls.Clock ∷ []) hooked.made.grows clocked.made.grows };
           due = clocked.due ∙ hooked.due;
         };
         none_failed = clock_sound ∙ hook_sound;
-        opened = told_by sink0 given0;
+        opened = told_by sink0 clock0;
         new_sink = new_sink;
         no_moment = no_moment;
         shipment = shipment;
-        new = told_by sink given;
+        new = told_by sink clock;
         ships = ships;
         ends = subst (λ (s : Status). EndsSo shipment input output s) (sym status)
             (ends_so shipment summed input output sums keeps
-            (failed_in (setup_of told.pace) ships.start input.before.told input.after.told (HasFailed input) shipment.lines shipment.tally shipment.end
+            (failed_in (setup_of told.pace) (before_of told.pace) ships.start input.before.told input.after.told (HasFailed input) shipment.passed shipment.lines shipment.tally shipment.end
             ships.stop ships.ships));
         why_is = why;
         shipment_is = shipment_is;

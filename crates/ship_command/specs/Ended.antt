@@ -1,5 +1,5 @@
 -- How a run of `ship` ends.
-use Rattle.std.specs.Prelude.{◌≡◌, ◌⊎◌, ℕ, List, Option, Some, None, option_map}
+use Rattle.std.specs.Prelude.{◌≡◌, ◌<◌, ◌⊎◌, ℕ, nat_eq, if◌then◌else◌, List, Option, Some, None, option_map}
 use Rattle.std.specs.Io.KnownBytes.{Appends}
 use Rattle.front_ports.specs.Written.{AppendsFront}
 use Rattle.front_plants.specs.declared.call.PlantFail.{PlantFail}
@@ -10,10 +10,11 @@ use Rattle.log_ship.specs.declared.ship.Shipment.{Shipment}
 use Rattle.command_ends.specs.Ports.{HasFailed, IsSound, IsUntouched, Port}
 use Rattle.command_ends.specs.Why.{TellsWords, status_of_words}
 use Rattle.command_ends.specs.declared.status.Status.{Status}
-use Rattle.command_ends.specs.declared.status.Status.TheVariants.{Done, Configuration, Log, ReadFault, PortFault, NoMemory, WriteFault, NumbersSpent}
+use Rattle.command_ends.specs.declared.status.Status.TheVariants.{Done, Configuration, Log, ReadFault, PortFault, NoMemory, NotDelivered, WriteFault, NumbersSpent}
 use Rattle.refusal_text.specs.declared.refusal.Refusal.{Refusal}
 use Rattle.refusal_text.specs.declared.refusal.Refusal.TheVariants as refusal
 use Rattle.ship_command.specs.declared.ended.Shipped.{Shipped}
+use Rattle.retry_throttle.specs.Clocks.{ClockTells}
 use Rattle.ship_summary.specs.Summaries.{summary_of}
 use Rattle.ship_summary.specs.declared.summary.Summed.{Summed}
 use Rattle.ship_summary.specs.declared.summary.Summed.TheVariants as summed_case
@@ -27,15 +28,15 @@ pub record Left : Type 0 where
   pub why : Option Refusal
   pub shipment : Option Shipment
   pub sink : Option SinkTells
-  pub given : Option (Option (List ℕ))
+  pub clock : Option ClockTells
 
-abbrev pub left_by : {H K : Type 0} → (H → SinkTells) → (K → Option (List ℕ)) → Shipped H K → Left
-left_by tells given shipped = record {
+abbrev pub left_by : {H K : Type 0} → (H → SinkTells) → (K → ClockTells) → Shipped H K → Left
+left_by tells clock shipped = record {
   status = shipped.status;
   why = shipped.why;
   shipment = shipped.shipment;
   sink = option_map tells shipped.sink;
-  given = option_map given shipped.clock;
+  clock = option_map clock shipped.clock;
 }
 
 -- ---- once lines were shipped
@@ -49,12 +50,12 @@ status_of end_case.ReadFault = ReadFault
 status_of end_case.NumbersSpent = NumbersSpent
 status_of end_case.NoMemory = NoMemory
 
--- the same once the summary is written, or can't be
-abbrev pub status_for : ShipEnd → Summed → Status
-status_for end summed_case.Written = Done
-status_for end summed_case.NotDue = status_of end
-status_for end summed_case.WriteFault = WriteFault
-status_for end summed_case.NoMemory = NoMemory
+-- the same once the summary is written, or can't be, and so many lines are lost
+abbrev pub status_for : ShipEnd → Summed → ℕ → Status
+status_for end summed_case.Written lost = (if nat_eq lost 0 then Done else NotDelivered)
+status_for end summed_case.NotDue lost = status_of end
+status_for end summed_case.WriteFault lost = WriteFault
+status_for end summed_case.NoMemory lost = NoMemory
 
 -- the input or the output that failed
 abbrev pub why_of : Status → Option Refusal
@@ -62,11 +63,16 @@ why_of ReadFault = Some refusal.Input
 why_of WriteFault = Some refusal.Output
 why_of _ = None
 
--- what each status says, the others being none that such a run has: the summary is written where the input's end was reached, and nothing
--- else is
-abbrev pub EndsSo : Shipment → Port → Port → Status → Type 0
-EndsSo s input output Done =
+-- the input's end was reached, and the summary is written
+abbrev pub IsSummedUp : Shipment → Port → Port → Type 0
+IsSummedUp s input output =
     (s.end ≡ end_case.Done) × IsSound input × Appends output.before.told output.after.told (summary_of s) × IsSound output
+
+-- what each status says, the others being none that such a run has: the summary is written where the input's end was reached, and nothing
+-- else is. Where lines are lost the status isn't that of an input whose lines are all posted
+abbrev pub EndsSo : Shipment → Port → Port → Status → Type 0
+EndsSo s input output Done = (s.tally.lost ≡ 0) × IsSummedUp s input output
+EndsSo s input output NotDelivered = (0 < s.tally.lost) × IsSummedUp s input output
 EndsSo s input output Log = (status_of s.end ≡ Log) × IsSound input × IsUntouched output
 EndsSo s input output ReadFault = (s.end ≡ end_case.ReadFault) × HasFailed input × IsUntouched output
 EndsSo s input output NumbersSpent = (s.end ≡ end_case.NumbersSpent) × IsSound input × IsUntouched output

@@ -23,7 +23,7 @@ use Rattle.ship_words.specs.declared.ship.ShipWords.{ShipWords}
 pub record EndsEarly (input output : Port) (left : Left) : Type 0 where
   pub no_lines : left.shipment ≡ None
   pub no_sink : left.sink ≡ None
-  pub no_clock : left.given ≡ None
+  pub no_clock : left.clock ≡ None
   pub unread : IsUntouched input
   pub unwritten : IsUntouched output
 
@@ -66,7 +66,7 @@ module _ {C : Type 0} where
     pub none_failed : n.faults ≡ m.faults
     pub opened : Told
     pub new_sink : IsNewSink (hook_opens opens told.url) opened.sink
-    pub no_moment : IfSome opened.given (λ moments. moments ≡ [])
+    pub no_moment : IfSome opened.clock.given (λ moments. moments ≡ [])
     pub shipment : Shipment
     pub new : Told
     pub ships : Ships told.pace opened input.before.told input.after.told (HasFailed input) shipment new
@@ -74,7 +74,7 @@ module _ {C : Type 0} where
     pub why_is : left.why ≡ why_of left.status
     pub shipment_is : left.shipment ≡ Some shipment
     pub sink_is : left.sink ≡ Some new.sink
-    pub clock_is : left.given ≡ Some new.given
+    pub clock_is : left.clock ≡ Some new.clock
 
   abbrev pub RunsOver : ShipWords → Openings → PlantTells C → PlantTells C → Port → Port → Left → Type 0
   RunsOver told opens m n input output left =

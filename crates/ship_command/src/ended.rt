@@ -34,12 +34,13 @@ pub fn status_of(end: ShipEnd) -> Status
     }
 }
 
-/// The same once the summary is written, or can't be.
-pub fn status_for(end: ShipEnd, summed: Summed) -> Status
-    ensures { result ≡ spec.status_for end summed }
+/// The same once the summary is written, or can't be, and so many lines are lost.
+pub fn status_for(end: ShipEnd, summed: Summed, lost: u64) -> Status
+    ensures { result ≡ spec.status_for end summed lost }
 {
     match summed {
-        Summed::Written => Status::Done,
+        Summed::Written if lost == 0 => Status::Done,
+        Summed::Written => Status::NotDelivered,
         Summed::NotDue => status_of(end),
         Summed::WriteFault => Status::WriteFault,
         Summed::NoMemory => Status::NoMemory,

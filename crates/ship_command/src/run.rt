@@ -1,5 +1,6 @@
 ghost use Rattle.std.specs.Prelude.{◌≡◌, ◌≤◌, None, Some, map, string_bytes};
 ghost use Rattle.command_ends.specs.Ports.{port};
+ghost use Rattle.retry_throttle.specs.Clocks.{clock_tells};
 ghost use Rattle.ship_command.specs.Ended.{TellsShip, left_by, status_of_fail, status_of_ship};
 ghost use Rattle.ship_command.specs.Ended as ended;
 ghost use Rattle.ship_command.specs.Run as spec;
@@ -49,7 +50,7 @@ fn not_opened<H, K>(fail: PlantFail) -> Shipped<H, K>
 
 // An end once lines were shipped.
 fn shipped<H, K>(ship_ended: ShipEnded<H, K>) -> Shipped<H, K>
-    ensures status { result.status ≡ ended.status_for ship_ended.shipment.end ship_ended.summed }
+    ensures status { result.status ≡ ended.status_for ship_ended.shipment.end ship_ended.summed ship_ended.shipment.tally.lost }
     ensures why { result.why ≡ ended.why_of result.status }
     ensures parts { (result.shipment ≡ Some ship_ended.shipment) × (result.sink ≡ Some ship_ended.sink) × (result.clock ≡ Some ship_ended.clock) }
 {
@@ -59,7 +60,7 @@ fn shipped<H, K>(ship_ended: ShipEnded<H, K>) -> Shipped<H, K>
         sink,
         clock,
     } = ship_ended;
-    let status = status_for(shipment.end, summed);
+    let status = status_for(shipment.end, summed, shipment.tally.lost);
     Shipped {
         status,
         why: why_of(status),
@@ -81,7 +82,7 @@ fn ship_over<P: Plant, S: Source, O: ByteSink>(
     ensures over { spec.RunsOver told.now P.opens (P.tells plant.old) (P.tells plant.new)
         (port (S.left input.old) (S.read_faults input.old) (S.left input.new) (S.read_faults input.new))
         (port (O.written out.old) (O.write_faults out.old) (O.written out.new) (O.write_faults out.new))
-        (left_by P.H.tells P.K.given result) }
+        (left_by P.H.tells (clock_tells P.K.given P.K.last P.K.rests) result) }
     ensures read_later { S.read_faults input.old ≤ S.read_faults input.new }
     ensures write_later { O.write_faults out.old ≤ O.write_faults out.new }
 {
@@ -96,9 +97,10 @@ fn ship_over<P: Plant, S: Source, O: ByteSink>(
 /// The command `ship`: reads a log, and posts its lines to the webhook that the words name.
 ///
 /// It takes its webhook by one `hook` and its clock by one `clock`, before it reads, and calls the plant no more. The status is `Done` where the
-/// end of the input was reached, whether or not lines were lost: then it wrote how many lines there are, how many are posted and how many lost,
-/// and how often it posted. It is `Log` where a line is no JSON text, has more than 4194304 bytes or no line feed, and `NumbersSpent` where more
-/// than 2^48 lines come; the lines before are shipped first. `PortFault` is that of a webhook that could not be opened, and `Usage`,
+/// end of the input was reached and each line from `--from-line` on was posted, and `NotDelivered` where some of them were lost: then it wrote how
+/// many of these lines there are, how many are posted and how many lost, and how often it posted. It is `Log` where one of them is neither a JSON
+/// text nor the line of an audit event, or a line has more than 4194304 bytes or no line feed, and `NumbersSpent` where more than 2^48 of them
+/// come; the lines before are sent first, and may be lost. `PortFault` is that of a webhook that could not be opened, and `Usage`,
 /// `Configuration`, `ReadFault`, `WriteFault` and `NoMemory` are those of `check`.
 pub fn run_ship<P: Plant, S: Source, O: ByteSink>(
     alloc: Global,
@@ -110,7 +112,7 @@ pub fn run_ship<P: Plant, S: Source, O: ByteSink>(
     ensures run { spec.Run (map string_bytes words.now.items) P.opens (P.tells plant.old) (P.tells plant.new)
         (port (S.left input.old) (S.read_faults input.old) (S.left input.new) (S.read_faults input.new))
         (port (O.written out.old) (O.write_faults out.old) (O.written out.new) (O.write_faults out.new))
-        (left_by P.H.tells P.K.given result) }
+        (left_by P.H.tells (clock_tells P.K.given P.K.last P.K.rests) result) }
     ensures read_later { S.read_faults input.old ≤ S.read_faults input.new }
     ensures write_later { O.write_faults out.old ≤ O.write_faults out.new }
 {

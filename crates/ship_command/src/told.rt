@@ -5,7 +5,7 @@ use std::alloc::{AllocError, Global};
 // Why the line after those that were read isn't shipped, in words.
 fn reason_of(end: ShipEnd) -> Option<&'static str> {
     match end {
-        ShipEnd::NotJson => Some("not a JSON text"),
+        ShipEnd::NotJson => Some("neither a JSON text nor an audit event"),
         ShipEnd::TooLong => Some("longer than 4194304 bytes"),
         ShipEnd::Cut => Some("cut: the log ends within it"),
         ShipEnd::Done | ShipEnd::ReadFault | ShipEnd::NumbersSpent | ShipEnd::NoMemory => None,
@@ -16,7 +16,10 @@ fn line_text(alloc: Global, shipment: Shipment) -> Result<String, AllocError> {
     let Some(why) = reason_of(shipment.end) else {
         return Ok(String::new(alloc));
     };
-    let line = shipment.lines.saturating_add(1);
+    let line = shipment
+        .passed
+        .saturating_add(shipment.lines)
+        .saturating_add(1);
     format!(in alloc; "apiaggd: line {line}: {why}\n")
 }
 

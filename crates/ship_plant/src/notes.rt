@@ -30,8 +30,12 @@ impl<'b, R: rt::Clock + Eprint> Notes for PostNotes<'b, R> {
         true
     }
 
-    fn note(&mut self, _lines: &[Line], note: TryNote) {
+    fn note(&mut self, lines: &[Line], note: TryNote) {
+        let last = match lines.last() {
+            Some(line) => line.number.saturating_add(1),
+            None => 0,
+        };
         self.share
-            .tried(self.rt, u64::from(note.lines), note.answer);
+            .tried(self.rt, u64::from(note.lines), last, note.answer);
     }
 }

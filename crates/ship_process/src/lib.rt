@@ -5,7 +5,7 @@
 
 use command_ends::{Ended, ReaderSource, WriterSink};
 use explain_command::finish_told;
-use log_ship::Shipment;
+use log_ship::{ShipEnd, Shipment};
 use ship_command::{Shipped, run_ship, told_text};
 use ship_plant::{PostShare, ShipPlant};
 use std::alloc::{AllocError, Global};
@@ -42,12 +42,16 @@ fn finished(
             let text = text.as_str();
             let _ = eprint!(host; "{text}");
         }
+        let last = share.last_line();
+        if shipment.end != ShipEnd::Done && last > 0 {
+            let _ = eprintln!(host; "apiaggd: the last line posted is line {last}");
+        }
     }
     code
 }
 
 /// Posts the lines of standard input to the webhook that the words name, says what became of them, and gives the status of the program. Progress is
-/// said at most once a second, where standard error is a terminal.
+/// said at most once a second where standard error is a terminal, and else at most once in ten.
 pub fn shipped<R: Threads + Wait + Copy + Drop + Net<Stream = TcpStream> + rt::Clock + Eprint>(
     host: &HostRuntime,
     rt: &R,

@@ -8,6 +8,7 @@ ghost use Rattle.retry_throttle.specs.Tokens.{count_between};
 ghost use Rattle.retry_throttle.specs.declared.bucket.TheConstants.{TOKEN};
 ghost use Rattle.retry_throttle.specs.declared.sent.Sent.{Sent};
 ghost use Rattle.ship_summary.specs.Paces.{Told, Begins, rules_of};
+ghost use Rattle.ship_summary.specs.Runs.{AreDone};
 ghost use Rattle.ship_summary.specs.declared.pace.ShipPace.{ShipPace};
 
 use retry_throttle::few_posts_between;
@@ -22,8 +23,14 @@ pub fn few_posts_between_moments()
     few_posts_between();
 }
 
-/// Each line that was read is counted as posted or as lost, and none as both.
+/// Each line that was read from the first one on is counted as posted or as lost, and none as both.
 pub fn each_line_is_counted()
-    ensures { (setup : shipped.Setup) (p q : Side) (left0 left : Option (List ℕ)) (lines : ℕ) (rest : List ℕ) (tally : Tally)
-        → shipped.Ships setup p left0 left lines rest tally q → tally.posted + tally.lost ≡ lines }
+    ensures { (setup : shipped.Setup) (p q : Side) (left0 left : Option (List ℕ)) (first lines : ℕ) (rest : List ℕ) (tally : Tally)
+        → shipped.Ships setup p left0 left first lines rest tally q → tally.posted + tally.lost ≡ lines }
+{}
+
+/// Where no line is counted as lost, the last post of each batch is done.
+pub fn none_lost_is_all_posted()
+    ensures { (setup : shipped.Setup) (p q : Side) (left0 left : Option (List ℕ)) (first lines : ℕ) (rest : List ℕ) (tally : Tally)
+        → (ships : shipped.Ships setup p left0 left first lines rest tally q) → tally.lost ≡ 0 → AreDone ships.ends }
 {}

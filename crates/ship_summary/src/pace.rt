@@ -1,6 +1,7 @@
 // How fast lines are shipped.
 ghost use Rattle.std.specs.Prelude.{◌≡◌, ◌≤◌};
 ghost use Rattle.log_ship.specs.Sides.{side_of};
+ghost use Rattle.retry_throttle.specs.Clocks.{clock_tells};
 ghost use Rattle.retry_throttle.specs.Senders.{sender_bucket, sender_clock, sender_rules};
 ghost use Rattle.ship_summary.specs.Paces as spec;
 
@@ -22,8 +23,10 @@ pub struct ShipPace {
     pub rate: u32,
     /// How many posts there may be at once, 1 to 1000.
     pub burst: u32,
-    /// How often it is asked whether one post may be made, 1 to 1000000.
-    pub rests: u32,
+    /// How long a batch waits before its second post, in milliseconds, 1 to 30000: before each further one twice as long, at most 30000.
+    pub wait_ms: u32,
+    /// The number of the first line that is shipped, 1 to 2^48.
+    pub from_line: u64,
 }
 
 /// The limits of a batch. No line waits for others that may come.
@@ -40,12 +43,19 @@ pub(crate) fn limits_of(pace: &ShipPace) -> Limits
 /// A sender whose bucket is full at the first moment that the clock gives.
 pub(crate) fn sender_of<B: BatchSink, K: Clock>(pace: &ShipPace, sink: B, clock: K) -> Sender<B, K>
     requires { spec.IsWithin pace.now }
-    ensures begins { spec.Begins pace.now (spec.told_by (B.tells sink) (K.given clock)) (side_of B.tells K.given result) }
+    ensures begins { spec.Begins pace.now (spec.told_by (B.tells sink) (clock_tells K.given K.last K.rests clock))
+        (side_of B.tells K.given K.last K.rests result) }
     ensures rules { sender_rules result ≡ spec.rules_of pace.now }
     ensures behind { (sender_bucket result).last ≤ K.last (sender_clock result) }
 {
     let mut clock = clock;
     let now = clock.now();
     let bucket = Bucket::start(pace.rate, pace.burst, now);
-    Sender::new(sink, clock, bucket, pace.tries, pace.rests)
+    Sender::new(
+        sink,
+        clock,
+        bucket,
+        pace.tries,
+        u64::from(pace.wait_ms) * 1000,
+    )
 }

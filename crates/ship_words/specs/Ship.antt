@@ -20,14 +20,14 @@ use Rattle.webhook_sink.specs.Hooks.{hook_named}
 abbrev pub ship_names : List (List ℕ)
 ship_names =
     codes "audit-webhook-url" ∷ codes "batch-max-size" ∷ codes "max-batch-size"
-    ∷ codes "tries" ∷ codes "rate" ∷ codes "burst" ∷ codes "rests" ∷ []
+    ∷ codes "tries" ∷ codes "rate" ∷ codes "burst" ∷ codes "retry-wait-ms" ∷ codes "from-line" ∷ []
 
 -- ---- numbers
 
 -- those that have a number
 abbrev pub ship_numbers : List Ranged
 ship_numbers =
-    option.BatchMaxSize ∷ option.MaxBatchSize ∷ option.Tries ∷ option.Rate ∷ option.Burst ∷ option.Rests ∷ []
+    option.BatchMaxSize ∷ option.MaxBatchSize ∷ option.Tries ∷ option.Rate ∷ option.Burst ∷ option.RetryWait ∷ option.FromLine ∷ []
 
 -- each of them that is given has a number
 unfoldable pub numbers_of : List Named → Result (Unit {0}) ShipFault
@@ -53,8 +53,17 @@ pace_by given = do
   tries ← ranged option.Tries given
   rate ← ranged option.Rate given
   burst ← ranged option.Burst given
-  rests ← ranged option.Rests given
-  Ok (record { max_lines = max_lines; max_bytes = max_bytes; tries = tries; rate = rate; burst = burst; rests = rests })
+  wait_ms ← ranged option.RetryWait given
+  from_line ← ranged option.FromLine given
+  Ok (record {
+    max_lines = max_lines;
+    max_bytes = max_bytes;
+    tries = tries;
+    rate = rate;
+    burst = burst;
+    wait_ms = wait_ms;
+    from_line = from_line;
+  })
 
 -- a webhook can have this URL
 unfoldable pub webhook_at : List ℕ → Result (List ℕ) ShipFault

@@ -16,7 +16,8 @@ pub fn check_numbers(options: &Options) -> Result<(), ShipFault>
         Ranged::Tries,
         Ranged::Rate,
         Ranged::Burst,
-        Ranged::Rests,
+        Ranged::RetryWait,
+        Ranged::FromLine,
     ];
     if have_numbers(&numbers, options) {
         Ok(())

@@ -6,7 +6,7 @@ ghost use Rattle.ship_words.specs.Ship as spec;
 use crate::fault::ShipFault;
 use crate::numbers::{check_numbers, ranged, ranged_u32};
 use command_options::names::{
-    BATCH_MAX_SIZE, BURST, MAX_BATCH_SIZE, RATE, RESTS, TRIES, WEBHOOK_URL,
+    BATCH_MAX_SIZE, BURST, FROM_LINE, MAX_BATCH_SIZE, RATE, RETRY_WAIT, TRIES, WEBHOOK_URL,
 };
 use command_options::{Options, Ranged, WordsFault, given_of, value_of};
 use front_base::Text;
@@ -19,7 +19,7 @@ use webhook_sink::{HookFault, check_url};
 pub struct ShipWords {
     /// The URL of the webhook to which lines are posted.
     pub url: Text,
-    /// `--batch-max-size`, `--max-batch-size`, `--tries`, `--rate`, `--burst` and `--rests`.
+    /// `--batch-max-size`, `--max-batch-size`, `--tries`, `--rate`, `--burst`, `--retry-wait-ms` and `--from-line`.
     pub pace: ShipPace,
 }
 
@@ -33,14 +33,16 @@ fn pace_by(options: &Options) -> Result<ShipPace, ShipFault>
     let tries = ranged_u32(Ranged::Tries, options)?;
     let rate = ranged_u32(Ranged::Rate, options)?;
     let burst = ranged_u32(Ranged::Burst, options)?;
-    let rests = ranged_u32(Ranged::Rests, options)?;
+    let wait_ms = ranged_u32(Ranged::RetryWait, options)?;
+    let from_line = ranged(Ranged::FromLine, options)?;
     Ok(ShipPace {
         max_lines,
         max_bytes,
         tries,
         rate,
         burst,
-        rests,
+        wait_ms,
+        from_line,
     })
 }
 
@@ -90,7 +92,8 @@ fn ship_of(alloc: Global, words: &[String]) -> Result<ShipWords, ShipFault>
             TRIES,
             RATE,
             BURST,
-            RESTS,
+            RETRY_WAIT,
+            FROM_LINE,
         ],
         words,
     ) {

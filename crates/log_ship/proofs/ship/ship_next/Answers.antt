@@ -1,4 +1,4 @@
-use Rattle.std.proofs.Common.{◌≡◌, ◌∙◌, ap, subst, sym, ℕ, List, take}
+use Rattle.std.proofs.Common.{◌≡◌, ◌∙◌, ap, subst, sym, ℕ, List, take, arith}
 use Rattle.log_lines.specs.Lines.{StartsWithLine}
 use Rattle.log_ship.specs.Chains.{Side}
 use Rattle.log_ship.specs.Shipped.{Adds}
@@ -12,8 +12,8 @@ returns-in-Ok-add_text-clause-ships g c =
     let bytes = c.next_text.new.buffer in
     let n = c.in-Ok.size in
     let h = c.in-Ok.ensures.ok in
-    let p : Side = side_of g.B.BatchSink.tells g.K.Clock.given c.args.sender.now in
-    let q : Side = side_of g.B.BatchSink.tells g.K.Clock.given c.add_text.new.sender in
+    let p : Side = side_of g.B.BatchSink.tells g.K.Clock.given g.K.Clock.last g.K.Clock.rests c.args.sender.now in
+    let q : Side = side_of g.B.BatchSink.tells g.K.Clock.given g.K.Clock.last g.K.Clock.rests c.add_text.new.sender in
     let e : take n c.as_slice.result.now ≡ h.line = ap (take n) c.as_slice.ensures.value ∙ text_is bytes h.line h.after n h.starts h.size_is in
     let after : c.skip.new.self ≡ h.after = c.skip.ensures ∙ after_is bytes h.line h.after n h.starts h.size_is in
     record {
@@ -21,7 +21,8 @@ returns-in-Ok-add_text-clause-ships g c =
       seen = h.seen;
       line = h.line;
       starts = subst (λ (z : List ℕ). StartsWithLine bytes h.line z) (sym after) h.starts;
-      json = h.json;
+      short = let a = h.size_is in let b = h.short in omega (arith, a, b);
+      shippable = h.shippable;
       few = h.few;
       adds =
           subst

@@ -1,4 +1,5 @@
 use Rattle.std.proofs.Common.{ap, inl, inr, map, option_map, refl, string_bytes}
+use Rattle.retry_throttle.specs.Clocks.{clock_tells}
 use Rattle.ship_command.proofs.RunLemmas.{refuses}
 use Rattle.ship_command.proofs.run.run_ship.Goals as goal
 
@@ -14,7 +15,7 @@ returns-in-Err-clause-run g c =
       early = record {
         no_lines = n.none.0;
         no_sink = ap (option_map g.P.H.BatchSink.tells) n.none.1;
-        no_clock = ap (option_map g.P.K.Clock.given) n.none.2;
+        no_clock = ap (option_map (clock_tells g.P.K.Clock.given g.P.K.Clock.last g.P.K.Clock.rests)) n.none.2;
         unread = refl;
         unwritten = refl;
       };
