@@ -1,2 +1,2 @@
-pub mod Request
+pub mod Version
 pub mod Fetched

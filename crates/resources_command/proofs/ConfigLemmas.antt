@@ -146,3 +146,5 @@ refused_after own before mid after status_case.WriteFault why previous k f n l h
 refused_after own before mid after status_case.NumbersSpent why previous k f n l h = h
 refused_after own before mid after status_case.Input why previous k f n l h = h
 refused_after own before mid after status_case.Log why previous k f n l h = h
+refused_after own before mid after status_case.NotDelivered why previous k f n l h = h
+refused_after own before mid after status_case.NothingListed why previous k f n l h = h

@@ -1,6 +1,7 @@
 -- What `resources` begins with: its words, and the files that they name.
 use Rattle.std.specs.Prelude.{◌≡◌, ℕ, ◌⊎◌, List, [], Option, Some, None, Result, Ok, Err}
 use Rattle.command_options.specs.declared.fault.WordsFault.TheVariants as words_fault
+use Rattle.command_options.specs.declared.ranged.Ranged.{Ranged}
 use Rattle.front_config.specs.Load.{Reads, AreRead, load_of, name_for}
 use Rattle.front_config.specs.declared.fault.FileFault.{FileFault}
 use Rattle.front_config.specs.declared.fault.LoadFault.{LoadFault}
@@ -117,11 +118,20 @@ FilesEnd own files ReadFault why previous =
 FilesEnd own files NoMemory why previous = Unit {0}
 FilesEnd own files _ why previous = ⊥
 
+-- the number of an option is out of its range
+abbrev pub OutOfRange : List (List ℕ) → Option Refusal → Option PreviousRefusal → Type 0
+OutOfRange words why previous =
+    (option : Ranged) × (n : ℕ) × (resources_command words ≡ Err (words_fault.Limits option n)) × TellsWords (words_fault.Limits option n) why
+    × (previous ≡ None)
+
 -- why a run ends before anything is asked, by its status, and what is told of it: the earlier document is read after the other files
 abbrev pub IsRefused : List (List ℕ) → FilesPort → Status → Option Refusal → Option PreviousRefusal → Type 0
 IsRefused words files Usage why previous =
     (resources_command words ≡ Err words_fault.Usage) × TellsWords words_fault.Usage why × (previous ≡ None)
 IsRefused words files NoMemory why previous = Unit {0}
+IsRefused words files Configuration why previous =
+    OutOfRange words why previous
+    ⊎ ((own : ResourcesWords) × (resources_command words ≡ Ok own) × FilesEnd own files Configuration why previous)
 IsRefused words files status why previous =
     (own : ResourcesWords) × (resources_command words ≡ Ok own) × FilesEnd own files status why previous
 

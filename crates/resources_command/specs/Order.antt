@@ -6,7 +6,7 @@ use Rattle.discovery_merge.specs.Groups.{sorted_groups}
 use Rattle.discovery_merge.specs.declared.groups.Group.{Group}
 use Rattle.front_base.specs.declared.address.Address.{Address}
 use Rattle.resource_fetch.specs.Fetched.{Asking, asking}
-use Rattle.resource_fetch.specs.Request.{group_version}
+use Rattle.resource_fetch.specs.Version.{group_version}
 use Rattle.resources_command.specs.declared.group_versions.GroupVersion.{GroupVersion}
 use Rattle.service_endpoints.specs.Find.{endpoint_of}
 use Rattle.service_endpoints.specs.declared.endpoint.Endpoint.{Endpoint}

@@ -117,7 +117,11 @@ fn configured<F: Files>(
     ensures kept { KeepsFiles (F.files files.old) (F.files files.new) }
     ensures later { F.faults files.old ≤ F.faults files.new }
 {
-    let ResourcesWords { names, previous } = own;
+    let ResourcesWords {
+        names,
+        previous,
+        request_timeout: _,
+    } = own;
     match load(alloc, &names, files) {
         Ok(loaded) => {
             drop(names);

@@ -1,14 +1,19 @@
-ghost use Rattle.std.specs.Prelude.{◌≡◌, ◌≤◌, Some, IfErr, IfOk, OnErr, OnOk, map, string_bytes};
+ghost use Rattle.std.specs.Prelude.{◌≡◌, ◌≤◌, ◌||◌, Some, IfErr, IfOk, OnErr, OnOk, map, option_map, string_bytes};
 ghost use Rattle.front_ports.specs.Cause.{Rose};
 ghost use Rattle.front_ports.specs.FileMap.{KeepsFiles};
+ghost use Rattle.front_ports.specs.Told.{Adds};
 ghost use Rattle.command_ends.specs.Ports.{files_port, port};
-ghost use Rattle.resources_command.specs.Order.{asked_by, asked_of};
+ghost use Rattle.resource_fetch.specs.Fetched.{listed_in};
+ghost use Rattle.resources_command.specs.Notes.{is_listed, note_of};
+ghost use Rattle.resources_command.specs.Order.{asked_by, asked_of, name_of};
 ghost use Rattle.resources_command.specs.Run as spec;
+ghost use Rattle.service_calls.specs.Calls.{dial_state};
 ghost use Rattle.service_endpoints.specs.Find.{endpoint_of};
 
 use crate::config::configure_resources;
 use crate::ended::ResourcesEnded;
 use crate::group_versions::{GroupVersion, order};
+use crate::notes::Notes;
 use crate::settings::Settings;
 use apiservice_rows::{Row, ServiceRef};
 use command_ends::Status;
@@ -16,7 +21,7 @@ use front_base::{Address, Bytes, NoMemory};
 use front_ports::{ByteSink, Dial, Files, write_all};
 use group_resources::merged_line;
 use refusal_text::Refusal;
-use resource_fetch::{fetch, group_version};
+use resource_fetch::{Listing, fetch, group_version};
 use service_endpoints::Endpoints;
 use std::alloc::Global;
 
@@ -61,21 +66,21 @@ fn fetch_row<D: Dial>(
     dial: &mut D,
     endpoints: &Endpoints,
     row: &Row,
-) -> Result<Option<Bytes>, NoMemory>
+) -> Result<Listing, NoMemory>
     ensures ok { IfOk result (spec.FetchesIf (asked_by endpoints.now (Some row.now))
-        (record { calls = D.calls dial.old; faults = D.faults dial.old; link_faults = D.link_faults dial.old })
-        (record { calls = D.calls dial.new; faults = D.faults dial.new; link_faults = D.link_faults dial.new })) }
+        (dial_state (D.calls dial.old) (D.faults dial.old) (D.link_faults dial.old))
+        (dial_state (D.calls dial.new) (D.faults dial.new) (D.link_faults dial.new))) }
     ensures err { OnErr result (spec.StopsIf (asked_by endpoints.now (Some row.now))
-        (record { calls = D.calls dial.old; faults = D.faults dial.old; link_faults = D.link_faults dial.old })
-        (record { calls = D.calls dial.new; faults = D.faults dial.new; link_faults = D.link_faults dial.new })) }
+        (dial_state (D.calls dial.old) (D.faults dial.old) (D.link_faults dial.old))
+        (dial_state (D.calls dial.new) (D.faults dial.new) (D.link_faults dial.new))) }
     ensures later { (D.faults dial.old ≤ D.faults dial.new) × (D.link_faults dial.old ≤ D.link_faults dial.new) }
 {
     if !row.available {
-        return Ok(None);
+        return Ok(Listing::NotAsked);
     }
     match address_of(endpoints, &row.service) {
         Some(to) => fetch(alloc, dial, row, to),
-        None => Ok(None),
+        None => Ok(Listing::NotAsked),
     }
 }
 
@@ -85,13 +90,13 @@ fn fetch_one<D: Dial>(
     dial: &mut D,
     settings: &Settings,
     own: &GroupVersion,
-) -> Result<Option<Bytes>, NoMemory>
+) -> Result<Listing, NoMemory>
     ensures ok { IfOk result (spec.FetchesIf (asked_of settings.now.table.rows settings.now.endpoints own.now)
-        (record { calls = D.calls dial.old; faults = D.faults dial.old; link_faults = D.link_faults dial.old })
-        (record { calls = D.calls dial.new; faults = D.faults dial.new; link_faults = D.link_faults dial.new })) }
+        (dial_state (D.calls dial.old) (D.faults dial.old) (D.link_faults dial.old))
+        (dial_state (D.calls dial.new) (D.faults dial.new) (D.link_faults dial.new))) }
     ensures err { OnErr result (spec.StopsIf (asked_of settings.now.table.rows settings.now.endpoints own.now)
-        (record { calls = D.calls dial.old; faults = D.faults dial.old; link_faults = D.link_faults dial.old })
-        (record { calls = D.calls dial.new; faults = D.faults dial.new; link_faults = D.link_faults dial.new })) }
+        (dial_state (D.calls dial.old) (D.faults dial.old) (D.link_faults dial.old))
+        (dial_state (D.calls dial.new) (D.faults dial.new) (D.link_faults dial.new))) }
     ensures later { (D.faults dial.old ≤ D.faults dial.new) × (D.link_faults dial.old ≤ D.link_faults dial.new) }
 {
     match settings
@@ -99,46 +104,65 @@ fn fetch_one<D: Dial>(
         .find(own.group.as_str(), own.version.as_str())
     {
         Some(row) => fetch_row(alloc, dial, &settings.endpoints, row),
-        None => Ok(None),
+        None => Ok(Listing::NotAsked),
     }
 }
 
-// The line of a group version of which this was fetched.
+// The array that was listed.
+fn listed_in(got: &Listing) -> Option<&[u8]>
+    ensures { option_map (λ list. list.now) result ≡ listed_in got.now }
+{
+    match got {
+        Listing::Listed(list) => Some(list.as_slice()),
+        _ => None,
+    }
+}
+
+// The line of a group version of which this came.
 fn line_for(
     alloc: Global,
     settings: &Settings,
     own: &GroupVersion,
-    got: &Option<Bytes>,
+    name: &str,
+    got: &Listing,
 ) -> Result<Bytes, NoMemory>
+    requires { name.now ≡ name_of own.now }
     ensures { IfOk result (λ line. line ≡ spec.line_for settings.now own.now got.now) }
 {
-    let name = group_version(alloc, own.group.as_str(), own.version.as_str())?;
+    merged_line(alloc, name, listed_in(got), &settings.previous)
+}
+
+// Notes why a group version was not listed, if it wasn't, and says whether it was.
+fn note_if<N: Notes>(notes: &mut N, own: &GroupVersion, name: &str, got: &Listing) -> bool
+    requires { name.now ≡ name_of own.now }
+    ensures noted { Adds (N.noted notes.old) (N.noted notes.new) (note_of own.now got.now) }
+    ensures listed { is_listed got.now ≡ result }
+{
     match got {
-        Some(got) => merged_line(
-            alloc,
-            name.as_str(),
-            Some(got.as_slice()),
-            &settings.previous,
-        ),
-        None => merged_line(alloc, name.as_str(), None, &settings.previous),
+        Listing::Listed(_) => true,
+        got => {
+            notes.note(name, got);
+            false
+        }
     }
 }
 
-// Asks for one group version, and writes its line.
-fn write_one<D: Dial, O: ByteSink>(
+// Asks for one group version, writes its line, and says whether it was listed.
+fn write_one<D: Dial, O: ByteSink, N: Notes>(
     alloc: Global,
     dial: &mut D,
     out: &mut O,
+    notes: &mut N,
     settings: &Settings,
     own: &GroupVersion,
-) -> Result<(), LineStop>
-    ensures ok { OnOk result (spec.WritesOne settings.now own.now
-        (record { calls = D.calls dial.old; faults = D.faults dial.old; link_faults = D.link_faults dial.old })
-        (record { calls = D.calls dial.new; faults = D.faults dial.new; link_faults = D.link_faults dial.new })
-        (O.written out.old) (O.written out.new)) }
+) -> Result<bool, LineStop>
+    ensures ok { IfOk result (spec.WritesOne settings.now own.now
+        (dial_state (D.calls dial.old) (D.faults dial.old) (D.link_faults dial.old))
+        (dial_state (D.calls dial.new) (D.faults dial.new) (D.link_faults dial.new))
+        (O.written out.old) (O.written out.new) (N.noted notes.old) (N.noted notes.new)) }
     ensures err { IfErr result (spec.NotWritten settings.now own.now
-        (record { calls = D.calls dial.old; faults = D.faults dial.old; link_faults = D.link_faults dial.old })
-        (record { calls = D.calls dial.new; faults = D.faults dial.new; link_faults = D.link_faults dial.new })
+        (dial_state (D.calls dial.old) (D.faults dial.old) (D.link_faults dial.old))
+        (dial_state (D.calls dial.new) (D.faults dial.new) (D.link_faults dial.new))
         (O.written out.old) (O.written out.new) (Rose (O.write_faults out.old) (O.write_faults out.new))) }
     ensures sound { OnOk result (O.write_faults out.new ≡ O.write_faults out.old) }
     ensures later { O.write_faults out.old ≤ O.write_faults out.new }
@@ -147,54 +171,79 @@ fn write_one<D: Dial, O: ByteSink>(
     let Ok(got) = fetch_one(alloc, dial, settings, own) else {
         return Err(LineStop::NoMemory);
     };
-    let Ok(line) = line_for(alloc, settings, own, &got) else {
+    let Ok(name) = group_version(alloc, own.group.as_str(), own.version.as_str()) else {
+        return Err(LineStop::NoMemory);
+    };
+    let Ok(line) = line_for(alloc, settings, own, name.as_str(), &got) else {
         return Err(LineStop::NoMemory);
     };
     match write_all(out, line.as_slice()) {
-        Ok(()) => Ok(()),
+        Ok(()) => Ok(note_if(notes, own, name.as_str(), &got)),
         Err(_) => Err(LineStop::WriteFault),
     }
 }
 
+fn either(a: bool, b: bool) -> bool
+    ensures { result ≡ (a || b) }
+{
+    if a { true } else { b }
+}
+
+// How a run ends that wrote all lines.
+fn end_of(listed: bool) -> Status
+    ensures { result ≡ spec.end_of listed }
+{
+    if listed {
+        Status::Done
+    } else {
+        Status::NothingListed
+    }
+}
+
 // Asks for these group versions one after another, and writes each line as soon as it is known.
-fn write_lines<D: Dial, O: ByteSink>(
+fn write_lines<D: Dial, O: ByteSink, N: Notes>(
     alloc: Global,
     dial: &mut D,
     out: &mut O,
+    notes: &mut N,
     settings: &Settings,
     all: &[GroupVersion],
 ) -> Status
     ensures merges { spec.MergesTo settings.now all.now
-        (record { calls = D.calls dial.old; faults = D.faults dial.old; link_faults = D.link_faults dial.old })
-        (record { calls = D.calls dial.new; faults = D.faults dial.new; link_faults = D.link_faults dial.new })
-        (port (O.written out.old) (O.write_faults out.old) (O.written out.new) (O.write_faults out.new)) result }
+        (dial_state (D.calls dial.old) (D.faults dial.old) (D.link_faults dial.old))
+        (dial_state (D.calls dial.new) (D.faults dial.new) (D.link_faults dial.new))
+        (port (O.written out.old) (O.write_faults out.old) (O.written out.new) (O.write_faults out.new))
+        (record { before = N.noted notes.old; after = N.noted notes.new }) result }
     ensures later { O.write_faults out.old ≤ O.write_faults out.new }
     ensures dial_later { (D.faults dial.old ≤ D.faults dial.new) × (D.link_faults dial.old ≤ D.link_faults dial.new) }
 {
+    let mut listed = false;
     for own in all {
-        match write_one(alloc, dial, out, settings, own) {
-            Ok(()) => {}
+        match write_one(alloc, dial, out, notes, settings, own) {
+            Ok(one) => listed = either(listed, one),
             Err(stop) => return status_of(stop),
         }
     }
-    Status::Done
+    end_of(listed)
 }
 
-fn merge<D: Dial, O: ByteSink>(
+fn merge<D: Dial, O: ByteSink, N: Notes>(
     alloc: Global,
     dial: &mut D,
     out: &mut O,
+    notes: &mut N,
     settings: &Settings,
 ) -> Status
     ensures merges { spec.MergesTo settings.now (spec.order settings.now)
-        (record { calls = D.calls dial.old; faults = D.faults dial.old; link_faults = D.link_faults dial.old })
-        (record { calls = D.calls dial.new; faults = D.faults dial.new; link_faults = D.link_faults dial.new })
-        (port (O.written out.old) (O.write_faults out.old) (O.written out.new) (O.write_faults out.new)) result }
+        (dial_state (D.calls dial.old) (D.faults dial.old) (D.link_faults dial.old))
+        (dial_state (D.calls dial.new) (D.faults dial.new) (D.link_faults dial.new))
+        (port (O.written out.old) (O.write_faults out.old) (O.written out.new) (O.write_faults out.new))
+        (record { before = N.noted notes.old; after = N.noted notes.new }) result }
     ensures later { O.write_faults out.old ≤ O.write_faults out.new }
     ensures dial_later { (D.faults dial.old ≤ D.faults dial.new) × (D.link_faults dial.old ≤ D.link_faults dial.new) }
 {
     match order(alloc, &settings.table) {
-        Ok(all) => write_lines(alloc, dial, out, settings, all.as_slice()),
+        Ok(all) => write_lines(alloc, dial, out, notes, settings, all.as_slice()),
         Err(NoMemory) => Status::NoMemory,
     }
 }
@@ -202,23 +251,26 @@ fn merge<D: Dial, O: ByteSink>(
 /// The command `resources`: asks the servers of all APIs for their lists of resources, and writes one line for each group version, in the
 /// order of discovery.
 ///
-/// The status is `Done` where all lines were written. `Usage`, `Configuration`, `ReadFault` and `NoMemory` before any is asked are those of
+/// The status is `Done` where all lines were written and one of them is fresh, and `NothingListed` where none is. Each line that is stale or
+/// missing is noted with its reason, once it is written. `Usage`, `Configuration`, `ReadFault` and `NoMemory` before any is asked are those of
 /// `explain`; `Configuration` and `ReadFault` stand also where the earlier document is refused or not read, which comes after the other
 /// files. With `WriteFault`, and where memory ran out later, a prefix of the lines was written. A server that is not reached, or whose reply
-/// lists nothing, is no fault: its line is stale or missing.
-pub fn run_resources<F: Files, D: Dial, O: ByteSink>(
+/// lists nothing, is no fault.
+pub fn run_resources<F: Files, D: Dial, O: ByteSink, N: Notes>(
     alloc: Global,
     words: &Vec<String>,
     files: &mut F,
     dial: &mut D,
     out: &mut O,
+    notes: &mut N,
 ) -> ResourcesEnded
     ensures run { spec.Run (map string_bytes words.now.items)
         (files_port (F.files files.old) (F.failed files.old) (F.faults files.old)
         (F.files files.new) (F.failed files.new) (F.faults files.new))
-        (record { calls = D.calls dial.old; faults = D.faults dial.old; link_faults = D.link_faults dial.old })
-        (record { calls = D.calls dial.new; faults = D.faults dial.new; link_faults = D.link_faults dial.new })
+        (dial_state (D.calls dial.old) (D.faults dial.old) (D.link_faults dial.old))
+        (dial_state (D.calls dial.new) (D.faults dial.new) (D.link_faults dial.new))
         (port (O.written out.old) (O.write_faults out.old) (O.written out.new) (O.write_faults out.new))
+        (record { before = N.noted notes.old; after = N.noted notes.new })
         result.status result.why result.previous }
 
     // Told files stay, and the counts of faults don't fall.
@@ -229,7 +281,7 @@ pub fn run_resources<F: Files, D: Dial, O: ByteSink>(
 {
     match configure_resources(alloc, words, files) {
         Ok(settings) => {
-            let status = merge(alloc, dial, out, &settings);
+            let status = merge(alloc, dial, out, notes, &settings);
             drop(settings);
             ResourcesEnded {
                 status,

@@ -3,8 +3,10 @@ ghost use Rattle.std.specs.Prelude.{map, string_bytes};
 ghost use Rattle.command_options.specs.Options.{Gives};
 ghost use Rattle.resources_command.specs.Words as spec;
 
-use command_options::names::{ENDPOINTS, PREVIOUS, SERVICES};
-use command_options::{FileNames, WordsFault, file_names, given_of, text_of};
+use command_options::names::{ENDPOINTS, PREVIOUS, REQUEST_TIMEOUT, SERVICES};
+use command_options::{
+    FileNames, Options, Ranged, WordsFault, file_names, given_of, in_range, number_given, text_of,
+};
 use front_base::Text;
 use std::alloc::Global;
 
@@ -15,17 +17,41 @@ pub struct ResourcesWords {
     pub names: FileNames,
     /// `--previous`: the file with an earlier document.
     pub previous: Option<Text>,
+    /// `--request-timeout-ms`: how long one request to a server may take in all, in milliseconds, from 1 to 600000.
+    pub request_timeout: u64,
 }
 
-#[tactic(auto, unfolding(crate::specs::Words::words_of))]
+#[tactic(auto, unfolding(crate::specs::Words::timeout_in))]
+fn timeout_in(options: &Options) -> Result<u64, WordsFault>
+    ensures { Gives (λ n. n) result (spec.timeout_in options.now) }
+{
+    let number = number_given(Ranged::RequestTimeout, options)?;
+    in_range(Ranged::RequestTimeout, number)
+}
+
+#[tactic(auto, unfolding(crate::specs::Words::words_by))]
+fn words_by(alloc: Global, options: &Options) -> Result<ResourcesWords, WordsFault>
+    ensures { Gives (λ v. v) result (spec.words_by options.now) }
+{
+    let request_timeout = timeout_in(options)?;
+    let names = file_names(alloc, options)?;
+    let previous = text_of(alloc, PREVIOUS, options)?;
+    Ok(ResourcesWords {
+        names,
+        previous,
+        request_timeout,
+    })
+}
+
 fn words_of(alloc: Global, words: &[String]) -> Result<ResourcesWords, WordsFault>
     ensures { Gives (λ v. v) result (spec.words_of (map string_bytes words.now)) }
 {
-    match given_of(alloc, &[SERVICES, ENDPOINTS, PREVIOUS], words) {
-        Ok(options) => Ok(ResourcesWords {
-            names: file_names(alloc, &options)?,
-            previous: text_of(alloc, PREVIOUS, &options)?,
-        }),
+    match given_of(
+        alloc,
+        &[SERVICES, ENDPOINTS, PREVIOUS, REQUEST_TIMEOUT],
+        words,
+    ) {
+        Ok(options) => words_by(alloc, &options),
         Err(fault) => Err(fault),
     }
 }

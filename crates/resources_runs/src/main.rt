@@ -6,13 +6,18 @@
 //! What is wanted was worked out by hand from the order of discovery and the shape of a line.
 #![tactic(auto)]
 
+mod reasons;
 mod servers;
 
 use case_rows::{is_row, read_cases, spelled};
 use command_ends::{Ended, SystemFiles};
-use front_base::NoMemory;
+use front_base::{NoMemory, Text};
 use front_ports::{MemBytes, MemDial};
-use resources_command::{PreviousRefusal, ResourcesEnded, previous_text, run_resources};
+use reasons::Reasons;
+use resources_command::{
+    EarlierFiles, PreviousRefusal, ResourcesEnded, ResourcesWords, previous_text, read_resources,
+    run_resources,
+};
 use servers::dial_of;
 use std::alloc::{AllocError, Global};
 use std::process::ExitCode;
@@ -62,13 +67,31 @@ fn shown(
     previous: &Option<PreviousRefusal>,
     reason: Option<&'static str>,
     dial: &MemDial,
+    notes: &str,
     written: &[u8],
 ) -> Result<String, AllocError> {
     let calls = calls_text(alloc, dial)?;
     let text = ended.told(alloc, words, ended.reason(reason, None, None))?;
     let line = refusal_line(alloc, previous, reason)?;
     let written = str::from_utf8(written).unwrap_or("?");
-    format!(in alloc; "{}\n{written}{calls}{text}{line}", ended.status.code())
+    format!(in alloc;
+        "{}\n{written}{calls}{notes}{text}{line}",
+        ended.status.code()
+    )
+}
+
+// The name of the earlier document.
+fn previous_of(alloc: Global, words: &Vec<String>) -> Option<Text> {
+    match read_resources(alloc, words) {
+        Ok(
+            ResourcesWords {
+                names: _,
+                previous,
+                request_timeout: _,
+            },
+        ) => previous,
+        Err(_) => None,
+    }
 }
 
 // One run over these servers, whose output takes so many bytes: its status, what it wrote, whom it asked, and what is told.
@@ -79,23 +102,25 @@ fn told(
     most: u64,
 ) -> Result<String, AllocError> {
     let alloc = rt.alloc();
-    let mut files = SystemFiles::new(rt);
+    let mut files = EarlierFiles::new(rt, SystemFiles::new(rt), previous_of(alloc, words));
     let Ok(mut out) = MemBytes::new(alloc, most, Vec::new(alloc)) else {
         return Ok(String::new(alloc));
     };
+    let mut notes = Reasons::new(alloc);
     let ResourcesEnded {
         status,
         why,
         previous,
-    } = run_resources(alloc, words, &mut files, dial, &mut out);
+    } = run_resources(alloc, words, &mut files, dial, &mut out, &mut notes);
     let ended = Ended::of(status, why);
     shown(
         alloc,
         words.as_slice(),
         &ended,
         &previous,
-        files.reason(),
+        files.files().reason(),
         dial,
+        notes.text(),
         out.bytes(),
     )
 }

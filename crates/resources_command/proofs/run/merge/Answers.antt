@@ -1,6 +1,6 @@
 use Rattle.std.proofs.KnownBytes.{Appends-nil}
 use Rattle.command_ends.specs.Ports.{Port, port}
-use Rattle.resource_fetch.specs.Fetched.{DialState}
+use Rattle.service_calls.specs.Calls.{DialState}
 use Rattle.resources_command.specs.Run.{order}
 use Rattle.resources_command.proofs.RunLemmas.{none_asked}
 use Rattle.resources_command.proofs.run.merge.Goals as goal

@@ -2,7 +2,8 @@
 use Rattle.std.proofs.Common.{◌≡◌, ℕ, ◌⊎◌, false, List, [], ◌∷◌, ◌++◌, Option, None, Some, refl, sym, ap, subst, ◌∙◌, append_assoc, append-nil, inl, inr}
 use Rattle.std.specs.Io.KnownBytes.{Consumes}
 use Rattle.body_frames.specs.declared.frame.Frame.{Frame}
-use Rattle.resource_fetch.specs.Fetched.{Closes, DialState}
+use Rattle.service_calls.specs.Calls.{DialState}
+use Rattle.service_calls.specs.Fetched.{Closes}
 use Rattle.forward_link.specs.Exchange.{NotesOpen, NotesOne, LinkState}
 use Rattle.forward_link.specs.Reading.{rest_of}
 use Rattle.forward_link.specs.Says.{stream, Got}
@@ -13,13 +14,13 @@ use Rattle.front_ports.specs.Side.{Side}
 use Rattle.front_ports.specs.declared.dial.Call.{Call}
 use Rattle.http_head.specs.declared.reply.ReplyHead.{ReplyHead}
 use Rattle.wire_intake.specs.Seen.{Seen}
-use Rattle.resource_fetch.proofs.SaysLemmas.{BlocksStay, BlocksEnd, says_more}
+use Rattle.service_calls.proofs.SaysLemmas.{BlocksStay, BlocksEnd, says_more}
 
 same_some : (a b : List ℕ) → Some a ≡ Some b → a ≡ b
 same_some a b e = cc
 
 -- what was open is noted whole once it is handed back
-noted : (calls0 calls new : Option (List Call)) (to : Address) (text held : List ℕ) (link : LinkState)
+pub noted : (calls0 calls new : Option (List Call)) (to : Address) (text held : List ℕ) (link : LinkState)
     → NotesOpen calls0 calls to text held link → NotesSent calls new link.number link.written → NotesOne calls0 new to text held
 noted None calls new to text held link h s = subst (λ o. NotesSent o new link.number link.written) h s
 noted (Some before) calls new to text held link h s =

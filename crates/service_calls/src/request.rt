@@ -1,16 +1,17 @@
 // The request for a list of resources.
 ghost use Rattle.std.specs.Prelude.{◌≡◌, ◌++◌, ◌∷◌, IfOk, OnOk, codes, string_bytes};
-ghost use Rattle.forward_link.specs.Forwarded.{address_text, host_of};
+ghost use Rattle.forward_link.specs.Forwarded as forwarded;
 ghost use Rattle.http_head.specs.Written.{header_lines};
-ghost use Rattle.resource_fetch.specs.Request as spec;
+ghost use Rattle.service_calls.specs.Request as spec;
 
 use apiservice_rows::{Row, ServiceRef};
 use front_base::{Address, Bytes, NoMemory};
 use http_head::{push_end, push_header, push_request_line};
 use std::alloc::{AllocError, Global};
 
-fn address_text(alloc: Global, address: &Address) -> Result<String, AllocError>
-    ensures { IfOk result (λ text. string_bytes text ≡ address_text address.now) }
+/// An address as `A.B.C.D:PORT`.
+pub fn address_text(alloc: Global, address: &Address) -> Result<String, AllocError>
+    ensures { IfOk result (λ text. string_bytes text ≡ forwarded.address_text address.now) }
 {
     let ip = &address.ip;
     let (a, b, c, d) = (ip[0], ip[1], ip[2], ip[3]);
@@ -18,13 +19,13 @@ fn address_text(alloc: Global, address: &Address) -> Result<String, AllocError>
     format!(in alloc; "{a}.{b}.{c}.{d}:{port}")
 }
 
-// The host of a service, or the address of the delegate.
-fn host_text(
+/// Whom a `Host` header names: a service as `NAME.NAMESPACE.svc:PORT`, or without one the address of the delegate.
+pub fn host_of(
     alloc: Global,
     service: &Option<ServiceRef>,
     to: &Address,
 ) -> Result<String, AllocError>
-    ensures { IfOk result (λ text. string_bytes text ≡ host_of (spec.target_of service.now to.now)) }
+    ensures { IfOk result (λ text. string_bytes text ≡ forwarded.host_of (spec.target_of service.now to.now)) }
 {
     match service {
         Some(service) => {
@@ -37,24 +38,14 @@ fn host_text(
     }
 }
 
-fn path_text(alloc: Global, group: &str, version: &str) -> Result<String, AllocError>
+/// The path at which a server lists the resources of a group version; that of the core group has its own form.
+pub fn list_path(alloc: Global, group: &str, version: &str) -> Result<String, AllocError>
     ensures { IfOk result (λ text. string_bytes text ≡ spec.path_of group.now version.now) }
 {
     if group.is_empty() {
         return String::from_str(alloc, "/api/v1");
     }
     format!(in alloc; "/apis/{group}/{version}")
-}
-
-/// The group and the version as documents name them, as `apps/v1`. That of the core group, which has the empty name, is `v1` whatever the
-/// version.
-pub fn group_version(alloc: Global, group: &str, version: &str) -> Result<String, AllocError>
-    ensures { IfOk result (λ text. string_bytes text ≡ spec.group_version group.now version.now) }
-{
-    if group.is_empty() {
-        return String::from_str(alloc, "v1");
-    }
-    format!(in alloc; "{group}/{version}")
 }
 
 #[tactic(auto, unfolding(http_head::specs::Written::header_lines))]
@@ -74,8 +65,8 @@ fn push_headers(out: &mut Vec<u8>, host: &str) -> Result<(), AllocError>
 pub fn list_request(alloc: Global, row: &Row, to: &Address) -> Result<Bytes, NoMemory>
     ensures { IfOk result (λ text. text ≡ spec.request_bytes row.now to.now) }
 {
-    let path = path_text(alloc, row.group.as_str(), row.version.as_str())?;
-    let host = host_text(alloc, &row.service, to)?;
+    let path = list_path(alloc, row.group.as_str(), row.version.as_str())?;
+    let host = host_of(alloc, &row.service, to)?;
     let mut out = Vec::new(alloc);
     push_request_line(&mut out, "GET", path.as_str())?;
     push_headers(&mut out, host.as_str())?;

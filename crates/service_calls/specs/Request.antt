@@ -11,11 +11,6 @@ use Rattle.http_head.specs.Written.{named, request_text}
 use Rattle.http_head.specs.declared.header.Header.{Header}
 use Rattle.http_head.specs.declared.request.Head.{Head}
 
--- the group and the version as documents name them: the core group has the one version v1
-abbrev pub group_version : List ℕ → List ℕ → List ℕ
-group_version [] version = codes "v1"
-group_version (g ∷ group) version = (g ∷ group) ++ 47 ∷ version
-
 -- where its resources are listed
 abbrev pub path_of : List ℕ → List ℕ → List ℕ
 path_of [] version = codes "/api/v1"
@@ -46,6 +41,3 @@ request_of row to = record {
 -- its bytes: it has no body
 abbrev pub request_bytes : Row → Address → List ℕ
 request_bytes row to = request_text (request_of row to)
-
-abbrev pub version_of : Row → List ℕ
-version_of row = group_version row.group row.version

@@ -1,8 +1,8 @@
 use Rattle.std.proofs.Common.{◌≡◌, ℕ, List, [], ◌∷◌, ◌++◌, ap, ◌∙◌, append_assoc}
 use Rattle.http_head.specs.Written.{header_lines}
 use Rattle.http_head.specs.declared.header.Header.{Header}
-use Rattle.resource_fetch.specs.Request.{headers_of}
-use Rattle.resource_fetch.proofs.request.push_headers.Goals as goal
+use Rattle.service_calls.specs.Request.{headers_of}
+use Rattle.service_calls.proofs.request.push_headers.Goals as goal
 
 pushed : (o p q r s t : List ℕ) (a b c d e : Header) → p ≡ o ++ header_lines (a ∷ []) → q ≡ p ++ header_lines (b ∷ []) → r ≡ q ++ header_lines (c ∷ [])
     → s ≡ r ++ header_lines (d ∷ []) → t ≡ s ++ header_lines (e ∷ []) → t ≡ o ++ header_lines (a ∷ b ∷ c ∷ d ∷ e ∷ [])

@@ -1,3 +1,0 @@
-pub mod FetchLemmas
-pub mod LinkLemmas
-pub mod SaysLemmas

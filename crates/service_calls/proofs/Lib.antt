@@ -1,0 +1,4 @@
+mod AskLemmas
+mod FetchLemmas
+mod LinkLemmas
+mod SaysLemmas

@@ -1,0 +1,4 @@
+pub mod Calls
+pub mod Contacts
+pub mod Fetched
+pub mod Request
