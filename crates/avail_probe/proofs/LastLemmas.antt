@@ -1,8 +1,8 @@
 -- The last elements of a list.
-use Rattle.std.proofs.Common.{◌≡◌, ℕ, ◌+◌, ◌-◌, ◌<◌, ◌≤◌, Bool, true, false, List, [], ◌∷◌, ◌++◌, length, drop, nat_le, if◌then◌else◌, length-append, length-drop, drop-drop, leb-true, refl, sym, ap, ◌∙◌, arith}
+use Rattle.std.proofs.Common.{◌≡◌, ℕ, ◌+◌, ◌-◌, ◌<◌, ◌≤◌, Bool, true, false, not, Option, Some, None, List, [], ◌∷◌, ◌++◌, length, drop, nat_le, if◌then◌else◌, length-append, length-drop, drop-drop, leb-true, refl, sym, ap, ◌∙◌, arith}
 use Rattle.std.proofs.lemmas.Bool.Decides.{nat_tests}
 use Rattle.std.proofs.lemmas.List.{drop-append-le}
-use Rattle.avail_probe.specs.Watching.{Watched, are_last, are_so, kept, last, probed, wish}
+use Rattle.avail_probe.specs.Watching.{Watched, are_last, are_so, kept, last, probed, wish, wish_by, wish_for}
 use Rattle.avail_probe.specs.declared.watcher.TheConstants.{MOST_PROBES}
 
 longer : {T : Type 0} → (xs : List T) (x : T) → length (xs ++ x ∷ []) ≡ length xs + 1
@@ -49,10 +49,20 @@ are_same n m good probes most =
     ap (λ t. if t then are_so good (last n (last m probes)) else false) tests
     ∙ same_if (nat_le n (length probes)) n m good probes most refl
 
+same_for : (threshold : ℕ) (up : Bool) (probes : List Bool) → threshold ≤ MOST_PROBES
+    → wish_for threshold up (last MOST_PROBES probes) ≡ wish_for threshold up probes
+same_for threshold up probes most = ap (λ t. if t then Some up else None) (are_same threshold MOST_PROBES up probes most)
+
+same_by : (threshold : ℕ) (told : Option Bool) (probes : List Bool) → threshold ≤ MOST_PROBES
+    → wish_by threshold told (last MOST_PROBES probes) ≡ wish_by threshold told probes
+same_by threshold None probes most = rw (same_for threshold true probes most, same_for threshold false probes most) refl
+same_by threshold (Some up) probes most = same_for threshold (not up) probes most
+
 pub same_wish : (threshold : ℕ) (w : Watched) → threshold ≤ MOST_PROBES → wish threshold (kept w) ≡ wish threshold w
-same_wish threshold w most = rw (are_same threshold MOST_PROBES _ w.probes most) refl
+same_wish threshold w most = same_by threshold w.told w.probes most
 
 pub same_kept : (good : Bool) (w all : Watched) → w ≡ kept all
-    → probed good w ≡ kept (record { up = all.up; probes = all.probes ++ good ∷ [] })
+    → probed good w ≡ kept (record { told = all.told; refused = all.refused; probes = all.probes ++ good ∷ [] })
 same_kept good w all is =
-    ap (probed good) is ∙ ap (λ probes. record { up = all.up; probes = probes }) (last_more MOST_PROBES all.probes good)
+    ap (probed good) is
+    ∙ ap (λ probes. record { told = all.told; refused = all.refused; probes = probes }) (last_more MOST_PROBES all.probes good)

@@ -1,3 +1,2 @@
-mod FloatLemmas
 mod LastLemmas
-mod StatusLemmas
+mod PatchLemmas

@@ -1,53 +1,89 @@
--- The object of an APIService that says whether it is available (Kubernetes, "Aggregation Layer": the condition `Available` of
--- `apiregistration.k8s.io/v1`).
-use Rattle.std.specs.Prelude.{◌≡◌, ℕ, Bool, if◌then◌else◌, List, Option, Some, None, Ok, codes}
-use Rattle.serde_json.specs.Data.{Data, null, boolean, number, string, array, object, item, no_items, member, no_members, put}
-use Rattle.serde_json.specs.Written.{compact_text, has_float}
+-- The conditions of an APIService, and the patch that says whether it is available (Kubernetes, "Aggregation Layer": the condition
+-- `Available` of `apiregistration.k8s.io/v1`; a merge patch as of RFC 7396 replaces the whole list).
+use Rattle.std.specs.Prelude.{ℕ, Bool, true, false, not, ◌&&◌, if◌then◌else◌, List, Option, Some, None, option_and_then, codes}
+use Rattle.serde_json.specs.Data.{Data, string, array, object, Items, item, no_items, member, no_members}
+use Rattle.serde_json.specs.Find.{as_array}
+use Rattle.serde_json.specs.Written.{compact_text, items_have_float}
+use Rattle.json_value.specs.Members.{inner, is_object, is_text, present}
 use Rattle.json_value.specs.Read.{value_of}
-use Rattle.apiservice_rows.specs.Object.{read_row}
 use Rattle.apiservice_rows.specs.Row.{Row}
+
+-- ---- what an object says
+
+abbrev pub items_in : Option Items → Items
+items_in None = no_items
+items_in (Some ds) = ds
+
+-- the conditions of an object; none where it has no list of them
+abbrev pub conditions_of : Data → Items
+conditions_of d = items_in (option_and_then as_array (inner (codes "status") (codes "conditions") d))
+
+abbrev pub conditions_in : Option Data → Items
+conditions_in None = no_items
+conditions_in (Some d) = conditions_of d
+
+abbrev pub is_available : Data → Bool
+is_available d = is_text (codes "Available") (present (codes "type") d)
+
+-- whether the first condition `Available` has the status `True`, where there is one
+abbrev pub told_by : Items → Option Bool
+told_by no_items = None
+told_by (item d ds) = if is_available d then Some (is_text (codes "True") (present (codes "status") d)) else told_by ds
+
+-- what a row's object says
+abbrev pub told_of : Row → Option Bool
+told_of row = told_by (conditions_in (value_of row.object))
+
+-- ---- what a patch says
 
 abbrev pub word_of : Bool → List ℕ
 word_of up = if up then codes "True" else codes "False"
 
--- the one condition
-abbrev pub condition_of : Bool → Data
-condition_of up = object (member (codes "status") (string (word_of up)) (member (codes "type") (string (codes "Available")) no_members))
+-- the reasons of kube-aggregator
+abbrev pub reason_of : Bool → List ℕ
+reason_of up = if up then codes "Passed" else codes "FailedDiscoveryCheck"
 
-abbrev pub status_of : Bool → Data
-status_of up = object (member (codes "conditions") (array (item (condition_of up) no_items)) no_members)
+-- what is told: whether it is available, why, and since when, as a moment's text
+pub record Report : Type 0 where
+  pub up : Bool
+  pub message : List ℕ
+  pub since : List ℕ
 
--- an object with that status in the place of its own; other values have no members, and stay
-abbrev pub with_status : Bool → Data → Data
-with_status up null = null
-with_status up (boolean b) = boolean b
-with_status up (number n) = number n
-with_status up (string s) = string s
-with_status up (array ds) = array ds
-with_status up (object ms) = object (put (codes "status") (status_of up) ms)
+-- the condition that says it
+abbrev pub condition_of : Report → Data
+condition_of r =
+    object (member (codes "lastTransitionTime") (string r.since) (member (codes "message") (string r.message)
+    (member (codes "reason") (string (reason_of r.up)) (member (codes "status") (string (word_of r.up))
+    (member (codes "type") (string (codes "Available")) no_members)))))
 
--- the text of a value with that status, where no number in it has a fraction, as no APIService has one
-abbrev pub text_with : Bool → List ℕ → Option Data → List ℕ
-text_with up text None = text
-text_with up text (Some d) = if has_float d then text else compact_text (with_status up d)
+abbrev pub is_other : Data → Bool
+is_other d = is_object d && not (is_available d)
 
--- the text of a row's object with that status
-abbrev pub object_with : Row → Bool → List ℕ
-object_with row up = text_with up row.object (value_of row.object)
+-- items, and then others
+abbrev pub joined : Items → Items → Items
+joined no_items es = es
+joined (item d ds) es = item d (joined ds es)
 
--- a row with that condition and that object
-abbrev pub with_condition : Row → Bool → List ℕ → Row
-with_condition row up text = record {
-  name = row.name;
-  group = row.group;
-  version = row.version;
-  group_priority = row.group_priority;
-  version_priority = row.version_priority;
-  service = row.service;
-  available = up;
-  object = text;
-}
+abbrev pub one_if : Bool → Data → Items
+one_if true d = item d no_items
+one_if false d = no_items
 
--- the text is read as that row, if the row is that of its own object
-abbrev pub IsReadBack : Row → Bool → List ℕ → Type 0
-IsReadBack row up text = read_row row.object ≡ Ok row → read_row text ≡ Ok (with_condition row up text)
+-- the conditions of other types
+abbrev pub others : Items → Items
+others no_items = no_items
+others (item d ds) = joined (one_if (is_other d) d) (others ds)
+
+-- one condition, and the others where no number in them has a fraction, as no APIService has one
+abbrev pub with_others : Data → Items → Items
+with_others own ds = item own (if items_have_float (others ds) then no_items else others ds)
+
+-- the patch of these conditions
+abbrev pub patch_of : Items → Data
+patch_of ds = object (member (codes "status") (object (member (codes "conditions") (array ds) no_members)) no_members)
+
+-- the patch by what a row's object says
+abbrev pub row_patch : Row → Report → Data
+row_patch row r = patch_of (with_others (condition_of r) (conditions_in (value_of row.object)))
+
+abbrev pub patch_text : Row → Report → List ℕ
+patch_text row r = compact_text (row_patch row r)

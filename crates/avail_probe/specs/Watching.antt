@@ -1,12 +1,15 @@
 -- What is known of rows whose services are probed, and when a condition is to change.
 use Rattle.std.specs.Prelude.{ℕ, ◌-◌, Bool, true, false, not, if◌then◌else◌, nat_le, List, [], ◌∷◌, ◌++◌, map, length, drop, Option, Some, None, option_and_then, slice_get, slice_set}
-use Rattle.std.specs.List.{list_all}
+use Rattle.std.specs.List.{list_all, list_any}
 use Rattle.apiservice_rows.specs.Row.{Row}
+use Rattle.avail_probe.specs.Status.{told_of}
 use Rattle.avail_probe.specs.declared.watcher.TheConstants.{MOST_PROBES}
 
--- a row's condition, up or down, and its last probes in their order, each of them good or bad
+-- a row's condition, up or down, if it has one; whether what was told of it last wasn't taken; and its last probes in their order, each of
+-- them good or bad
 pub record Watched : Type 0 where
-  pub up : Bool
+  pub told : Option Bool
+  pub refused : Bool
   pub probes : List Bool
 
 -- the last elements of a list, so many at most
@@ -26,18 +29,37 @@ are_so good probes = list_all (is_so good) probes
 abbrev pub are_last : ℕ → Bool → List Bool → Bool
 are_last n good probes = if nat_le n (length probes) then are_so good (last n probes) else false
 
--- the condition that is wished: up where it is down and so many last probes are there and all good, down where it is up and
--- they are there and all bad, and none otherwise
+-- up, or down, where so many last probes are there and all good, or all bad
+abbrev pub wish_for : ℕ → Bool → List Bool → Option Bool
+wish_for threshold up probes = if are_last threshold up probes then Some up else None
+
+abbrev pub either : Option Bool → Option Bool → Option Bool
+either None b = b
+either (Some up) b = Some up
+
+-- the condition that is wished: another one than it has, or any where it has none
+abbrev pub wish_by : ℕ → Option Bool → List Bool → Option Bool
+wish_by threshold None probes = either (wish_for threshold true probes) (wish_for threshold false probes)
+wish_by threshold (Some up) probes = wish_for threshold (not up) probes
+
 abbrev pub wish : ℕ → Watched → Option Bool
-wish threshold w = if are_last threshold (not w.up) w.probes then Some (not w.up) else None
+wish threshold w = wish_by threshold w.told w.probes
 
 -- a probe more, the last ones being kept
 abbrev pub probed : Bool → Watched → Watched
-probed good w = record { up = w.up; probes = last MOST_PROBES (w.probes ++ good ∷ []) }
+probed good w = record { told = w.told; refused = w.refused; probes = last MOST_PROBES (w.probes ++ good ∷ []) }
 
--- another condition; the probes stay
+-- what was told was taken: another condition; the probes stay
 abbrev pub put : Bool → Watched → Watched
-put up w = record { up = up; probes = w.probes }
+put up w = record { told = Some up; refused = false; probes = w.probes }
+
+-- it wasn't
+abbrev pub refuse : Watched → Watched
+refuse w = record { told = w.told; refused = true; probes = w.probes }
+
+-- what was told of some row last wasn't taken
+abbrev pub any_refused : List Watched → Bool
+any_refused rows = list_any (λ (w : Watched). w.refused) rows
 
 -- the rows that are watched, and how many probes decide
 pub record Watch : Type 0 where
@@ -46,7 +68,7 @@ pub record Watch : Type 0 where
 
 -- as rows are found: none was probed yet
 abbrev pub opened : List Row → List Watched
-opened rows = map (λ (row : Row). record { up = row.available; probes = [] }) rows
+opened rows = map (λ (row : Row). record { told = told_of row; refused = false; probes = [] }) rows
 
 -- the row at that place changed so; the others stay
 abbrev pub changed_at : Option Watched → ℕ → (Watched → Watched) → List Watched → List Watched
@@ -64,4 +86,4 @@ wish_at threshold at rows = option_and_then (wish threshold) (slice_get rows at)
 
 -- what is kept of a row by all of its probes
 abbrev pub kept : Watched → Watched
-kept w = record { up = w.up; probes = last MOST_PROBES w.probes }
+kept w = record { told = w.told; refused = w.refused; probes = last MOST_PROBES w.probes }

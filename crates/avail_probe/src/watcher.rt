@@ -1,6 +1,7 @@
-ghost use Rattle.std.specs.Prelude.{◌≡◌, ◌≤◌, ◌<◌, [], IfOk, length};
+ghost use Rattle.std.specs.Prelude.{◌≡◌, ◌≤◌, ◌<◌, [], false, IfOk, length};
 ghost use Rattle.avail_probe.specs.Watching as spec;
 
+use crate::patch::told_of;
 use apiservice_rows::Row;
 use arrayvec::ArrayVec;
 use front_base::NoMemory;
@@ -16,7 +17,8 @@ pub const MOST_THRESHOLD: u8 = 10;
 // The condition of a row, and its last probes.
 #[derive(Drop)]
 struct Condition {
-    up: bool,
+    told: Option<bool>,
+    refused: bool,
     probes: ArrayVec<bool, MOST_PROBES>,
 }
 
@@ -25,7 +27,7 @@ impl Model for Condition {
 
     ghost Value = { seen.Watched };
 
-    ghost view = { λ c. record { up = c.up; probes = c.probes.items } };
+    ghost view = { λ c. record { told = c.told; refused = c.refused; probes = c.probes.items } };
 }
 
 fn is_so(good: bool, probe: bool) -> bool
@@ -56,12 +58,32 @@ fn are_last(count: usize, good: bool, probes: &[bool]) -> bool
     are_so(good, &probes[probes.len() - count..])
 }
 
+fn wish_for(threshold: u8, up: bool, probes: &[bool]) -> Option<bool>
+    ensures { result ≡ spec.wish_for threshold up probes.now }
+{
+    if are_last(threshold as usize, up, probes) {
+        Some(up)
+    } else {
+        None
+    }
+}
+
+fn either(a: Option<bool>, b: Option<bool>) -> Option<bool>
+    ensures { result ≡ spec.either a b }
+{
+    match a {
+        Some(up) => Some(up),
+        None => b,
+    }
+}
+
 impl Condition {
-    fn new(up: bool) -> Condition
-        ensures { result ≡ record { up = up; probes = [] } }
+    fn new(told: Option<bool>) -> Condition
+        ensures { result ≡ record { told = told; refused = false; probes = [] } }
     {
         Condition {
-            up,
+            told,
+            refused: false,
             probes: ArrayVec::new(),
         }
     }
@@ -79,22 +101,32 @@ impl Condition {
     fn wish(&self, threshold: u8) -> Option<bool>
         ensures { result ≡ spec.wish threshold self.now }
     {
-        let wanted = !self.up;
-        if are_last(threshold as usize, wanted, self.probes.as_slice()) {
-            Some(wanted)
-        } else {
-            None
+        let probes = self.probes.as_slice();
+        match self.told {
+            Some(up) => wish_for(threshold, !up, probes),
+            None => either(
+                wish_for(threshold, true, probes),
+                wish_for(threshold, false, probes),
+            ),
         }
     }
 
     fn set(&mut self, up: bool)
         ensures { self.new ≡ spec.put up self.old }
     {
-        self.up = up;
+        self.told = Some(up);
+        self.refused = false;
+    }
+
+    fn refuse(&mut self)
+        ensures { self.new ≡ spec.refuse self.old }
+    {
+        self.refused = true;
     }
 }
 
-/// Watches rows by probes of their services. Contracts see the condition of each row and its last probes.
+/// Watches rows by probes of their services. Contracts see the condition of each row, its last probes, and whether what was told of it last
+/// wasn't taken.
 #[derive(Drop)]
 pub struct Watcher {
     threshold: u8,
@@ -118,7 +150,7 @@ impl Watcher {
     {
         let mut conditions = Vec::with_capacity(alloc, rows.len())?;
         for row in rows {
-            conditions.push(Condition::new(row.available))?;
+            conditions.push(Condition::new(told_of(alloc, row)?))?;
         }
         Ok(Watcher {
             threshold,
@@ -140,7 +172,7 @@ impl Watcher {
         row.wish(self.threshold)
     }
 
-    /// The row at that place has this condition now. Its probes stay.
+    /// The row at that place has this condition now, as it was told. Its probes stay.
     pub fn set(&mut self, at: u32, up: bool)
         requires { at < length self.old.rows }
         ensures rows { self.new.rows ≡ spec.changed at (spec.put up) self.old.rows }
@@ -148,5 +180,27 @@ impl Watcher {
         ensures length { length self.new.rows ≡ length self.old.rows }
     {
         self.rows[at as usize].set(up);
+    }
+
+    /// What was told of the row at that place wasn't taken. Its condition and its probes stay.
+    pub fn refuse(&mut self, at: u32)
+        requires { at < length self.old.rows }
+        ensures rows { self.new.rows ≡ spec.changed at spec.refuse self.old.rows }
+        ensures threshold { self.new.threshold ≡ self.old.threshold }
+        ensures length { length self.new.rows ≡ length self.old.rows }
+    {
+        self.rows[at as usize].refuse();
+    }
+
+    /// Whether what was told of some row last wasn't taken.
+    pub fn any_refused(&self) -> bool
+        ensures { result ≡ spec.any_refused self.now.rows }
+    {
+        for row in self.rows.as_slice() {
+            if row.refused {
+                return true;
+            }
+        }
+        false
     }
 }

@@ -1,8 +1,7 @@
-// Objects that say whether an APIService is available.
+// Objects of APIServices, and patches of them.
 use apiservice_rows::{Row, read_row};
-use avail_probe::object_with;
+use avail_probe::{patch_text, told_of};
 use case_rows::fields;
-use front_base::Bytes;
 use std::alloc::{AllocError, Global};
 
 /// The status member of an object by a sign: `+` for available, `-` for unavailable, anything else for none.
@@ -27,33 +26,21 @@ pub fn object_of(alloc: Global, group: &str, sign: &str) -> Result<String, Alloc
     )
 }
 
-// Whether the row of the object is the row that it was made of, but for the condition and the object.
-fn is_same(old: &Row, new: &Row, up: bool) -> bool {
-    old.name.as_str() == new.name.as_str()
-        && old.group.as_str() == new.group.as_str()
-        && old.version.as_str() == new.version.as_str()
-        && old.group_priority == new.group_priority
-        && old.version_priority == new.version_priority
-        && new.available == up
+fn show_row(alloc: Global, row: &Row, up: bool) -> Option<String> {
+    let told = match told_of(alloc, row).ok()? {
+        Some(true) => "up",
+        Some(false) => "down",
+        None => "nothing",
+    };
+    let patch = patch_text(alloc, row, up, "why", "when").ok()?;
+    let size = patch.as_slice().len();
+    let text = str::from_utf8(patch.as_slice()).ok()?;
+    format!(in alloc; "{told} {size} {text}").ok()
 }
 
-// Whether the text is the object of the same row with that condition.
-fn is_row(alloc: Global, old: &Row, object: &Bytes, up: bool) -> Option<bool> {
-    let new = read_row(alloc, object.as_slice()).ok()?;
-    Some(is_same(old, &new, up) && new.object.as_slice() == object.as_slice())
-}
-
-fn show_row(alloc: Global, old: &Row, up: bool) -> Option<String> {
-    let object = object_with(alloc, old, up).ok()?;
-    let same = is_row(alloc, old, &object, up)?;
-    let size = object.as_slice().len();
-    let text = str::from_utf8(object.as_slice()).ok()?;
-    format!(in alloc; "{size} {text} {same}").ok()
-}
-
-/// The object of a row with another condition, and whether its row is the same but for that.
+/// What a row's object says, and the patch that says another condition.
 pub fn show_object(alloc: Global, row: &str) -> Option<String> {
     let (word, text) = fields(row);
-    let old = read_row(alloc, text.as_bytes()).ok()?;
-    show_row(alloc, &old, word == "up")
+    let own = read_row(alloc, text.as_bytes()).ok()?;
+    show_row(alloc, &own, word == "up")
 }

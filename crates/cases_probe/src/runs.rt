@@ -8,7 +8,7 @@ use apiservice_table::{RouteTable, read_rows_fit};
 use case_rows::{fields, spelled};
 use front_base::{Address, MOST_FILE_BYTES, Moment, Text};
 use front_ports::{Call, MemBytes, MemClock, MemDial};
-use probe_rounds::{ProbePlan, ProbeStop, run_rounds};
+use probe_rounds::{GoesFor, ProbePlan, ProbeStop, run_rounds};
 use service_endpoints::{Endpoints, read_endpoints};
 use std::alloc::{AllocError, Global};
 
@@ -63,6 +63,22 @@ fn threshold(field: &str) -> u8
     }
 }
 
+// How many rounds there are, from 1.
+fn rounds(field: &str) -> u32
+    ensures { 1 ≤ result }
+{
+    let given = number(field, 0);
+    if given == 0 { 1 } else { given }
+}
+
+// The number at that place, if there is one.
+fn number_or(field: &str, place: usize, other: u32) -> u32 {
+    match field.split(' ').nth(place) {
+        Some(word) => word.parse().unwrap_or(other),
+        None => other,
+    }
+}
+
 fn token(alloc: Global, field: &str) -> Option<Text> {
     let word = field.split(' ').nth(2)?;
     Text::copy_of(alloc, word).ok()
@@ -91,7 +107,7 @@ fn places_of(alloc: Global, places: &str) -> Option<Endpoints> {
 
 // The front door is at port 8001 of this machine.
 fn plan_of(alloc: Global, places: &str, numbers: &str) -> Option<ProbePlan>
-    ensures { IfSome result (λ plan. (1 ≤ plan.threshold) × (plan.threshold ≤ 10)) }
+    ensures { IfSome result (λ plan. (1 ≤ plan.threshold) × (plan.threshold ≤ 10) × (1 ≤ plan.rounds)) }
 {
     let endpoints = places_of(alloc, places)?;
     Some(ProbePlan {
@@ -101,14 +117,16 @@ fn plan_of(alloc: Global, places: &str, numbers: &str) -> Option<ProbePlan>
             port: 8001,
         },
         token: token(alloc, numbers),
-        rounds: number(numbers, 0),
+        rounds: rounds(numbers),
+        every: number_or(numbers, 3, 0),
         threshold: threshold(numbers),
     })
 }
 
-fn word_of(end: Result<(), ProbeStop>) -> &'static str {
+fn word_of(end: Result<bool, ProbeStop>) -> &'static str {
     match end {
-        Ok(()) => "done",
+        Ok(false) => "done",
+        Ok(true) => "refused",
         Err(ProbeStop::WriteFault) => "write fault",
         Err(ProbeStop::NoMemory) => "no memory",
     }
@@ -117,31 +135,53 @@ fn word_of(end: Result<(), ProbeStop>) -> &'static str {
 fn written_by(
     alloc: Global,
     plan: &ProbePlan,
+    numbers: &str,
     table: &RouteTable,
     dial: &mut MemDial,
 ) -> Option<String>
-    requires { (1 ≤ plan.now.threshold) × (plan.now.threshold ≤ 10) }
+    requires { (1 ≤ plan.now.threshold) × (plan.now.threshold ≤ 10) × (1 ≤ plan.now.rounds) }
 {
-    let mut clock = MemClock::new(Moment::epoch(), 1);
+    let mut clock = MemClock::new(Moment::epoch(), number_or(numbers, 4, 1) as u64);
+    let mut going = GoesFor::new(number_or(numbers, 5, 0) as u64);
     let mut out = MemBytes::new(alloc, 65_536, Vec::new(alloc)).ok()?;
-    let word = word_of(run_rounds(alloc, plan, table.rows(), dial, &mut clock, &mut out));
+    let word = word_of(run_rounds(
+        alloc,
+        plan,
+        table.rows(),
+        dial,
+        &mut clock,
+        &mut going,
+        &mut out,
+    ));
     let written = spelled(alloc, out.bytes());
     format!(in alloc; "{word} {written}").ok()
 }
 
-fn run_over(alloc: Global, plan: &ProbePlan, table: &RouteTable, answers: &str) -> Option<Shown>
-    requires { (1 ≤ plan.now.threshold) × (plan.now.threshold ≤ 10) }
+fn run_over(
+    alloc: Global,
+    plan: &ProbePlan,
+    numbers: &str,
+    table: &RouteTable,
+    answers: &str,
+) -> Option<Shown>
+    requires { (1 ≤ plan.now.threshold) × (plan.now.threshold ≤ 10) × (1 ≤ plan.now.rounds) }
 {
     let mut dial = peer_of(alloc, answers).ok()?;
-    let text = written_by(alloc, plan, table, &mut dial)?;
+    let text = written_by(alloc, plan, numbers, table, &mut dial)?;
     Some(Shown { text, dial })
 }
 
-fn run_by(alloc: Global, plan: &ProbePlan, services: &str, answers: &str) -> Option<Shown>
-    requires { (1 ≤ plan.now.threshold) × (plan.now.threshold ≤ 10) }
+fn run_by(
+    alloc: Global,
+    plan: &ProbePlan,
+    numbers: &str,
+    services: &str,
+    answers: &str,
+) -> Option<Shown>
+    requires { (1 ≤ plan.now.threshold) × (plan.now.threshold ≤ 10) × (1 ≤ plan.now.rounds) }
 {
     let table = table_of(alloc, services)?;
-    run_over(alloc, plan, &table, answers)
+    run_over(alloc, plan, numbers, &table, answers)
 }
 
 fn run(alloc: Global, row: &str) -> Option<Shown> {
@@ -149,7 +189,7 @@ fn run(alloc: Global, row: &str) -> Option<Shown> {
     let (places, rest) = fields(rest);
     let (numbers, answers) = fields(rest);
     let plan = plan_of(alloc, places, numbers)?;
-    run_by(alloc, &plan, services, answers)
+    run_by(alloc, &plan, numbers, services, answers)
 }
 
 /// What a run writes.

@@ -1,2 +1,1 @@
-mod AskLemmas
 mod LineLemmas

@@ -15,16 +15,6 @@ lines_more base out new hs ks e f =
     f ∙ ap (λ l. l ++ header_lines ks) e ∙ append_assoc base (header_lines hs) (header_lines ks)
     ∙ ap (λ l. base ++ l) (sym (lines_join hs ks))
 
--- five lines
-pub five_lines : (base p q r s t : List ℕ) (a b c d e : Header) → p ≡ base ++ header_lines (a ∷ []) → q ≡ p ++ header_lines (b ∷ [])
-    → r ≡ q ++ header_lines (c ∷ []) → s ≡ r ++ header_lines (d ∷ []) → t ≡ s ++ header_lines (e ∷ [])
-    → t ≡ base ++ header_lines (a ∷ b ∷ c ∷ d ∷ e ∷ [])
-five_lines base p q r s t a b c d e one two three four five =
-    let q' = lines_more base p q (a ∷ []) (b ∷ []) one two in
-    let r' = lines_more base q r (a ∷ b ∷ []) (c ∷ []) q' three in
-    let s' = lines_more base r s (a ∷ b ∷ c ∷ []) (d ∷ []) r' four in
-    lines_more base s t (a ∷ b ∷ c ∷ d ∷ []) (e ∷ []) s' five
-
 ordered : (ts : List Header) (c d e : Header) → ((ts ++ c ∷ []) ++ d ∷ []) ++ e ∷ [] ≡ ts ++ (c ∷ d ∷ e ∷ [])
 ordered ts c d e = simp append_assoc
 
@@ -38,6 +28,18 @@ put_lines base p q r s t a c d e ts one two three four five =
     let s' = lines_more base r s (a ∷ (ts ++ c ∷ [])) (d ∷ []) r' four in
     lines_more base s t (a ∷ ((ts ++ c ∷ []) ++ d ∷ [])) (e ∷ []) s' five
     ∙ ap (λ hs. base ++ header_lines (a ∷ hs)) (ordered ts c d e)
+
+ordered_two : (ts : List Header) (c d : Header) → (ts ++ c ∷ []) ++ d ∷ [] ≡ ts ++ (c ∷ d ∷ [])
+ordered_two ts c d = simp append_assoc
+
+-- the same with two more
+pub put_two : (base p q r s : List ℕ) (a c d : Header) (ts : List Header) → p ≡ base ++ header_lines (a ∷ []) → q ≡ p ++ header_lines ts
+    → r ≡ q ++ header_lines (c ∷ []) → s ≡ r ++ header_lines (d ∷ []) → s ≡ base ++ header_lines (a ∷ (ts ++ (c ∷ d ∷ [])))
+put_two base p q r s a c d ts one two three four =
+    let q' = lines_more base p q (a ∷ []) ts one two in
+    let r' = lines_more base q r (a ∷ ts) (c ∷ []) q' three in
+    lines_more base r s (a ∷ (ts ++ c ∷ [])) (d ∷ []) r' four
+    ∙ ap (λ hs. base ++ header_lines (a ∷ hs)) (ordered_two ts c d)
 
 -- a first line, header lines and what ends them
 pub head_lines : (first end o p q r : List ℕ) (hs : List Header) → o ≡ [] → p ≡ o ++ first → q ≡ p ++ header_lines hs → r ≡ q ++ end

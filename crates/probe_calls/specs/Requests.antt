@@ -1,68 +1,84 @@
--- The requests of a prober (RFC 9112, sections 3 and 5; Kubernetes, "Configure the Aggregation Layer": the user stands in
--- X-Remote-User and X-Remote-Group).
-use Rattle.std.specs.Prelude.{ℕ, Bool, ◌==◌, if◌then◌else◌, List, [], ◌∷◌, ◌++◌, length, Option, Some, None, codes, decimal}
+-- The requests of a prober to a front door (RFC 9112, sections 3 and 5; RFC 7396; RFC 6750, section 2.1).
+use Rattle.std.specs.Prelude.{ℕ, Bool, if◌then◌else◌, List, [], ◌∷◌, ◌++◌, length, Option, Some, None, codes, decimal}
 use Rattle.apiservice_rows.specs.Row.{Row}
 use Rattle.apiservice_rows.specs.declared.service.ServiceRef.{ServiceRef}
-use Rattle.avail_probe.specs.Status.{object_with}
-use Rattle.forward_link.specs.Forwarded as forwarded
+use Rattle.avail_probe.specs.Status.{Report, patch_text}
 use Rattle.forward_link.specs.Forwarded.{address_text}
-use Rattle.forward_link.specs.declared.target.Target.TheVariants.{Service, Delegate}
+use Rattle.front_base.specs.Cut.{cut_at}
+use Rattle.front_base.specs.Moment.{moment_text}
 use Rattle.front_base.specs.declared.address.Address.{Address}
 use Rattle.http_head.specs.Written.{named, request_text}
 use Rattle.http_head.specs.declared.header.Header.{Header}
+use Rattle.service_calls.specs.Request.{path_of}
 
--- ---- a list of resources is asked for
+-- ---- what is told
 
--- the path of a version's resources; that of the core group has its own form
-abbrev pub list_path : List ℕ → List ℕ → List ℕ
-list_path group version =
-    if length group == 0 then codes "/api/v1" else codes "/apis/" ++ (group ++ (codes "/" ++ version))
+-- where a service lists the resources of a group version
+abbrev pub url_in : Option ServiceRef → List ℕ → List ℕ
+url_in None path = path
+url_in (Some service) path =
+    codes "http://" ++ (service.name ++ (codes "." ++ (service.namespace ++ (codes ".svc:" ++ (decimal service.port ++ path)))))
 
--- the host of a service, or of what is dialed without one (as requests are forwarded)
-abbrev pub host_of : Option ServiceRef → Address → List ℕ
-host_of None address = forwarded.host_of (Delegate address)
-host_of (Some service) address = forwarded.host_of (Service service address)
+abbrev pub url_of : Row → List ℕ
+url_of row = url_in row.service (path_of row.group row.version)
 
-abbrev pub list_headers : List ℕ → List Header
-list_headers host =
-    named (codes "Host") host ∷ named (codes "Accept") (codes "application/json")
-    ∷ named (codes "X-Remote-User") (codes "system:aggregator") ∷ named (codes "X-Remote-Group") (codes "system:masters")
-    ∷ named (codes "Connection") (codes "close") ∷ []
+-- in the words of kube-aggregator
+abbrev pub message_of : Row → Bool → List ℕ
+message_of row up = if up then codes "all checks passed" else codes "failing or missing response from " ++ url_of row
 
--- the request for the resources of a row's version, from what is dialed at that address
-unfoldable pub list_request : Row → Address → List ℕ
-list_request row address = request_text (record {
-  method = codes "GET";
-  target = list_path row.group row.version;
-  minor = 1;
-  headers = list_headers (host_of row.service address);
-})
+abbrev pub seconds_in : List ℕ → Option (List ℕ × List ℕ) → List ℕ
+seconds_in whole None = whole
+seconds_in whole (Some parts) = parts.0 ++ codes "Z"
 
--- ---- an object is put
+-- a moment's text without the fraction of its second
+abbrev pub seconds_text : ℕ → List ℕ
+seconds_text moment = seconds_in (moment_text moment) (cut_at 46 (moment_text moment))
+
+abbrev pub report_of : Row → Bool → ℕ → Report
+report_of row up moment = record { up = up; message = message_of row up; since = seconds_text moment }
+
+-- ---- how
 
 abbrev pub token_headers : Option (List ℕ) → List Header
 token_headers None = []
 token_headers (Some token) = named (codes "Authorization") (codes "Bearer " ++ token) ∷ []
 
-abbrev pub put_headers : Address → Option (List ℕ) → ℕ → List Header
-put_headers front token size =
+abbrev pub patch_headers : Address → Option (List ℕ) → ℕ → List Header
+patch_headers front token size =
     named (codes "Host") (address_text front)
     ∷ (token_headers token
-    ++ (named (codes "Content-Type") (codes "application/json") ∷ named (codes "Content-Length") (decimal size)
+    ++ (named (codes "Content-Type") (codes "application/merge-patch+json") ∷ named (codes "Content-Length") (decimal size)
     ∷ named (codes "Connection") (codes "close") ∷ []))
 
-abbrev pub put_path : List ℕ → List ℕ
-put_path name = codes "/apis/apiregistration.k8s.io/v1/apiservices/" ++ name
+abbrev pub object_path : List ℕ → List ℕ
+object_path name = codes "/apis/apiregistration.k8s.io/v1/apiservices/" ++ name
 
--- the head of a request that puts an object of that name and of so many bytes to a front door
-unfoldable pub put_head : Address → Option (List ℕ) → List ℕ → ℕ → List ℕ
-put_head front token name size = request_text (record {
-  method = codes "PUT";
-  target = put_path name;
+-- the head of a request that patches an object of that name by so many bytes
+unfoldable pub patch_head : Address → Option (List ℕ) → List ℕ → ℕ → List ℕ
+patch_head front token name size = request_text (record {
+  method = codes "PATCH";
+  target = object_path name;
   minor = 1;
-  headers = put_headers front token size;
+  headers = patch_headers front token size;
 })
 
--- the request that tells a front door that a row's service is available, or that it isn't
-unfoldable pub put_request : Address → Option (List ℕ) → Row → Bool → List ℕ
-put_request front token row up = put_head front token row.name (length (object_with row up)) ++ object_with row up
+-- the request that tells a front door that a row's service is available since that moment, or that it isn't
+unfoldable pub patch_request : Address → Option (List ℕ) → Row → Bool → ℕ → List ℕ
+patch_request front token row up moment =
+    patch_head front token row.name (length (patch_text row (report_of row up moment))) ++ patch_text row (report_of row up moment)
+
+-- ---- which APIServices there are
+
+abbrev pub list_headers : Address → Option (List ℕ) → List Header
+list_headers front token =
+    named (codes "Host") (address_text front)
+    ∷ (token_headers token ++ (named (codes "Accept") (codes "application/json") ∷ named (codes "Connection") (codes "close") ∷ []))
+
+-- the request that asks a front door for the list of its APIServices
+unfoldable pub rows_request : Address → Option (List ℕ) → List ℕ
+rows_request front token = request_text (record {
+  method = codes "GET";
+  target = codes "/apis/apiregistration.k8s.io/v1/apiservices";
+  minor = 1;
+  headers = list_headers front token;
+})

@@ -1,13 +1,13 @@
-//! The calls of a prober: a service is asked for the resources of its API, and a front door is told whether it is available.
+//! The requests of a prober to a front door.
 //!
-//! The main contract is that of `ask`: one call of the dial, with these bytes, and its answer is the status of the final head in
-//! what the link held. `list_request` gives the bytes that ask a service, `put_request` those that tell a front door.
+//! The main contracts are those of `patch_request`, the bytes of a merge patch of the conditions of one APIService, with the condition
+//! `Available` as kube-aggregator writes it; and of `rows_request`, the bytes that ask for the list of APIServices.
 //!
-//! Nothing is promised of what a service or a front door makes of a request; bodies of replies aren't read.
+//! Nothing is promised of what a front door makes of it.
 #![tactic(auto)]
 
-mod asking;
+mod listing;
 mod requests;
 
-pub use asking::{ask, is_good};
-pub use requests::{list_request, put_request};
+pub use listing::rows_request;
+pub use requests::patch_request;

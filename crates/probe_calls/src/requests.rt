@@ -1,76 +1,58 @@
 // The requests of a prober.
 ghost use Rattle.std.specs.Prelude.{◌≡◌, ◌++◌, Some, IfOk, OnOk, string_bytes};
-ghost use Rattle.forward_link.specs.Forwarded.{address_text};
+ghost use Rattle.avail_probe.specs.Status.{patch_text};
 ghost use Rattle.http_head.specs.Written.{header_lines};
 ghost use Rattle.probe_calls.specs.Requests as spec;
 
-use apiservice_rows::{Row, ServiceRef};
-use avail_probe::object_with;
-use front_base::{Address, Bytes, NoMemory, Text};
+use apiservice_rows::Row;
+use avail_probe::patch_text;
+use front_base::{Address, Bytes, Moment, NoMemory, Text, cut_at, moment_text};
 use http_head::{push_end, push_header, push_request_line};
+use service_calls::{address_text, list_path};
 use std::alloc::{AllocError, Global};
 
-fn list_path(alloc: Global, group: &str, version: &str) -> Result<String, AllocError>
-    ensures { IfOk result (λ path. string_bytes path ≡ spec.list_path group.now version.now) }
+fn url_of(alloc: Global, row: &Row) -> Result<String, AllocError>
+    ensures { IfOk result (λ url. string_bytes url ≡ spec.url_of row.now) }
 {
-    if group.is_empty() {
-        return String::from_str(alloc, "/api/v1");
-    }
-    format!(in alloc; "/apis/{group}/{version}")
-}
-
-fn address_text(alloc: Global, address: Address) -> Result<String, AllocError>
-    ensures { IfOk result (λ text. string_bytes text ≡ address_text address) }
-{
-    let ip = &address.ip;
-    let (a, b, c, d) = (ip[0], ip[1], ip[2], ip[3]);
-    let port = address.port;
-    format!(in alloc; "{a}.{b}.{c}.{d}:{port}")
-}
-
-fn host_of(
-    alloc: Global,
-    service: &Option<ServiceRef>,
-    address: Address,
-) -> Result<String, AllocError>
-    ensures { IfOk result (λ host. string_bytes host ≡ spec.host_of service.now address) }
-{
-    match service {
+    let path = list_path(alloc, row.group.as_str(), row.version.as_str())?;
+    match &row.service {
         Some(service) => {
             let name = service.name.as_str();
             let namespace = service.namespace.as_str();
             let port = service.port;
-            format!(in alloc; "{name}.{namespace}.svc:{port}")
+            format!(in alloc; "http://{name}.{namespace}.svc:{port}{path}")
         }
-        None => address_text(alloc, address),
+        None => Ok(path),
     }
 }
 
-fn push_list_headers(out: &mut Vec<u8>, host: &str) -> Result<(), AllocError>
-    ensures { OnOk result (out.new.items ≡ out.old.items ++ header_lines (spec.list_headers host.now)) }
+fn message_of(alloc: Global, row: &Row, up: bool) -> Result<String, AllocError>
+    ensures { IfOk result (λ text. string_bytes text ≡ spec.message_of row.now up) }
 {
-    push_header(out, "Host", host.as_bytes())?;
-    push_header(out, "Accept", b"application/json")?;
-    push_header(out, "X-Remote-User", b"system:aggregator")?;
-    push_header(out, "X-Remote-Group", b"system:masters")?;
-    push_header(out, "Connection", b"close")?;
-    Ok(())
+    if up {
+        return String::from_str(alloc, "all checks passed");
+    }
+    let url = url_of(alloc, row)?;
+    format!(in alloc; "failing or missing response from {url}")
 }
 
-/// The request for the resources of a row's version (Kubernetes, "API concepts": `APIResourceList`), to what is dialed at that
-/// address: the row's service, or the delegate of a row without one. It comes from the user `system:aggregator` of the group
-/// `system:masters`, as an aggregator's own requests do.
-#[tactic(auto, unfolding(crate::specs::Requests::list_request))]
-pub fn list_request(alloc: Global, row: &Row, address: Address) -> Result<Bytes, NoMemory>
-    ensures { IfOk result (λ text. text ≡ spec.list_request row.now address) }
+fn seconds_text(alloc: Global, moment: Moment) -> Result<String, NoMemory>
+    ensures { IfOk result (λ text. string_bytes text ≡ spec.seconds_text moment) }
 {
-    let path = list_path(alloc, row.group.as_str(), row.version.as_str())?;
-    let host = host_of(alloc, &row.service, address)?;
-    let mut out = Vec::new(alloc);
-    push_request_line(&mut out, "GET", path.as_str())?;
-    push_list_headers(&mut out, host.as_str())?;
-    push_end(&mut out)?;
-    Ok(Bytes::new(out))
+    let whole = moment_text(alloc, moment)?;
+    match cut_at(whole.as_str(), '.') {
+        Some((seconds, _)) => Ok(format!(in alloc; "{seconds}Z")?),
+        None => Ok(String::from_str(alloc, whole.as_str())?),
+    }
+}
+
+// What is told of a row.
+fn body_of(alloc: Global, row: &Row, up: bool, moment: Moment) -> Result<Bytes, NoMemory>
+    ensures { IfOk result (λ text. text ≡ patch_text row.now (spec.report_of row.now up moment)) }
+{
+    let message = message_of(alloc, row, up)?;
+    let since = seconds_text(alloc, moment)?;
+    patch_text(alloc, row, up, message.as_str(), since.as_str())
 }
 
 fn push_bearer(alloc: Global, out: &mut Vec<u8>, token: &str) -> Result<(), AllocError>
@@ -80,8 +62,9 @@ fn push_bearer(alloc: Global, out: &mut Vec<u8>, token: &str) -> Result<(), Allo
     push_header(out, "Authorization", value.as_bytes())
 }
 
+// The header of a token.
 #[tactic(auto, unfolding(http_head::specs::Written::header_lines))]
-fn push_token(alloc: Global, out: &mut Vec<u8>, token: &Option<Text>) -> Result<(), AllocError>
+pub fn push_token(alloc: Global, out: &mut Vec<u8>, token: &Option<Text>) -> Result<(), AllocError>
     ensures { OnOk result (out.new.items ≡ out.old.items ++ header_lines (spec.token_headers token.now)) }
 {
     match token {
@@ -90,58 +73,59 @@ fn push_token(alloc: Global, out: &mut Vec<u8>, token: &Option<Text>) -> Result<
     }
 }
 
-fn push_put_headers(
+fn push_patch_headers(
     alloc: Global,
     out: &mut Vec<u8>,
     front: Address,
     token: &Option<Text>,
     size: usize,
 ) -> Result<(), AllocError>
-    ensures { OnOk result (out.new.items ≡ out.old.items ++ header_lines (spec.put_headers front token.now size)) }
+    ensures { OnOk result (out.new.items ≡ out.old.items ++ header_lines (spec.patch_headers front token.now size)) }
 {
-    let host = address_text(alloc, front)?;
+    let host = address_text(alloc, &front)?;
     let digits = format!(in alloc; "{size}")?;
     push_header(out, "Host", host.as_bytes())?;
     push_token(alloc, out, token)?;
-    push_header(out, "Content-Type", b"application/json")?;
+    push_header(out, "Content-Type", b"application/merge-patch+json")?;
     push_header(out, "Content-Length", digits.as_bytes())?;
     push_header(out, "Connection", b"close")?;
     Ok(())
 }
 
-#[tactic(auto, unfolding(crate::specs::Requests::put_head))]
-fn put_head(
+#[tactic(auto, unfolding(crate::specs::Requests::patch_head))]
+fn patch_head(
     alloc: Global,
     front: Address,
     token: &Option<Text>,
     name: &str,
     size: usize,
 ) -> Result<Vec<u8>, AllocError>
-    ensures { IfOk result (λ head. head.items ≡ spec.put_head front token.now name.now size) }
+    ensures { IfOk result (λ head. head.items ≡ spec.patch_head front token.now name.now size) }
 {
     let path = format!(in alloc; "/apis/apiregistration.k8s.io/v1/apiservices/{name}")?;
     let mut out = Vec::new(alloc);
-    push_request_line(&mut out, "PUT", path.as_str())?;
-    push_put_headers(alloc, &mut out, front, token, size)?;
+    push_request_line(&mut out, "PATCH", path.as_str())?;
+    push_patch_headers(alloc, &mut out, front, token, size)?;
     push_end(&mut out)?;
     Ok(out)
 }
 
-/// The request that tells a front door whether a row's service is available: its object is put with the condition `Available`.
-/// `token` is that of the request's user, in the header `Authorization` (RFC 6750, section 2.1).
-#[tactic(auto, unfolding(crate::specs::Requests::put_request))]
-pub fn put_request(
+/// The request that tells a front door whether a row's service is available, since that moment: a merge patch of its conditions, and of
+/// nothing else. `token` is that of the request's user, in the header `Authorization` (RFC 6750, section 2.1).
+#[tactic(auto, unfolding(crate::specs::Requests::patch_request))]
+pub fn patch_request(
     alloc: Global,
     front: Address,
     token: &Option<Text>,
     row: &Row,
     up: bool,
+    moment: Moment,
 ) -> Result<Bytes, NoMemory>
-    ensures { IfOk result (λ text. text ≡ spec.put_request front token.now row.now up) }
+    ensures { IfOk result (λ text. text ≡ spec.patch_request front token.now row.now up moment) }
 {
-    let object = object_with(alloc, row, up)?;
-    let size = object.as_slice().len();
-    let mut text = put_head(alloc, front, token, row.name.as_str(), size)?;
-    text.extend_from_slice(object.as_slice())?;
+    let body = body_of(alloc, row, up, moment)?;
+    let size = body.as_slice().len();
+    let mut text = patch_head(alloc, front, token, row.name.as_str(), size)?;
+    text.extend_from_slice(body.as_slice())?;
     Ok(Bytes::new(text))
 }

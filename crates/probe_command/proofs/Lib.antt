@@ -1,2 +1,4 @@
 mod ConfigLemmas
+mod ListingLemmas
 mod RunLemmas
+mod TokenLemmas

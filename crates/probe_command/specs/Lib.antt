@@ -1,2 +1,4 @@
 pub mod Config
+pub mod Listing
 pub mod Run
+pub mod Token

@@ -1,8 +1,9 @@
 -- Steps of a run, one after another.
 use Rattle.std.proofs.Common.{◌≡◌, ℕ, List, [], ◌∷◌, ◌++◌, Option, None, Some, refl, sym, ap, subst, ◌∙◌, append_assoc, append-nil, inl, inr}
+use Rattle.service_calls.specs.Calls.{DialState, Due}
 use Rattle.std.specs.Io.KnownBytes.{Appends}
 use Rattle.front_ports.specs.Cause.{Rose}
-use Rattle.probe_calls.specs.Contacts.{Asks, Contact, DialTells, Due, Makes, MakesPart, answers, dues, left_dues}
+use Rattle.service_calls.specs.Contacts.{Asks, Contact, Makes, MakesPart, answers, dues, left_dues}
 use Rattle.probe_rounds.specs.Rounds.{Course, called, next_answer}
 use Rattle.probe_rounds.specs.Standing.{Begins, BeginsSo, Breaks, Extends, Goes, OutTells, Stand, StopsAsking, StopsBy, course, stand}
 use Rattle.probe_rounds.specs.declared.stop.ProbeStop.{ProbeStop}
@@ -44,7 +45,7 @@ goes_same f g p q same h = record {
   sound = h.sound;
 }
 
-pub breaks_same : (f g : Course → Course) (p : Stand) (stop : ProbeStop) (d : DialTells) (o : OutTells) → ((c : Course) → g c ≡ f c)
+pub breaks_same : (f g : Course → Course) (p : Stand) (stop : ProbeStop) (d : DialState) (o : OutTells) → ((c : Course) → g c ≡ f c)
     → Breaks f p stop d o → Breaks g p stop d o
 breaks_same f g p stop d o same h = record {
   contacts = h.contacts;
@@ -103,7 +104,7 @@ module _ (f g : Course → Course) (p q : Stand) (h : Goes f p q) where
     sound = k.sound ∙ h.sound;
   }
 
-  pub breaks_then : (stop : ProbeStop) (d : DialTells) (o : OutTells) → Breaks g q stop d o → Breaks (λ c. g (f c)) p stop d o
+  pub breaks_then : (stop : ProbeStop) (d : DialState) (o : OutTells) → Breaks g q stop d o → Breaks (λ c. g (f c)) p stop d o
   breaks_then stop d o k = record {
     contacts = h.contacts ++ k.contacts;
     left = k.left;
@@ -129,7 +130,7 @@ begins_more : {T : Type 0} → (front xs ys : List T) → Begins front xs → Be
 begins_more front xs ys h k = (h.0 ++ k.0, k.1 ∙ ap (λ l. l ++ k.0) h.1 ∙ append_assoc front h.0 k.0)
 
 -- a step that broke off is a part of what it is with another step after it
-pub breaks_before : (f g : Course → Course) (p : Stand) (stop : ProbeStop) (d : DialTells) (o : OutTells) → Extends g → Breaks f p stop d o
+pub breaks_before : (f g : Course → Course) (p : Stand) (stop : ProbeStop) (d : DialState) (o : OutTells) → Extends g → Breaks f p stop d o
     → Breaks (λ c. g (f c)) p stop d o
 breaks_before f g p stop d o more h = record {
   contacts = h.contacts;
@@ -145,10 +146,20 @@ breaks_before f g p stop d o more h = record {
   stops = h.stops;
 }
 
+-- the same of its calls and its text alone
+pub begins_before : (f g : Course → Course) (p : Stand) (stop : ProbeStop) (d : DialState) (o : OutTells) → Extends g → (h : Breaks f p stop d o)
+    → (others : List (Option ℕ)) (calls : List Due) (before : List ℕ)
+    → BeginsSo (calls ++ (dues h.contacts ++ left_dues h.left)) (before ++ h.text) (g (f (course p.rows (answers h.contacts ++ others) calls before)))
+begins_before f g p stop d o more h others calls before =
+    let c = f (course p.rows (answers h.contacts ++ others) calls before) in
+    let here = h.begins others calls before in
+    let there = more c in
+    (begins_more _ c.calls (g c).calls here.0 there.0, begins_more _ c.text (g c).text here.1 there.1)
+
 -- ---- a call
 
 -- a call, and then a step by its answer
-pub asks_then : (due : Due) (answer : Option ℕ) (k : Option ℕ → Course → Course) (p q : Stand) (d : DialTells) → Asks due answer p.dial d
+pub asks_then : (due : Due) (answer : Option ℕ) (k : Option ℕ → Course → Course) (p q : Stand) (d : DialState) → Asks due answer p.dial d
     → Goes (k answer) (stand p.rows d p.out) q → Goes (λ c. k (next_answer c.answers) (called due c)) p q
 asks_then due answer k p q d a h =
     let made : Makes (a.contact ∷ h.contacts) p.dial q.dial =
@@ -166,7 +177,7 @@ asks_then due answer k p q d a h =
       sound = h.sound;
     }
 
-pub asks_breaks : (due : Due) (answer : Option ℕ) (k : Option ℕ → Course → Course) (p : Stand) (d e : DialTells) (stop : ProbeStop) (o : OutTells)
+pub asks_breaks : (due : Due) (answer : Option ℕ) (k : Option ℕ → Course → Course) (p : Stand) (d e : DialState) (stop : ProbeStop) (o : OutTells)
     → Asks due answer p.dial d → Breaks (k answer) (stand p.rows d p.out) stop e o
     → Breaks (λ c. k (next_answer c.answers) (called due c)) p stop e o
 asks_breaks due answer k p d e stop o a h = record {
@@ -188,7 +199,7 @@ asks_breaks due answer k p d e stop o a h = record {
 }
 
 -- memory ran out before the answer
-pub asking_breaks : (due : Due) (k : Option ℕ → Course → Course) (p : Stand) (d : DialTells) → ((answer : Option ℕ) → Extends (k answer))
+pub asking_breaks : (due : Due) (k : Option ℕ → Course → Course) (p : Stand) (d : DialState) → ((answer : Option ℕ) → Extends (k answer))
     → StopsAsking due p.dial d → Breaks (λ c. k (next_answer c.answers) (called due c)) p NoMemory d p.out
 asking_breaks due k p d more (inl same) = record {
   contacts = [];

@@ -1,9 +1,10 @@
 -- Calls of a dial, one list of them after another.
 use Rattle.std.proofs.Common.{◌≡◌, ℕ, ◌+◌, ◌&&◌, Bool, true, false, List, [], ◌∷◌, ◌++◌, Option, None, Some, refl, sym, ap, subst, ◌∙◌, append_assoc, append-nil, add_assoc, zero-add, arith}
+use Rattle.service_calls.specs.Calls.{DialState}
 use Rattle.std.proofs.lemmas.List.{map-append}
 use Rattle.std.specs.List.{AllByRecursion}
 use Rattle.front_ports.specs.declared.dial.Call.{Call}
-use Rattle.probe_calls.specs.Contacts.{Contact, DialTells, IsContact, Joined, Left, Makes, MakesPart, RoseBy, all_dialed, answers, dial_failures, dues, left_noted, link_failures, noted, one_if_broken, one_if_not_dialed, was_dialed}
+use Rattle.service_calls.specs.Contacts.{Contact, IsContact, Joined, Left, Makes, MakesPart, RoseBy, all_dialed, answers, dial_failures, dues, left_noted, link_failures, noted, one_if_broken, one_if_not_dialed, was_dialed}
 
 and_false : (b : Bool) → (b && false) ≡ false
 and_false true = refl
@@ -55,7 +56,7 @@ rose_join : (m n a b c : ℕ) → RoseBy m a b → RoseBy n b c → RoseBy (m + 
 rose_join m n a b c h k = omega (arith, h, k)
 
 -- calls that were all made, and then some of which the last may have been left off
-pub makes_part : (xs ys : List Contact) (left : Option Left) (p m q : DialTells) → Makes xs p m → MakesPart ys left m q
+pub makes_part : (xs ys : List Contact) (left : Option Left) (p m q : DialState) → Makes xs p m → MakesPart ys left m q
     → MakesPart (xs ++ ys) left p q
 makes_part xs ys left p m q h k =
     let calls : Joined (all_dialed xs && all_dialed ys) p.calls q.calls (noted xs ++ (noted ys ++ left_noted left)) =
@@ -74,7 +75,7 @@ makes_part xs ys left p m q h k =
     }
 
 -- none of which was
-pub part_of : (xs : List Contact) (p q : DialTells) → Makes xs p q → MakesPart xs None p q
+pub part_of : (xs : List Contact) (p q : DialState) → Makes xs p q → MakesPart xs None p q
 part_of xs p q h = record {
   each = h.each;
   last = tt;
@@ -83,7 +84,7 @@ part_of xs p q h = record {
   links = h.links;
 }
 
-pub whole_of : (xs : List Contact) (p q : DialTells) → MakesPart xs None p q → Makes xs p q
+pub whole_of : (xs : List Contact) (p q : DialState) → MakesPart xs None p q → Makes xs p q
 whole_of xs p q h = record {
   each = h.each;
   calls = subst (Joined (all_dialed xs) p.calls q.calls) (append-nil (noted xs)) h.calls;
@@ -91,12 +92,12 @@ whole_of xs p q h = record {
   links = h.links;
 }
 
-pub makes_join : (xs ys : List Contact) (p m q : DialTells) → Makes xs p m → Makes ys m q → Makes (xs ++ ys) p q
+pub makes_join : (xs ys : List Contact) (p m q : DialState) → Makes xs p m → Makes ys m q → Makes (xs ++ ys) p q
 makes_join xs ys p m q h k = whole_of (xs ++ ys) p q (makes_part xs ys None p m q h (part_of ys m q k))
 
 joined_same : (a : Option (List Call)) → Joined true a a []
 joined_same None = refl
 joined_same (Some first) = sym (append-nil first)
 
-pub makes_none : (p : DialTells) → Makes [] p p
+pub makes_none : (p : DialState) → Makes [] p p
 makes_none p = record { each = tt; calls = joined_same p.calls; dials = omega arith; links = omega arith }

@@ -1,17 +1,20 @@
 // A row's turn in a round.
 ghost use Rattle.std.specs.Prelude.{◌≡◌, ◌<◌, Some, IfErr, IfOk, OnErr, OnOk, length};
-ghost use Rattle.probe_calls.specs.Contacts.{Asks, DialTells};
 ghost use Rattle.probe_rounds.specs.Rounds as spec;
-ghost use Rattle.probe_rounds.specs.Standing.{Breaks, Goes, Probes, StopsAsking, StopsProbing, dial_tells, out_tells, stand};
+ghost use Rattle.probe_rounds.specs.Standing.{Breaks, Goes, Probes, StopsAsking, StopsProbing, out_tells, stand};
+ghost use Rattle.service_calls.specs.Calls.{DialState, dial_state};
+ghost use Rattle.service_calls.specs.Contacts.{Asks};
 
 use crate::line::write_line;
 use crate::plan::ProbePlan;
+use crate::round::Round;
 use crate::stop::ProbeStop;
 use apiservice_rows::Row;
 use avail_probe::Watcher;
 use front_base::{Address, NoMemory};
 use front_ports::{ByteSink, Dial};
-use probe_calls::{ask, is_good, list_request, put_request};
+use probe_calls::patch_request;
+use service_calls::{ask, is_good, list_request};
 use std::alloc::Global;
 
 // Asks a service at that address, and says whether its probe is good.
@@ -22,13 +25,13 @@ fn probe_at<D: Dial>(
     dial: &mut D,
 ) -> Result<bool, NoMemory>
     ensures ok { IfOk result (λ good. Probes row.now (Some address) good
-        (dial_tells (D.calls dial.old) (D.faults dial.old) (D.link_faults dial.old))
-        (dial_tells (D.calls dial.new) (D.faults dial.new) (D.link_faults dial.new))) }
+        (dial_state (D.calls dial.old) (D.faults dial.old) (D.link_faults dial.old))
+        (dial_state (D.calls dial.new) (D.faults dial.new) (D.link_faults dial.new))) }
     ensures err { OnErr result (StopsAsking (spec.list_due row.now address)
-        (dial_tells (D.calls dial.old) (D.faults dial.old) (D.link_faults dial.old))
-        (dial_tells (D.calls dial.new) (D.faults dial.new) (D.link_faults dial.new))) }
+        (dial_state (D.calls dial.old) (D.faults dial.old) (D.link_faults dial.old))
+        (dial_state (D.calls dial.new) (D.faults dial.new) (D.link_faults dial.new))) }
 {
-    match list_request(alloc, row, address) {
+    match list_request(alloc, row, &address) {
         Ok(request) => match ask(alloc, dial, address, request.as_slice()) {
             Ok(answer) => Ok(is_good(answer)),
             Err(NoMemory) => Err(NoMemory),
@@ -45,11 +48,11 @@ fn probe<D: Dial>(
     dial: &mut D,
 ) -> Result<bool, NoMemory>
     ensures ok { IfOk result (λ good. Probes row.now address good
-        (dial_tells (D.calls dial.old) (D.faults dial.old) (D.link_faults dial.old))
-        (dial_tells (D.calls dial.new) (D.faults dial.new) (D.link_faults dial.new))) }
+        (dial_state (D.calls dial.old) (D.faults dial.old) (D.link_faults dial.old))
+        (dial_state (D.calls dial.new) (D.faults dial.new) (D.link_faults dial.new))) }
     ensures err { OnErr result (StopsProbing row.now address
-        (dial_tells (D.calls dial.old) (D.faults dial.old) (D.link_faults dial.old))
-        (dial_tells (D.calls dial.new) (D.faults dial.new) (D.link_faults dial.new))) }
+        (dial_state (D.calls dial.old) (D.faults dial.old) (D.link_faults dial.old))
+        (dial_state (D.calls dial.new) (D.faults dial.new) (D.link_faults dial.new))) }
 {
     match address {
         Some(address) => probe_at(alloc, row, address, dial),
@@ -61,18 +64,20 @@ fn probe<D: Dial>(
 fn put<D: Dial>(
     alloc: Global,
     plan: &ProbePlan,
+    round: &Round,
     row: &Row,
     up: bool,
     dial: &mut D,
 ) -> Result<Option<u16>, NoMemory>
-    ensures ok { IfOk result (λ answer. Asks (spec.put_due plan.now row.now up) answer
-        (dial_tells (D.calls dial.old) (D.faults dial.old) (D.link_faults dial.old))
-        (dial_tells (D.calls dial.new) (D.faults dial.new) (D.link_faults dial.new))) }
-    ensures err { OnErr result (StopsAsking (spec.put_due plan.now row.now up)
-        (dial_tells (D.calls dial.old) (D.faults dial.old) (D.link_faults dial.old))
-        (dial_tells (D.calls dial.new) (D.faults dial.new) (D.link_faults dial.new))) }
+    ensures ok { IfOk result (λ answer. Asks (spec.put_due plan.now round.now row.now up) answer
+        (dial_state (D.calls dial.old) (D.faults dial.old) (D.link_faults dial.old))
+        (dial_state (D.calls dial.new) (D.faults dial.new) (D.link_faults dial.new))) }
+    ensures err { OnErr result (StopsAsking (spec.put_due plan.now round.now row.now up)
+        (dial_state (D.calls dial.old) (D.faults dial.old) (D.link_faults dial.old))
+        (dial_state (D.calls dial.new) (D.faults dial.new) (D.link_faults dial.new))) }
 {
-    match put_request(alloc, plan.front, &plan.token, row, up) {
+    let moment = round.moment;
+    match patch_request(alloc, plan.front, &plan.token, row, up, moment) {
         Ok(request) => match ask(alloc, dial, plan.front, request.as_slice()) {
             Ok(answer) => Ok(answer),
             Err(NoMemory) => Err(NoMemory),
@@ -81,7 +86,7 @@ fn put<D: Dial>(
     }
 }
 
-// The row has the condition that the front door took.
+// The row has the condition that the front door took, or was refused.
 fn take(watcher: &mut Watcher, at: u32, up: bool, answer: Option<u16>)
     requires { at < length watcher.old.rows }
     ensures rows { watcher.new.rows ≡ spec.rows_after (spec.is_taken answer) at up watcher.old.rows }
@@ -90,13 +95,15 @@ fn take(watcher: &mut Watcher, at: u32, up: bool, answer: Option<u16>)
 {
     if let Some(200) = answer {
         watcher.set(at, up);
+    } else {
+        watcher.refuse(at);
     }
 }
 
 // Writes what the front door answered, and takes it.
 fn note<O: ByteSink>(
     alloc: Global,
-    round: u32,
+    round: &Round,
     at: u32,
     row: &Row,
     up: bool,
@@ -105,16 +112,17 @@ fn note<O: ByteSink>(
     out: &mut O,
 ) -> Result<(), ProbeStop>
     requires { at < length watcher.old.rows }
-    ensures ok { OnOk result ((d : DialTells) → Goes (spec.told round at row.now up answer)
+    ensures ok { OnOk result ((d : DialState) → Goes (spec.told round.now at row.now up answer)
         (stand watcher.old.rows d (out_tells (O.written out.old) (O.write_faults out.old)))
         (stand watcher.new.rows d (out_tells (O.written out.new) (O.write_faults out.new)))) }
-    ensures err { IfErr result (λ stop. (d : DialTells) → Breaks (spec.told round at row.now up answer)
+    ensures err { IfErr result (λ stop. (d : DialState) → Breaks (spec.told round.now at row.now up answer)
         (stand watcher.old.rows d (out_tells (O.written out.old) (O.write_faults out.old))) stop d
         (out_tells (O.written out.new) (O.write_faults out.new))) }
     ensures threshold { watcher.new.threshold ≡ watcher.old.threshold }
     ensures length { length watcher.new.rows ≡ length watcher.old.rows }
 {
-    match write_line(alloc, round, row.name.as_str(), up, answer, out) {
+    let number = round.number;
+    match write_line(alloc, number, row.name.as_str(), up, answer, out) {
         Ok(()) => {
             take(watcher, at, up, answer);
             Ok(())
@@ -127,7 +135,7 @@ fn note<O: ByteSink>(
 fn tell<D: Dial, O: ByteSink>(
     alloc: Global,
     plan: &ProbePlan,
-    round: u32,
+    round: &Round,
     at: u32,
     row: &Row,
     up: bool,
@@ -136,20 +144,20 @@ fn tell<D: Dial, O: ByteSink>(
     out: &mut O,
 ) -> Result<(), ProbeStop>
     requires { at < length watcher.old.rows }
-    ensures ok { OnOk result (Goes (spec.tells plan.now round at row.now up)
-        (stand watcher.old.rows (dial_tells (D.calls dial.old) (D.faults dial.old) (D.link_faults dial.old))
+    ensures ok { OnOk result (Goes (spec.tells plan.now round.now at row.now up)
+        (stand watcher.old.rows (dial_state (D.calls dial.old) (D.faults dial.old) (D.link_faults dial.old))
         (out_tells (O.written out.old) (O.write_faults out.old)))
-        (stand watcher.new.rows (dial_tells (D.calls dial.new) (D.faults dial.new) (D.link_faults dial.new))
+        (stand watcher.new.rows (dial_state (D.calls dial.new) (D.faults dial.new) (D.link_faults dial.new))
         (out_tells (O.written out.new) (O.write_faults out.new)))) }
-    ensures err { IfErr result (λ stop. Breaks (spec.tells plan.now round at row.now up)
-        (stand watcher.old.rows (dial_tells (D.calls dial.old) (D.faults dial.old) (D.link_faults dial.old))
+    ensures err { IfErr result (λ stop. Breaks (spec.tells plan.now round.now at row.now up)
+        (stand watcher.old.rows (dial_state (D.calls dial.old) (D.faults dial.old) (D.link_faults dial.old))
         (out_tells (O.written out.old) (O.write_faults out.old))) stop
-        (dial_tells (D.calls dial.new) (D.faults dial.new) (D.link_faults dial.new))
+        (dial_state (D.calls dial.new) (D.faults dial.new) (D.link_faults dial.new))
         (out_tells (O.written out.new) (O.write_faults out.new))) }
     ensures threshold { watcher.new.threshold ≡ watcher.old.threshold }
     ensures length { length watcher.new.rows ≡ length watcher.old.rows }
 {
-    match put(alloc, plan, row, up, dial) {
+    match put(alloc, plan, round, row, up, dial) {
         Ok(answer) => match note(alloc, round, at, row, up, answer, watcher, out) {
             Ok(()) => Ok(()),
             Err(stop) => Err(stop),
@@ -162,7 +170,7 @@ fn tell<D: Dial, O: ByteSink>(
 fn judge<D: Dial, O: ByteSink>(
     alloc: Global,
     plan: &ProbePlan,
-    round: u32,
+    round: &Round,
     at: u32,
     row: &Row,
     good: bool,
@@ -172,15 +180,15 @@ fn judge<D: Dial, O: ByteSink>(
 ) -> Result<(), ProbeStop>
     requires inside { at < length watcher.old.rows }
     requires threshold { watcher.old.threshold ≡ plan.now.threshold }
-    ensures ok { OnOk result (Goes (spec.judged plan.now round at row.now good)
-        (stand watcher.old.rows (dial_tells (D.calls dial.old) (D.faults dial.old) (D.link_faults dial.old))
+    ensures ok { OnOk result (Goes (spec.judged plan.now round.now at row.now good)
+        (stand watcher.old.rows (dial_state (D.calls dial.old) (D.faults dial.old) (D.link_faults dial.old))
         (out_tells (O.written out.old) (O.write_faults out.old)))
-        (stand watcher.new.rows (dial_tells (D.calls dial.new) (D.faults dial.new) (D.link_faults dial.new))
+        (stand watcher.new.rows (dial_state (D.calls dial.new) (D.faults dial.new) (D.link_faults dial.new))
         (out_tells (O.written out.new) (O.write_faults out.new)))) }
-    ensures err { IfErr result (λ stop. Breaks (spec.judged plan.now round at row.now good)
-        (stand watcher.old.rows (dial_tells (D.calls dial.old) (D.faults dial.old) (D.link_faults dial.old))
+    ensures err { IfErr result (λ stop. Breaks (spec.judged plan.now round.now at row.now good)
+        (stand watcher.old.rows (dial_state (D.calls dial.old) (D.faults dial.old) (D.link_faults dial.old))
         (out_tells (O.written out.old) (O.write_faults out.old))) stop
-        (dial_tells (D.calls dial.new) (D.faults dial.new) (D.link_faults dial.new))
+        (dial_state (D.calls dial.new) (D.faults dial.new) (D.link_faults dial.new))
         (out_tells (O.written out.new) (O.write_faults out.new))) }
     ensures threshold { watcher.new.threshold ≡ watcher.old.threshold }
     ensures length { length watcher.new.rows ≡ length watcher.old.rows }
@@ -198,7 +206,7 @@ fn judge<D: Dial, O: ByteSink>(
 fn ask_and_judge<D: Dial, O: ByteSink>(
     alloc: Global,
     plan: &ProbePlan,
-    round: u32,
+    round: &Round,
     at: u32,
     row: &Row,
     address: Option<Address>,
@@ -208,15 +216,15 @@ fn ask_and_judge<D: Dial, O: ByteSink>(
 ) -> Result<(), ProbeStop>
     requires inside { at < length watcher.old.rows }
     requires threshold { watcher.old.threshold ≡ plan.now.threshold }
-    ensures ok { OnOk result (Goes (spec.asks plan.now round at row.now address)
-        (stand watcher.old.rows (dial_tells (D.calls dial.old) (D.faults dial.old) (D.link_faults dial.old))
+    ensures ok { OnOk result (Goes (spec.asks plan.now round.now at row.now address)
+        (stand watcher.old.rows (dial_state (D.calls dial.old) (D.faults dial.old) (D.link_faults dial.old))
         (out_tells (O.written out.old) (O.write_faults out.old)))
-        (stand watcher.new.rows (dial_tells (D.calls dial.new) (D.faults dial.new) (D.link_faults dial.new))
+        (stand watcher.new.rows (dial_state (D.calls dial.new) (D.faults dial.new) (D.link_faults dial.new))
         (out_tells (O.written out.new) (O.write_faults out.new)))) }
-    ensures err { IfErr result (λ stop. Breaks (spec.asks plan.now round at row.now address)
-        (stand watcher.old.rows (dial_tells (D.calls dial.old) (D.faults dial.old) (D.link_faults dial.old))
+    ensures err { IfErr result (λ stop. Breaks (spec.asks plan.now round.now at row.now address)
+        (stand watcher.old.rows (dial_state (D.calls dial.old) (D.faults dial.old) (D.link_faults dial.old))
         (out_tells (O.written out.old) (O.write_faults out.old))) stop
-        (dial_tells (D.calls dial.new) (D.faults dial.new) (D.link_faults dial.new))
+        (dial_state (D.calls dial.new) (D.faults dial.new) (D.link_faults dial.new))
         (out_tells (O.written out.new) (O.write_faults out.new))) }
     ensures threshold { watcher.new.threshold ≡ watcher.old.threshold }
     ensures length { length watcher.new.rows ≡ length watcher.old.rows }
@@ -234,7 +242,7 @@ fn ask_and_judge<D: Dial, O: ByteSink>(
 pub fn turn<D: Dial, O: ByteSink>(
     alloc: Global,
     plan: &ProbePlan,
-    round: u32,
+    round: &Round,
     at: u32,
     row: &Row,
     watcher: &mut Watcher,
@@ -243,15 +251,15 @@ pub fn turn<D: Dial, O: ByteSink>(
 ) -> Result<(), ProbeStop>
     requires inside { at < length watcher.old.rows }
     requires threshold { watcher.old.threshold ≡ plan.now.threshold }
-    ensures ok { OnOk result (Goes (spec.turn plan.now round at row.now)
-        (stand watcher.old.rows (dial_tells (D.calls dial.old) (D.faults dial.old) (D.link_faults dial.old))
+    ensures ok { OnOk result (Goes (spec.turn plan.now round.now at row.now)
+        (stand watcher.old.rows (dial_state (D.calls dial.old) (D.faults dial.old) (D.link_faults dial.old))
         (out_tells (O.written out.old) (O.write_faults out.old)))
-        (stand watcher.new.rows (dial_tells (D.calls dial.new) (D.faults dial.new) (D.link_faults dial.new))
+        (stand watcher.new.rows (dial_state (D.calls dial.new) (D.faults dial.new) (D.link_faults dial.new))
         (out_tells (O.written out.new) (O.write_faults out.new)))) }
-    ensures err { IfErr result (λ stop. Breaks (spec.turn plan.now round at row.now)
-        (stand watcher.old.rows (dial_tells (D.calls dial.old) (D.faults dial.old) (D.link_faults dial.old))
+    ensures err { IfErr result (λ stop. Breaks (spec.turn plan.now round.now at row.now)
+        (stand watcher.old.rows (dial_state (D.calls dial.old) (D.faults dial.old) (D.link_faults dial.old))
         (out_tells (O.written out.old) (O.write_faults out.old))) stop
-        (dial_tells (D.calls dial.new) (D.faults dial.new) (D.link_faults dial.new))
+        (dial_state (D.calls dial.new) (D.faults dial.new) (D.link_faults dial.new))
         (out_tells (O.written out.new) (O.write_faults out.new))) }
     ensures threshold { watcher.new.threshold ≡ watcher.old.threshold }
     ensures length { length watcher.new.rows ≡ length watcher.old.rows }

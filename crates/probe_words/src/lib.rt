@@ -11,4 +11,4 @@ mod numbers;
 mod probe;
 
 pub use fault::ProbeFault;
-pub use probe::{ProbeWords, read_probe};
+pub use probe::{ProbeWords, is_token_byte, read_probe};

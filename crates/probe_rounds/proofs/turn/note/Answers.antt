@@ -9,10 +9,10 @@ pub returns-in-Ok-clause-ok : goal.returns-in-Ok-clause-ok
 returns-in-Ok-clause-ok g c = λ d.
     let O = g.O.ByteSink in
     let name : c.as_str.result.now ≡ c.args.row.now.name = search rules in
-    told_goes c.args.round c.args.at c.args.row.now c.args.up c.args.answer c.args.watcher.now.rows c.take.new.watcher.rows d
+    told_goes c.args.round.now c.args.at c.args.row.now c.args.up c.args.answer c.args.watcher.now.rows c.take.new.watcher.rows d
     (out_tells (O.written c.args.out.now) (O.write_faults c.args.out.now))
     (out_tells (O.written c.write_line.new.out) (O.write_faults c.write_line.new.out)) c.take.ensures.rows
-    (subst (λ n. Appends (O.written c.args.out.now) (O.written c.write_line.new.out) (line c.args.round n c.args.up c.args.answer))
+    (subst (λ n. Appends (O.written c.args.out.now) (O.written c.write_line.new.out) (line c.args.round.now.number n c.args.up c.args.answer))
     name c.in-Ok.ensures.ok)
     c.in-Ok.ensures.sound
 
@@ -22,5 +22,5 @@ returns-in-Err-clause-err g c = λ d.
     let name : c.as_str.result.now ≡ c.args.row.now.name = search rules in
     let before : OutTells = out_tells (O.written c.args.out.now) (O.write_faults c.args.out.now) in
     let after : OutTells = out_tells (O.written c.write_line.new.out) (O.write_faults c.write_line.new.out) in
-    told_breaks c.args.round c.args.at c.args.row.now c.args.up c.args.answer c.args.watcher.now.rows d c.in-Err.stop before after
-    (subst (λ n. WritesFront (line c.args.round n c.args.up c.args.answer) c.in-Err.stop before after) name c.in-Err.ensures.err)
+    told_breaks c.args.round.now c.args.at c.args.row.now c.args.up c.args.answer c.args.watcher.now.rows d c.in-Err.stop before after
+    (subst (λ n. WritesFront (line c.args.round.now.number n c.args.up c.args.answer) c.in-Err.stop before after) name c.in-Err.ensures.err)
