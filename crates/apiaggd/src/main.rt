@@ -35,9 +35,7 @@ fn main(rt: HostRuntime) -> ExitCode {
         Asked::Serve => prepare(&rt, &rt, &words),
     };
     let Ready {
-        words: told,
-        settings,
-        routes,
+        serve,
         gate,
         watcher,
     } = match ready {
@@ -45,7 +43,7 @@ fn main(rt: HostRuntime) -> ExitCode {
         Err(code) => return code,
     };
     let ending = match TcpPlant::new(&rt, &gate) {
-        Ok(mut plant) => run_over(&rt, &rt, &told, settings, routes, &gate, &mut plant),
+        Ok(mut plant) => run_over(&rt, &rt, serve, &gate, &mut plant),
         Err(error) => no_boot_word(rt.alloc(), &error),
     };
     gate.close();

@@ -1,5 +1,5 @@
 -- The command line of `serve`.
-use Rattle.std.specs.Prelude.{ℕ, ◌&&◌, ◌||◌, nat_eq, Bool, false, if◌then◌else◌, List, [], ◌∷◌, Option, Some, None, is_some, Result, Ok, Err, codes}
+use Rattle.std.specs.Prelude.{ℕ, ◌≤◌, ◌&&◌, ◌||◌, nat_eq, Bool, false, if◌then◌else◌, List, [], ◌∷◌, Option, Some, None, is_some, Result, Ok, Err, codes}
 use Rattle.std.specs.List.{starts_with}
 use Rattle.std.specs.Str.{bytes_eq}
 use Rattle.json_value.specs.Results.{◌>>=◌, found_or}
@@ -184,6 +184,14 @@ serve_by given = do
     reuse_port = is_some (value_of (codes "reuse-port") given);
     exit_on_stdin_eof = is_some (value_of (codes "exit-on-stdin-eof") given);
   })
+
+-- numbers in the ranges of their options, as far as a run rests on them
+pub record IsFit (words : ServeWords) : Type 0 where
+  pub some : 1 ≤ words.bays
+  pub few : words.bays ≤ 1024
+  pub buffer : 1 ≤ words.batch.buffer
+  pub lines : 1 ≤ words.batch.max_lines
+  pub max : words.max_event ≤ 4194304
 
 -- the words where each flag is an option in one word
 unfoldable pub with_flags : List (List ℕ) → Result (List (List ℕ)) WordsFault

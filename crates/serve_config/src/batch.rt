@@ -1,4 +1,5 @@
 // How lines wait for a sink in batch mode.
+ghost use Rattle.std.specs.Prelude.{◌≤◌, IfOk};
 ghost use Rattle.serve_config.specs.Serve as spec;
 
 use crate::fault::ServeFault;
@@ -20,7 +21,8 @@ pub struct BatchWords {
 
 #[tactic(auto, unfolding(crate::specs::Serve::batch_by))]
 pub fn batch_by(options: &Options) -> Result<BatchWords, ServeFault>
-    ensures { spec.Gives (λ v. v) result (spec.batch_by options.now) }
+    ensures gives { spec.Gives (λ v. v) result (spec.batch_by options.now) }
+    ensures fit { IfOk result (λ batch. (1 ≤ batch.buffer) × (1 ≤ batch.max_lines)) }
 {
     let buffer = ranged_u32(Ranged::BatchBuffer, options)?;
     let max_lines = ranged_u32(Ranged::BatchMaxSize, options)?;

@@ -2,6 +2,7 @@ ghost use Rattle.std.specs.Prelude.{◌≡◌, ◌≤◌, IfErr, IfOk, OnOk, map
 ghost use Rattle.front_ports.specs.FileMap.{KeepsFiles};
 ghost use Rattle.command_ends.specs.Ports.{files_port};
 ghost use Rattle.serve_config.specs.Config as spec;
+ghost use Rattle.serve_config.specs.Serve.{IsFit};
 
 use crate::refused::serve_outcome;
 use crate::serve::{ServeWords, read_serve};
@@ -27,6 +28,7 @@ pub fn configure_serve<F: Files>(
 ) -> Result<ServeConfig, Outcome>
     ensures ok { IfOk result (λ told.
         spec.Configures (map string_bytes words.now.items) (F.files files.old) told) }
+    ensures fit { IfOk result (λ told. IsFit told.words) }
     ensures err { IfErr result (λ outcome. spec.IsRefused (map string_bytes words.now.items)
         (files_port (F.files files.old) (F.failed files.old) (F.faults files.old)
         (F.files files.new) (F.failed files.new) (F.faults files.new)) outcome.status outcome.why) }

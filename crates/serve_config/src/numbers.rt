@@ -1,6 +1,6 @@
 // The numbers of the options.
 ghost use Rattle.std.specs.Prelude.{◌≤◌, IfOk};
-ghost use Rattle.command_options.specs.Options.{Gives, most};
+ghost use Rattle.command_options.specs.Options.{Gives, least, most};
 ghost use Rattle.serve_config.specs.Serve as spec;
 
 use crate::fault::ServeFault;
@@ -36,6 +36,7 @@ pub fn check_numbers(options: &Options) -> Result<(), ServeFault>
 #[tactic(auto, unfolding(crate::specs::Serve::number_in))]
 fn number_in(option: Ranged, options: &Options) -> Result<u64, WordsFault>
     ensures gives { Gives (λ n. n) result (spec.number_in option options.now) }
+    ensures least { IfOk result (λ n. least option ≤ n) }
     ensures most { IfOk result (λ n. n ≤ most option) }
 {
     let number = number_given(option, options)?;
@@ -45,6 +46,7 @@ fn number_in(option: Ranged, options: &Options) -> Result<u64, WordsFault>
 /// The number of an option in its range.
 pub fn ranged(option: Ranged, options: &Options) -> Result<u64, ServeFault>
     ensures gives { spec.Gives (λ n. n) result (spec.ranged option options.now) }
+    ensures least { IfOk result (λ n. least option ≤ n) }
     ensures most { IfOk result (λ n. n ≤ most option) }
 {
     match number_in(option, options) {
@@ -56,7 +58,8 @@ pub fn ranged(option: Ranged, options: &Options) -> Result<u64, ServeFault>
 /// The same, of an option whose numbers fit 32 bits.
 pub fn ranged_u32(option: Ranged, options: &Options) -> Result<u32, ServeFault>
     requires fits { most option ≤ 4294967295 }
-    ensures { spec.Gives (λ n. n) result (spec.ranged option options.now) }
+    ensures gives { spec.Gives (λ n. n) result (spec.ranged option options.now) }
+    ensures least { IfOk result (λ n. least option ≤ n) }
 {
     match ranged(option, options) {
         Ok(number) => Ok(number as u32),
@@ -67,7 +70,9 @@ pub fn ranged_u32(option: Ranged, options: &Options) -> Result<u32, ServeFault>
 /// The same, of an option whose numbers fit 16 bits.
 pub fn ranged_u16(option: Ranged, options: &Options) -> Result<u16, ServeFault>
     requires fits { most option ≤ 65535 }
-    ensures { spec.Gives (λ n. n) result (spec.ranged option options.now) }
+    ensures gives { spec.Gives (λ n. n) result (spec.ranged option options.now) }
+    ensures least { IfOk result (λ n. least option ≤ n) }
+    ensures most { IfOk result (λ n. n ≤ most option) }
 {
     match ranged(option, options) {
         Ok(number) => Ok(number as u16),

@@ -1,5 +1,5 @@
 // What `serve` is told.
-ghost use Rattle.std.specs.Prelude.{codes, map, string_bytes};
+ghost use Rattle.std.specs.Prelude.{IfOk, codes, map, string_bytes};
 ghost use Rattle.command_options.specs.Options.{Gives, value_of};
 ghost use Rattle.serve_config.specs.Serve as spec;
 
@@ -66,7 +66,8 @@ fn listen_of(alloc: Global, options: &Options) -> Result<Address, ServeFault>
 
 #[tactic(auto, unfolding(crate::specs::Serve::serve_by))]
 fn serve_by(alloc: Global, options: &Options) -> Result<ServeWords, ServeFault>
-    ensures { spec.Gives (λ v. v) result (spec.serve_by options.now) }
+    ensures gives { spec.Gives (λ v. v) result (spec.serve_by options.now) }
+    ensures fit { IfOk result spec.IsFit }
 {
     check_numbers(options)?;
     let log = sink_by(alloc, SinkMode::Blocking, LOG_PATH, LOG_MODE, options)?;
@@ -98,7 +99,8 @@ fn serve_by(alloc: Global, options: &Options) -> Result<ServeWords, ServeFault>
 
 // What `serve` is told by words where each flag is an option in one word.
 fn serve_given(alloc: Global, words: &[String]) -> Result<ServeWords, ServeFault>
-    ensures { spec.Gives (λ v. v) result (spec.serve_given (map string_bytes words.now)) }
+    ensures gives { spec.Gives (λ v. v) result (spec.serve_given (map string_bytes words.now)) }
+    ensures fit { IfOk result spec.IsFit }
 {
     match given_of(
         alloc,
@@ -147,7 +149,8 @@ fn with_flags(alloc: Global, words: &[String]) -> Result<Vec<String>, WordsFault
 }
 
 fn serve_of(alloc: Global, words: &[String]) -> Result<ServeWords, ServeFault>
-    ensures { spec.Gives (λ v. v) result (spec.serve_of (map string_bytes words.now)) }
+    ensures gives { spec.Gives (λ v. v) result (spec.serve_of (map string_bytes words.now)) }
+    ensures fit { IfOk result spec.IsFit }
 {
     match with_flags(alloc, words) {
         Ok(words) => serve_given(alloc, words.as_slice()),
@@ -162,7 +165,8 @@ fn serve_of(alloc: Global, words: &[String]) -> Result<ServeWords, ServeFault>
 /// `localhost` or an address that begins with 127; or 127.0.0.1 is listened at and the URL has 0.0.0.0, which Linux leads there.
 #[tactic(auto, unfolding(crate::specs::Serve::serve_command))]
 pub fn read_serve(alloc: Global, words: &Vec<String>) -> Result<ServeWords, ServeFault>
-    ensures { spec.Gives (λ v. v) result (spec.serve_command (map string_bytes words.now.items)) }
+    ensures gives { spec.Gives (λ v. v) result (spec.serve_command (map string_bytes words.now.items)) }
+    ensures fit { IfOk result spec.IsFit }
 {
     match words.as_slice() {
         [word, options @ ..] if word.as_str() == "serve" => serve_of(alloc, options),

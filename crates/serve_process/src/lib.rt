@@ -1,6 +1,6 @@
 //! The run of `serve` over a plant, and what is said of it at its end.
 //!
-//! The top call is `shared_runs::run_shared`, which has the contract. Nothing is promised of standard error.
+//! The top call is `serve_command::Serve::run`, which has the contract. Nothing is promised of standard error.
 #![tactic(auto)]
 
 mod running;

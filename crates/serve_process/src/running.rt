@@ -1,37 +1,15 @@
 // A run of `serve` over the handles of this process, and what is said of it.
-ghost use Rattle.std.specs.Prelude.{◌≡◌, ◌≤◌, true};
-ghost use Rattle.front_base.specs.declared.address.Address.{Address};
-ghost use Rattle.front_base.specs.declared.line.TheConstants.{MOST_LINE_BYTES};
-ghost use Rattle.serve_bays.specs.Options.{AreFit};
-ghost use Rattle.shared_runs.specs.Setup.{options_of};
-
-use audit_core::Settings;
-use command_ends::Status;
-use front_base::MOST_LINE_BYTES;
 use front_plants::{Plant, PlantFault, PlantPort};
 use front_ports::{Dial, Door};
-use route_history::NewRoutes;
+use serve_command::{Ran, Serve, status_of};
 use serve_config::ServeWords;
 use serve_report::ended_text;
 use serve_runs::{Ended, RunStatus};
-use serve_start::{Ending, address_text, no_memory, port_fault, shortage, target, threads_of};
-use shared_runs::{can_run, run_shared};
+use serve_start::{Ending, address_text, port_fault, shortage, target, threads_of};
 use std::alloc::Global;
 use std::io;
-use std::marker::Brand;
 use system_errors::{reason_of, reason_of_number};
 use tcp_plant::{SinkCounts, TcpGate};
-
-// Whether a run may have these numbers. Those that `serve` is configured with are such.
-fn can_serve(words: &ServeWords, settings: &Settings) -> bool
-    ensures options { (listen : Address) → result ≡ true → AreFit (options_of words.now listen) }
-    ensures max { result ≡ true → settings.now.max_event ≤ MOST_LINE_BYTES }
-{
-    if !can_run(words) {
-        return false;
-    }
-    settings.max_event <= MOST_LINE_BYTES
-}
 
 // What a call of the plant would have opened, as the words say it.
 fn place_of(alloc: Global, words: &ServeWords, port: PlantPort) -> Option<String> {
@@ -54,12 +32,13 @@ fn why_unopened(alloc: Global, words: &ServeWords, fault: PlantFault) -> Option<
 }
 
 fn ending_by(alloc: Global, words: &ServeWords, status: RunStatus) -> Ending {
-    match status {
-        RunStatus::Done => Ending::of(Status::Done),
-        RunStatus::Unopened(fault) => port_fault(why_unopened(alloc, words, fault)),
-        RunStatus::DoorFault => port_fault(None),
-        RunStatus::NoMemory => no_memory(),
-        RunStatus::NumbersSpent => Ending::of(Status::NumbersSpent),
+    let why = match status {
+        RunStatus::Unopened(fault) => why_unopened(alloc, words, fault),
+        _ => None,
+    };
+    Ending {
+        status: status_of(status),
+        why,
     }
 }
 
@@ -113,13 +92,11 @@ pub fn no_boot_word(alloc: Global, error: &io::Error) -> Ending {
     port_fault(format!(in alloc; "random numbers: {reason}").ok())
 }
 
-/// Runs what words ask for over a plant of this gate, says what it came to, and gives how it ended.
+/// Runs what words and files ask for over a plant of this gate, says what it came to, and gives how it ended.
 pub fn run_over<P: Plant + Send>(
     host: &HostRuntime,
     rt: &P::Rt,
-    words: &ServeWords,
-    settings: Settings,
-    routes: NewRoutes,
+    serve: Serve,
     gate: &TcpGate,
     plant: &mut P,
 ) -> Ending
@@ -134,18 +111,14 @@ where
     P::W: Send,
     P::H: Send,
 {
-    if can_serve(words, &settings) {
-        let (alloc, at) = (host.alloc(), gate.address());
-        let ended = run_shared::<Brand, P>(rt, alloc, words, settings, at, routes, plant);
-        let left = left_of(
-            alloc,
-            words,
-            ended,
-            gate.log().counts(),
-            gate.hook().counts(),
-        );
-        ending_of(host, words, gate, &left)
-    } else {
-        Ending::of(Status::Configuration)
-    }
+    let (alloc, at) = (host.alloc(), gate.address());
+    let Ran { words, ended } = serve.run(rt, alloc, at, plant);
+    let left = left_of(
+        alloc,
+        &words,
+        ended,
+        gate.log().counts(),
+        gate.hook().counts(),
+    );
+    ending_of(host, &words, gate, &left)
 }

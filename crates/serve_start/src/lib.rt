@@ -1,7 +1,7 @@
 //! What a run of `serve` begins with: words and files are read, the address is taken, and threads watch its start and its end. One of them
 //! writes its metrics while it lasts.
 //!
-//! Which words and files are refused, and as what, is said by `serve_config::configure_serve`. Nothing is promised of sockets and
+//! Which words and files are refused, and as what, is said by `serve_command::Serve::configure`. Nothing is promised of sockets and
 //! threads, nor of standard error.
 #![tactic(auto)]
 

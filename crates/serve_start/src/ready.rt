@@ -7,10 +7,9 @@ use command_ends::SystemFiles;
 use explain_command::finish_told;
 use front_base::Address;
 use policy_rules::Policy;
-use route_history::NewRoutes;
-use serve_config::{ServeConfig, ServeWords, configure_serve};
+use serve_command::Serve;
+use serve_config::ServeWords;
 use serve_report::{begun_text, files_warning, size_warning, strict_warnings};
-use shared_runs::settings_of;
 use std::alloc::Global;
 use std::io::Read;
 use std::net::{Net, TcpListener, TcpStream};
@@ -133,10 +132,7 @@ fn watch_gate<R: Threads>(
 /// What a run of `serve` begins with, once its address is open and the threads run that open and close its gate.
 #[derive(Drop)]
 pub struct Ready {
-    pub words: ServeWords,
-    pub settings: Settings,
-    /// The table of APIServices that its bays are to share.
-    pub routes: NewRoutes,
+    pub serve: Serve,
     pub gate: Arc<TcpGate>,
     pub watcher: Watcher,
 }
@@ -145,23 +141,15 @@ pub struct Ready {
 fn ready_by<R: Threads + Net<Listener = TcpListener, Stream = TcpStream>>(
     host: &HostRuntime,
     rt: &R,
-    config: ServeConfig,
+    serve: Serve,
 ) -> Result<Ready, Ending> {
-    let ServeConfig { words, loaded } = config;
-    say_warnings(host, &words, &loaded.policy);
-    let (settings, table) = settings_of(&words, loaded);
-    say_sizes(host, &settings);
-    say_files(host, &words);
-    let services = table.rows().len();
-    let Ok(routes) = NewRoutes::new(host.alloc(), table) else {
-        return Err(no_memory());
-    };
-    let gate = open_gate(host.alloc(), rt, &words)?;
-    let watcher = watch_gate(host, rt, &words, services, &gate)?;
+    say_warnings(host, serve.words(), &serve.settings().policy);
+    say_sizes(host, serve.settings());
+    say_files(host, serve.words());
+    let gate = open_gate(host.alloc(), rt, serve.words())?;
+    let watcher = watch_gate(host, rt, serve.words(), serve.services(), &gate)?;
     Ok(Ready {
-        words,
-        settings,
-        routes,
+        serve,
         gate,
         watcher,
     })
@@ -174,8 +162,8 @@ pub fn prepare<R: Threads + Net<Listener = TcpListener, Stream = TcpStream>>(
     words: &Vec<String>,
 ) -> Result<Ready, ExitCode> {
     let mut files = WarnedFiles::new(host, words.as_slice(), SystemFiles::new(host));
-    match configure_serve(host.alloc(), words, &mut files) {
-        Ok(config) => match ready_by(host, rt, config) {
+    match Serve::configure(host.alloc(), words, &mut files) {
+        Ok(serve) => match ready_by(host, rt, serve) {
             Ok(ready) => Ok(ready),
             Err(ending) => Err(finish(host, &ending)),
         },

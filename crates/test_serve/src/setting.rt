@@ -1,7 +1,7 @@
 // What the run is made of: two bays, a webhook whose batches have one event each, a delegate and a service.
 use front_base::{Bytes, Text};
 use front_ports::MemFiles;
-use serve_config::{ServeConfig, configure_serve};
+use serve_command::Serve;
 use std::alloc::{AllocError, Global};
 use std::test::Fail;
 
@@ -41,11 +41,11 @@ fn files(alloc: Global, backend: u16) -> Result<MemFiles, Fail> {
     Ok(MemFiles::new(all, Vec::new(alloc)))
 }
 
-pub fn configured(alloc: Global, hook: u16, backend: u16) -> Result<ServeConfig, Fail> {
+pub fn configured(alloc: Global, hook: u16, backend: u16) -> Result<Serve, Fail> {
     let words = words_of(alloc, hook)?;
     let mut files = files(alloc, backend)?;
-    match configure_serve(alloc, &words, &mut files) {
-        Ok(config) => Ok(config),
+    match Serve::configure(alloc, &words, &mut files) {
+        Ok(serve) => Ok(serve),
         Err(_) => Err(Fail::from("a configuration")),
     }
 }

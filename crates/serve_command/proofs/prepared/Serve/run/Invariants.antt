@@ -1,4 +1,4 @@
-use Rattle.serve_process.proofs.running.run_over.Given as goal
+use Rattle.serve_command.proofs.prepared.Serve.run.Given as goal
 
 -- the name of this run's routes
 abbrev pub ghosts-run_shared : goal.ghosts-run_shared
