@@ -26,7 +26,7 @@ pub enum Status {
     Log,
     /// What had to be sent wasn't taken: lines of a log are lost, or a front door hasn't taken what it was told last.
     NotDelivered,
-    /// No server answered with its list of resources.
+    /// No server answered with its list of resources, or a front door gave no list of its APIServices.
     NothingListed,
 }
 

@@ -296,7 +296,8 @@ and the condition is another one, the front door is told, and a line is printed:
 with the status of the front door's answer, or none. It has taken what it was
 told where that is 200. After any other answer it is told again in the next
 round. At the end the status is 11 where some APIService's last answer was
-another one, and else 0.
+another one, and else 0. It is 12 where the front door's list of APIServices
+was asked for and not had; no line is printed then.
 
 Options are written --NAME=VALUE or --NAME VALUE.
 
