@@ -5,14 +5,12 @@
 mod rehearse;
 mod streams;
 
+use client_process::{fetched, probed, shipped};
 use command_options::Asked;
 use explain_command::{VERSION, checked, explained, finish_told, help_on, print_text, words_of};
-use probe_process::probed;
 use rehearse::rehearsed;
-use resources_process::fetched;
 use serve_process::{no_boot_word, run_over};
 use serve_start::{Ready, finish, prepare};
-use ship_process::shipped;
 use std::process::ExitCode;
 use streams::hold_streams;
 use tcp_plant::TcpPlant;

@@ -1,15 +1,18 @@
-//! Cases of rounds of probes: which services are asked, when a front door is told, and what is written, by public calls alone.
+//! Stored cases of `probe`: rounds of probes, by public calls alone (which services are asked, when a front door is told, and what is written), and
+//! then runs of `apiaggd probe`.
 //!
-//! Each row of a file of `data/` is printed with its answer. The expected answers are worked out from the rules that stand above the rows.
+//! Each row of a file of rows of `data/` is printed with its answer. The expected answers are worked out from the rules that stand above the rows.
 #![tactic(auto)]
 
 mod objects;
 mod peers;
+mod rounds;
 mod runs;
 
 use case_rows::{is_row, read_cases};
 use objects::show_object;
-use runs::{show_calls, show_lines};
+use rounds::{show_calls, show_lines};
+use runs::show_runs;
 use std::alloc::Global;
 use std::process::ExitCode;
 
@@ -47,7 +50,7 @@ fn print_all(rt: &HostRuntime) -> Option<()> {
 
 fn main(rt: HostRuntime) -> ExitCode {
     match print_all(&rt) {
-        Some(()) => ExitCode::from(0),
-        None => ExitCode::from(1),
+        Some(()) if show_runs(&rt) => ExitCode::from(0),
+        _ => ExitCode::from(1),
     }
 }

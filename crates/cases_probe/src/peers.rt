@@ -23,10 +23,22 @@ fn stream_of(alloc: Global, input: Vec<u8>) -> Result<MemLink, NoMemory>
     )
 }
 
-// What a peer says that answers so: a status, which may follow `100` and a dot for an interim head, or bytes that are none.
+const LIST: &str =
+    r#"{"kind":"APIServiceList","items":[{"apiVersion":"apiregistration.k8s.io/v1","kind":"APIService","metadata":{"name":"v1.g"},"spec":{"group":"g","groupPriorityMinimum":100,"service":{"name":"x","namespace":"s"},"version":"v1","versionPriority":10}},{"metadata":{"name":"v1."},"spec":{"groupPriorityMinimum":18000,"version":"v1","versionPriority":1}}]}"#;
+
+// A reply of that status with that body.
+fn reply_with(alloc: Global, status: u16, body: &str) -> Result<Vec<u8>, AllocError> {
+    let size = body.len();
+    let mut text = format!(in alloc; "HTTP/1.1 {status} Said\r\nContent-Length: {size}\r\n\r\n")?;
+    text.push_str(body)?;
+    Ok(text.into_bytes())
+}
+
+// What a peer says that answers so: a status, a list of APIServices, or bytes that are no reply.
 fn reply_of(alloc: Global, word: &str) -> Result<Vec<u8>, AllocError> {
     match word {
         "bad" => Ok(bytes_of(alloc, r"taken\r\n\r\n")),
+        "list" => reply_with(alloc, 200, LIST),
         "cut" => Ok(bytes_of(alloc, r"HTTP/1.1 200 Said\r\n")),
         "half" => Ok(bytes_of(alloc, r"HTTP/1.1 200 Said\r\nContent-Length: 9\r\n\r\n{")),
         "continued" => Ok(bytes_of(alloc, r"HTTP/1.1 100 Said\r\n\r\nHTTP/1.1 200 Said\r\n\r\n")),

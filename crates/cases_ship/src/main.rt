@@ -1,29 +1,20 @@
-//! Cases of lines that are shipped: how a batch is cut, posted again and given up, and what the bucket allows, by public calls alone.
+//! Stored cases of `ship`: lines that are shipped, by public calls alone, and then runs of `apiaggd ship`. Each row of `data/ships.txt` and of
+//! `data/runs.txt` is printed with its answer.
 //!
-//! Each row of `data/ships.txt` is printed with its answer. The expected answers are worked out from the rules that stand above the rows.
+//! The expected answers are worked out from the rules that stand above the rows, before the first run.
 #![tactic(auto)]
 
 mod peers;
+mod runs;
 mod ships;
 
-use case_rows::{is_row, read_cases};
-use ships::show_ship;
+use runs::show_runs;
+use ships::show_ships;
 use std::process::ExitCode;
 
-fn print_cases(rt: &HostRuntime) -> Option<()> {
-    let text = read_cases(rt, "ships.txt").ok()?;
-    for row in text.lines() {
-        if is_row(row) {
-            let answer = show_ship(rt.alloc(), row)?;
-            print!(rt; "{row} => {answer}\n").ok()?;
-        }
-    }
-    Some(())
-}
-
 fn main(rt: HostRuntime) -> ExitCode {
-    match print_cases(&rt) {
-        Some(()) => ExitCode::from(0),
-        None => ExitCode::from(1),
+    match show_ships(&rt) {
+        Some(()) if show_runs(&rt, &rt) => ExitCode::from(0),
+        _ => ExitCode::from(1),
     }
 }

@@ -1,6 +1,7 @@
 // What a webhook dials, and an input.
 ghost use Rattle.std.specs.Prelude.{IfOk};
 ghost use Rattle.std.specs.List.{All};
+ghost use Rattle.front_plants.specs.Unused.{IsUnusedDial};
 ghost use Rattle.front_ports.specs.Memory.{IsUnused};
 
 use case_rows::bytes_of;
@@ -54,7 +55,9 @@ fn failing_dials(alloc: Global, answers: &str) -> Result<Vec<u64>, AllocError> {
 }
 
 /// A dial whose links answer so, one after another.
-pub fn peer_of(alloc: Global, answers: &str) -> Result<MemDial, NoMemory> {
+pub fn peer_of(alloc: Global, answers: &str) -> Result<MemDial, NoMemory>
+    ensures { IfOk result IsUnusedDial }
+{
     let mut links = Vec::new(alloc);
     for word in answers.split(' ') {
         push_answer(alloc, &mut links, word)?;

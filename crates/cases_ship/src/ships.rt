@@ -1,9 +1,9 @@
-// Inputs that are shipped.
+// Inputs that are shipped: how a batch is cut, posted again and given up, and what the bucket allows.
 ghost use Rattle.std.specs.Prelude.{◌≤◌};
 
 use crate::peers::{peer_of, stream_of};
 use batch_backend::Limits;
-use case_rows::{bytes_of, fields};
+use case_rows::{bytes_of, fields, is_row, read_cases};
 use front_base::Moment;
 use front_ports::{Clock, MemClock, MemDial};
 use log_ship::{ShipEnd, Shipment, ship_log};
@@ -79,8 +79,8 @@ fn ship(
     Some(ship_log(alloc, limits, before, &mut source, &mut sender))
 }
 
-/// What becomes of the lines of a row.
-pub fn show_ship(alloc: Global, row: &str) -> Option<String> {
+// What becomes of the lines of a row.
+fn show_ship(alloc: Global, row: &str) -> Option<String> {
     let (input, rest) = fields(row);
     let (numbers, answers) = fields(rest);
     let dial = peer_of(alloc, answers).ok()?;
@@ -93,4 +93,16 @@ pub fn show_ship(alloc: Global, row: &str) -> Option<String> {
         shipment.passed, shipment.lines, tally.posted, tally.lost, tally.posts
     )
     .ok()
+}
+
+/// Prints each row of `data/ships.txt` with its answer.
+pub fn show_ships(rt: &HostRuntime) -> Option<()> {
+    let text = read_cases(rt, "ships.txt").ok()?;
+    for row in text.lines() {
+        if is_row(row) {
+            let answer = show_ship(rt.alloc(), row)?;
+            print!(rt; "{row} => {answer}\n").ok()?;
+        }
+    }
+    Some(())
 }

@@ -1,3 +1,6 @@
 mod ChainLemmas
+mod CountLemmas
+mod CutLemmas
 mod ShipLemmas
+mod StartLemmas
 mod TextLemmas

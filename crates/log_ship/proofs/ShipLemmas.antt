@@ -6,7 +6,7 @@ use Rattle.std.proofs.lemmas.Bool.Decides.{nat_tests}
 use Rattle.std.proofs.lemmas.List.Elements.{All-push, All-nil}
 use Rattle.std.proofs.KnownBytes.{Consumes-nil, Consumes-trans}
 use Rattle.batch_backend.specs.declared.limits.Limits.{Limits}
-use Rattle.batch_cut.specs.Cuts.{AreBatches, AreGathered, Gathered, could_take, lines_from}
+use Rattle.log_ship.specs.Cuts.{AreBatches, AreGathered, Gathered, could_take, lines_from}
 use Rattle.front_base.specs.Line.{Line}
 use Rattle.front_base.specs.declared.audit_id.TheConstants.{MOST_REQUESTS}
 use Rattle.front_ports.specs.Cause.{Rose}

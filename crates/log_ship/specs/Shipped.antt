@@ -2,7 +2,7 @@
 use Rattle.std.specs.Prelude.{◌≡◌, ◌≢◌, ◌≤◌, ◌<◌, ◌⊎◌, ◌++◌, ℕ, Bool, true, false, List, [], ◌∷◌, length, Option, Some, None, All}
 use Rattle.std.specs.Io.KnownBytes.{Consumes, IsAtEnd}
 use Rattle.batch_backend.specs.declared.limits.Limits.{Limits}
-use Rattle.batch_cut.specs.Cuts.{AreBatches, AreGathered, Gathered, could_take, lines_from}
+use Rattle.log_ship.specs.Cuts.{AreBatches, AreGathered, Gathered, could_take, lines_from}
 use Rattle.front_base.specs.Line.{Line}
 use Rattle.front_base.specs.declared.audit_id.TheConstants.{MOST_REQUESTS}
 use Rattle.front_base.specs.declared.line.TheConstants.{MOST_LINE_BYTES}

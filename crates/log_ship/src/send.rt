@@ -7,8 +7,8 @@ ghost use Rattle.log_ship.specs.Chains.{counted};
 ghost use Rattle.log_ship.specs.Sides.{side_of};
 ghost use Rattle.retry_throttle.specs.Senders.{sender_bucket, sender_clock, sender_rules};
 
+use crate::gathering::Gathering;
 use crate::tally::Tally;
-use batch_cut::Gathering;
 use front_base::{Bytes, Line, NoMemory};
 use front_ports::Clock;
 use retry_throttle::{Sender, Sent};

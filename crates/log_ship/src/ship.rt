@@ -5,13 +5,14 @@ ghost use Rattle.log_ship.specs.Shipped as spec;
 ghost use Rattle.log_ship.specs.Sides.{side_of};
 ghost use Rattle.retry_throttle.specs.Senders.{sender_bucket, sender_clock, sender_rules};
 
+use crate::cut_laws::gathering_cuts;
 use crate::end::ShipEnd;
+use crate::gathering::Gathering;
 use crate::next::next_text;
 use crate::pass::pass_lines;
 use crate::send::{add_text, send_rest};
 use crate::tally::Tally;
 use batch_backend::Limits;
-use batch_cut::{Gathering, gathering_cuts};
 use front_base::MOST_REQUESTS;
 use front_ports::{Clock, Source};
 use log_lines::LineBuffer;

@@ -18,11 +18,11 @@ use Rattle.probe_command.specs.Config.{IsRefused, IsUntold, Loads, TellsProbe, U
 use Rattle.probe_command.specs.Token.{EndsSo, IsRefusedSo}
 use Rattle.probe_command.specs.declared.token.TokenStop.{TokenStop}
 use Rattle.probe_command.specs.declared.token.TokenStop.TheVariants as stop
-use Rattle.probe_words.specs.Probe as probe
-use Rattle.probe_words.specs.Probe.{probe_command}
-use Rattle.probe_words.specs.declared.fault.ProbeFault.{ProbeFault}
-use Rattle.probe_words.specs.declared.fault.ProbeFault.TheVariants.{Words, Front, Token}
-use Rattle.probe_words.specs.declared.probe.ProbeWords.{ProbeWords}
+use Rattle.probe_command.specs.Probe as probe
+use Rattle.probe_command.specs.Probe.{probe_command}
+use Rattle.probe_command.specs.declared.fault.ProbeFault.{ProbeFault}
+use Rattle.probe_command.specs.declared.fault.ProbeFault.TheVariants.{Words, Front, Token}
+use Rattle.probe_command.specs.declared.probe.ProbeWords.{ProbeWords}
 
 abbrev Due : ProbeFault → Result ProbeWords ProbeFault → Type 0
 Due fault due = probe.Gives {A = ProbeWords} (λ v. v) (Err fault) due

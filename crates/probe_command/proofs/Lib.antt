@@ -1,4 +1,5 @@
 mod ConfigLemmas
+mod FaultLemmas
 mod ListingLemmas
 mod RunLemmas
 mod TokenLemmas

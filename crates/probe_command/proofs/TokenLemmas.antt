@@ -4,7 +4,7 @@ use Rattle.std.specs.Prelude.{if◌then◌else◌}
 use Rattle.std.specs.Str.{is_utf8}
 use Rattle.std.proofs.lemmas.Str.{IsUtf8-from_is_utf8, is_utf8-from_IsUtf8}
 use Rattle.probe_command.specs.Token.{is_line_end, text_in, token_in, token_size}
-use Rattle.probe_words.specs.Probe.{is_token_byte}
+use Rattle.probe_command.specs.Probe.{is_token_byte}
 
 pub no_text : (bytes : List ℕ) → ¬ (IsUtf8 bytes) → text_in bytes ≡ None
 no_text bytes refused = by_cases (is_utf8 bytes) refl

@@ -18,10 +18,10 @@ use Rattle.refusal_text.specs.declared.refusal.Refusal.{Refusal}
 use Rattle.refusal_text.specs.declared.refusal.Refusal.TheVariants as refusal
 use Rattle.probe_command.specs.Token.{Bad, HasToken, Unread}
 use Rattle.probe_command.specs.declared.config.ProbeConfig.{ProbeConfig}
-use Rattle.probe_words.specs.Probe.{probe_command}
-use Rattle.probe_words.specs.declared.fault.ProbeFault.{ProbeFault}
-use Rattle.probe_words.specs.declared.fault.ProbeFault.TheVariants.{Words, Front, Token}
-use Rattle.probe_words.specs.declared.probe.ProbeWords.{ProbeWords}
+use Rattle.probe_command.specs.Probe.{probe_command}
+use Rattle.probe_command.specs.declared.fault.ProbeFault.{ProbeFault}
+use Rattle.probe_command.specs.declared.fault.ProbeFault.TheVariants.{Words, Front, Token}
+use Rattle.probe_command.specs.declared.probe.ProbeWords.{ProbeWords}
 
 -- the words are a command line of `probe`, and reads of the files that it names, told as these, gave this
 pub record Loads (words : List (List ℕ)) (told : Told) (loaded : Result Loaded LoadFault) : Type 0 where

@@ -12,7 +12,7 @@ use Rattle.refusal_text.specs.declared.refusal.Refusal.{Refusal}
 use Rattle.refusal_text.specs.declared.refusal.Refusal.TheVariants as refusal
 use Rattle.probe_command.specs.declared.token.TokenStop.{TokenStop}
 use Rattle.probe_command.specs.declared.token.TokenStop.TheVariants as stop
-use Rattle.probe_words.specs.Probe.{is_token_byte}
+use Rattle.probe_command.specs.Probe.{is_token_byte}
 
 -- how many bytes come before the first one that can't stand in a token
 abbrev pub token_size : List ℕ → ℕ

@@ -4,13 +4,13 @@ ghost use Rattle.command_ends.specs.Ports.{files_port};
 ghost use Rattle.probe_command.specs.Config as spec;
 ghost use Rattle.probe_command.specs.Token.{HasToken};
 
+use crate::probe::{ProbeWords, read_probe};
 use crate::refused::probe_outcome;
 use crate::token::{read_token, token_outcome};
 use command_ends::{Outcome, load_outcome};
 use front_base::Text;
 use front_config::{Loaded, load};
 use front_ports::Files;
-use probe_words::{ProbeWords, read_probe};
 use std::alloc::Global;
 
 /// What a run of `probe` begins with.

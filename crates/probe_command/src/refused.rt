@@ -2,8 +2,8 @@
 ghost use Rattle.std.specs.Prelude.{◌≡◌};
 ghost use Rattle.probe_command.specs.Config as spec;
 
+use crate::fault::ProbeFault;
 use command_ends::{Outcome, Status, words_outcome};
-use probe_words::ProbeFault;
 use refusal_text::Refusal;
 
 /// How a run ends whose words are refused.

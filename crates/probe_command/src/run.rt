@@ -9,13 +9,13 @@ ghost use Rattle.command_ends.specs.Ports.{files_port, port};
 use crate::config::{ProbeConfig, configure_probe};
 use crate::ended::ProbeEnded;
 use crate::listing::{ListStop, table_for};
+use crate::probe::ProbeWords;
 use apiservice_table::RouteTable;
 use command_ends::{Outcome, Status};
 use front_base::Text;
 use front_config::Loaded;
 use front_ports::{ByteSink, Clock, Dial, Files};
 use probe_rounds::{Going, ProbePlan, ProbeStop, run_rounds};
-use probe_words::ProbeWords;
 use refusal_text::Refusal;
 use std::alloc::Global;
 

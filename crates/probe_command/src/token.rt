@@ -2,10 +2,10 @@
 ghost use Rattle.std.specs.Prelude.{◌≡◌, ◌≤◌, IfErr, IfOk, Some, drop, length, take};
 ghost use Rattle.probe_command.specs.Token as spec;
 
+use crate::probe::is_token_byte;
 use command_ends::{Outcome, Status};
 use front_base::{NoMemory, Text};
 use front_ports::{FileFail, Files};
-use probe_words::is_token_byte;
 use refusal_text::Refusal;
 use std::alloc::Global;
 

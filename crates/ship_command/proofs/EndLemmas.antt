@@ -11,9 +11,9 @@ use Rattle.log_ship.specs.declared.tally.Tally.{Tally}
 use Rattle.command_ends.specs.Ports.{HasFailed, IsUntouched, Port}
 use Rattle.command_ends.specs.declared.status.Status.TheVariants.{Done, NotDelivered}
 use Rattle.ship_command.specs.Ended.{EndsSo, IsSummedUp, status_for, status_of}
-use Rattle.ship_summary.specs.Summaries as summaries
-use Rattle.ship_summary.specs.declared.summary.Summed.{Summed}
-use Rattle.ship_summary.specs.declared.summary.Summed.TheVariants as summed_case
+use Rattle.log_ship.specs.Summaries as summaries
+use Rattle.log_ship.specs.declared.summary.Summed.{Summed}
+use Rattle.log_ship.specs.declared.summary.Summed.TheVariants as summed_case
 
 none_lost : (n : ℕ) → nat_eq n 0 ≡ true → n ≡ 0
 none_lost n e = grind (arith, nat_tests, e)

@@ -14,15 +14,15 @@ use Rattle.ship_command.specs.Ended.{Left, EndsSo, TellsShip, status_for, status
 use Rattle.ship_command.specs.Run.{Refuses, RunsOver}
 use Rattle.ship_command.proofs.EndLemmas.{due, ends_so, failed_in}
 use Rattle.retry_throttle.specs.Clocks.{ClockTells}
-use Rattle.ship_summary.specs.Paces.{before_of, setup_of, told_by}
-use Rattle.ship_summary.specs.Runs.{Ships}
-use Rattle.ship_summary.specs.Summaries.{Sums}
-use Rattle.ship_summary.specs.declared.summary.Summed.{Summed}
-use Rattle.ship_words.specs.Ship as words_spec
-use Rattle.ship_words.specs.Ship.{ship_command}
-use Rattle.ship_words.specs.declared.fault.ShipFault.{ShipFault}
-use Rattle.ship_words.specs.declared.fault.ShipFault.TheVariants.{Words, Webhook}
-use Rattle.ship_words.specs.declared.ship.ShipWords.{ShipWords}
+use Rattle.log_ship.specs.Paces.{before_of, setup_of, told_by}
+use Rattle.log_ship.specs.Runs.{Ships}
+use Rattle.log_ship.specs.Summaries.{Sums}
+use Rattle.log_ship.specs.declared.summary.Summed.{Summed}
+use Rattle.ship_command.specs.Ship as words_spec
+use Rattle.ship_command.specs.Ship.{ship_command}
+use Rattle.ship_command.specs.declared.fault.ShipFault.{ShipFault}
+use Rattle.ship_command.specs.declared.fault.ShipFault.TheVariants.{Words, Webhook}
+use Rattle.ship_command.specs.declared.ship.ShipWords.{ShipWords}
 use Rattle.truncate_backend.specs.Tries.{SinkTells}
 
 grows_on : {T : Type 0} (a b c : Option (List T)) (xs ys : List T) → Grows a b xs → Grows b c ys → Grows a c (xs ++ ys)

@@ -15,11 +15,11 @@ use Rattle.refusal_text.specs.declared.refusal.Refusal.{Refusal}
 use Rattle.refusal_text.specs.declared.refusal.Refusal.TheVariants as refusal
 use Rattle.ship_command.specs.declared.ended.Shipped.{Shipped}
 use Rattle.retry_throttle.specs.Clocks.{ClockTells}
-use Rattle.ship_summary.specs.Summaries.{summary_of}
-use Rattle.ship_summary.specs.declared.summary.Summed.{Summed}
-use Rattle.ship_summary.specs.declared.summary.Summed.TheVariants as summed_case
-use Rattle.ship_words.specs.declared.fault.ShipFault.{ShipFault}
-use Rattle.ship_words.specs.declared.fault.ShipFault.TheVariants.{Words, Webhook}
+use Rattle.log_ship.specs.Summaries.{summary_of}
+use Rattle.log_ship.specs.declared.summary.Summed.{Summed}
+use Rattle.log_ship.specs.declared.summary.Summed.TheVariants as summed_case
+use Rattle.ship_command.specs.declared.fault.ShipFault.{ShipFault}
+use Rattle.ship_command.specs.declared.fault.ShipFault.TheVariants.{Words, Webhook}
 use Rattle.truncate_backend.specs.Tries.{SinkTells}
 
 -- what contracts see of what a run leaves: its sink and its clock by what they tell

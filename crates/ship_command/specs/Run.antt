@@ -12,12 +12,12 @@ use Rattle.command_ends.specs.declared.status.Status.{Status}
 use Rattle.command_ends.specs.declared.status.Status.TheVariants.{Usage, Configuration, NoMemory}
 use Rattle.refusal_text.specs.declared.refusal.Refusal.{Refusal}
 use Rattle.ship_command.specs.Ended.{Left, EndsSo, TellsShip, status_of_fail, why_of}
-use Rattle.ship_summary.specs.Paces.{Told}
-use Rattle.ship_summary.specs.Runs.{Ships}
-use Rattle.ship_words.specs.Ship.{ship_command}
-use Rattle.ship_words.specs.declared.fault.ShipFault.{ShipFault}
-use Rattle.ship_words.specs.declared.fault.ShipFault.TheVariants.{Words, Webhook}
-use Rattle.ship_words.specs.declared.ship.ShipWords.{ShipWords}
+use Rattle.log_ship.specs.Paces.{Told}
+use Rattle.log_ship.specs.Runs.{Ships}
+use Rattle.ship_command.specs.Ship.{ship_command}
+use Rattle.ship_command.specs.declared.fault.ShipFault.{ShipFault}
+use Rattle.ship_command.specs.declared.fault.ShipFault.TheVariants.{Words, Webhook}
+use Rattle.ship_command.specs.declared.ship.ShipWords.{ShipWords}
 
 -- nothing is there of a webhook and a clock, and nothing was read or written
 pub record EndsEarly (input output : Port) (left : Left) : Type 0 where

@@ -2,11 +2,10 @@
 ghost use Rattle.std.specs.Prelude.{◌≡◌};
 ghost use Rattle.ship_command.specs.Ended as spec;
 
+use crate::fault::ShipFault;
 use command_ends::{Outcome, Status, words_outcome};
-use log_ship::{ShipEnd, Shipment};
+use log_ship::{ShipEnd, Shipment, Summed};
 use refusal_text::Refusal;
-use ship_summary::Summed;
-use ship_words::ShipFault;
 
 /// What a run of `ship` leaves.
 #[derive(Drop)]

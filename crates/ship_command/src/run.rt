@@ -4,14 +4,15 @@ ghost use Rattle.retry_throttle.specs.Clocks.{clock_tells};
 ghost use Rattle.ship_command.specs.Ended.{TellsShip, left_by, status_of_fail, status_of_ship};
 ghost use Rattle.ship_command.specs.Ended as ended;
 ghost use Rattle.ship_command.specs.Run as spec;
-ghost use Rattle.ship_summary.specs.Paces.{IsWithin};
+ghost use Rattle.log_ship.specs.Paces.{IsWithin};
 
 use crate::ended::{Shipped, ship_outcome, status_for, why_of};
+use crate::fault::ShipFault;
+use crate::ship::{ShipWords, read_ship};
 use command_ends::{Outcome, Status};
 use front_plants::{Plant, PlantFail};
 use front_ports::{ByteSink, Source};
-use ship_summary::{ShipEnded, ship_input};
-use ship_words::{ShipFault, ShipWords, read_ship};
+use log_ship::{ShipEnded, ship_input};
 use std::alloc::Global;
 
 // An end by words that are refused.

@@ -1,12 +1,14 @@
 // Files, with a warning of what nobody reads in them.
 ghost use Rattle.std.specs.Prelude.{◌≡◌};
 
+use crate::endpoints::unread_in_endpoints;
+use crate::files::{unread_in_policy, unread_in_services};
+use crate::places::Places;
 use command_options::names::{ENDPOINTS, POLICY, SERVICES};
 use front_base::{Bytes, NoMemory};
 use front_ports::{FileFail, Files};
 use std::alloc::Global;
 use std::io::Eprint;
-use unread_members::{Places, unread_in_endpoints, unread_in_policy, unread_in_services};
 
 /// Files that are read once each when a program starts. Where one of them is that of an option, the members and rows of it that nobody
 /// reads are said on standard error: kube-apiserver does so for unknown fields of its policy file.

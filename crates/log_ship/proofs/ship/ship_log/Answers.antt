@@ -1,5 +1,5 @@
 use Rattle.std.proofs.Common.{◌≤◌, ◌+◌, ◌∙◌, nat_eq, ℕ, [], inl, refl, subst, sym, arith}
-use Rattle.batch_cut.specs.Cuts.{Gathered}
+use Rattle.log_ship.specs.Cuts.{Gathered}
 use Rattle.front_base.specs.declared.audit_id.TheConstants.{MOST_REQUESTS}
 use Rattle.log_ship.specs.Chains.{Side}
 use Rattle.front_ports.specs.Cause.{Rose}

@@ -6,7 +6,7 @@ use Rattle.front_config.specs.Load.{AreRead, load_of}
 use Rattle.front_config.specs.declared.files.Loaded.{Loaded}
 use Rattle.probe_command.specs.Config as spec
 use Rattle.probe_command.specs.Token.{HasToken}
-use Rattle.probe_words.specs.declared.probe.ProbeWords.{ProbeWords}
+use Rattle.probe_command.specs.declared.probe.ProbeWords.{ProbeWords}
 use Rattle.probe_command.proofs.ConfigLemmas.{load_refused, on_ok, token_refused, words_refused}
 use Rattle.probe_command.proofs.config.configure_probe.Goals as goal
 

@@ -1,5 +1,0 @@
-use Rattle.ship_summary.proofs.CountLemmas.{none_lost}
-use Rattle.ship_summary.proofs.laws.none_lost_is_all_posted.Goals as goal
-
-pub returns : goal.returns
-returns c = none_lost

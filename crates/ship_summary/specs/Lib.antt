@@ -1,3 +1,0 @@
-pub mod Paces
-pub mod Runs
-pub mod Summaries
