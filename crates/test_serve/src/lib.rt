@@ -12,4 +12,6 @@ mod play;
 #[cfg(test)]
 mod setting;
 #[cfg(test)]
+mod ships;
+#[cfg(test)]
 mod tests;
