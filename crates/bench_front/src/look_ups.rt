@@ -5,11 +5,12 @@ use crate::calls::{keys_of, table_of};
 use apiservice_rows::{Row, read_rows};
 use apiservice_table::{Change, RouteTable, Routes, TableRoutes};
 use route_history::{NewRoutes, RouteName};
-use route_share::share_routes;
+use route_share::{SharedTable, share_routes};
 use std::alloc::Global;
 use std::marker::Brand;
 use std::rt::Clock;
 use std::sync::Wait;
+use std::sync::ledger::Blank;
 use std::sync::atomic::{AtomicUsize, Ordering};
 use std::thread;
 use std::thread::Threads;
@@ -204,13 +205,17 @@ fn share<N: RouteName + Send + Sync, R: Threads + Wait + Copy + Send + Sync + Dr
     alloc: Global,
     asked: &LookUps,
     routes: NewRoutes,
+    blank: Blank,
+    bays: u16,
     row: &Row,
 ) -> Option<bool>
     requires home { routes.home ≡ N.home }
     requires opening { routes.opening ≡ N.opening }
+    requires ledger { (blank.name ≡ N.name) × (blank.parts ≡ N.parts) }
+    requires parts { blank.parts ≡ bays }
 {
-    let all = share_routes::<N, R>(rt, alloc, routes, asked.count()).ok()?;
-    run_all(&rt, alloc, asked, all, row)
+    let SharedTable { routes, .. } = share_routes::<N, R>(rt, alloc, routes, blank, bays).ok()?;
+    run_all(&rt, alloc, asked, routes, row)
 }
 
 /// By threads that share the table of a list.
@@ -225,7 +230,9 @@ pub fn shared<R: Threads + Wait + Copy + Send + Sync + Drop + Clock>(
         drop(row);
         return None;
     };
-    let done = share::<Brand, R>(rt, alloc, asked, routes, &row);
+    let bays = asked.count();
+    let blank = Blank::new(u64::from(bays));
+    let done = share::<Brand, R>(rt, alloc, asked, routes, blank, bays, &row);
     drop(row);
     done
 }

@@ -1,21 +1,21 @@
--- The exchange that adds a change keeps the rule.
+-- The exchange that adds an entry keeps the rule.
 use Rattle.std.proofs.Common.{◌≡◌, ℕ, ◌+◌, ◌<◌, ◌==◌, Bool, true, false, List, [], ◌∷◌, ◌++◌, length, refl, ap, sym, subst, arith, inl, length-append, None}
 use Rattle.std.proofs.lemmas.List.{append-nil}
 use Rattle.std.proofs.lemmas.Bool.Decides.{nat_tests}
 use mathlib.Core.List.{IsPrefix}
 use prog.Atomic.{either}
 use Rattle.logbook.specs.Pages.{Cell, cell, keeps, no_nib, step, Moves, Goes}
-use Rattle.apiservice_table.specs.declared.change.Change.{Change}
+use Rattle.route_history.specs.declared.entry.Entry.{Entry}
 use Rattle.route_history.specs.Rules.{IsKept, Adds}
 use Rattle.route_history.proofs.Prefixes.{prefix_whole}
 
-abbrev pub shown : List Change → List Change
+abbrev pub shown : List Entry → List Entry
 shown log = []
 
-abbrev pub moved : List Change → List Change → ℕ → Type 0
+abbrev pub moved : List Entry → List Entry → ℕ → Type 0
 moved xs ys n = Unit {0}
 
-pub adds_goes : (log v : List Change) (e : Change) (old : ℕ) → length v ≡ old → IsPrefix v log
+pub adds_goes : (log v : List Entry) (e : Entry) (old : ℕ) → length v ≡ old → IsPrefix v log
     → (b : Bool) → (length log == old) ≡ b
     → Goes IsKept shown moved 0 (v, (no_nib, None)) (λ n. either (n == old) (old + 1) n) (Adds (step 0 old (old + 1) e) (v, (no_nib, None))) ((length log, true) ∷ (0, true) ∷ []) log
 adds_goes log v e old len pre true is =
@@ -42,7 +42,7 @@ adds_goes log v e old len pre false is =
       rw is (ap length all),
     )
 
-pub adds_moves : (v : List Change) (e : Change) (old : ℕ) → length v ≡ old
+pub adds_moves : (v : List Entry) (e : Entry) (old : ℕ) → length v ≡ old
     → Moves IsKept shown moved 0 (v, (no_nib, None)) (λ n. either (n == old) (old + 1) n) (Adds (step 0 old (old + 1) e) (v, (no_nib, None)))
 adds_moves v e old len cs log kept pre away =
     let P : List Cell → Type 0 = λ c. (0 < length c) × ((cell c 0).1 ≡ true) × Goes IsKept shown moved 0 (v, (no_nib, None)) (λ n. either (n == old) (old + 1) n) (Adds (step 0 old (old + 1) e) (v, (no_nib, None))) c log in

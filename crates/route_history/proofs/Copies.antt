@@ -1,5 +1,6 @@
 -- The rows after one change more, and a table made anew from the rows of another.
 use Rattle.std.proofs.Common.{◌≡◌, ℕ, ◌+◌, ◌-◌, ◌<◌, List, [], ◌∷◌, ◌++◌, length, Some, slice_get, refl, ap, sym, ◌∙◌, arith, append_assoc, append-nil, length-append}
+use Rattle.std.proofs.lemmas.List.{map-append}
 use mathlib.Core.List.{IsPrefix}
 use Rattle.std.specs.Cmp.Lexicographic.{slice_cmp}
 use Rattle.std.specs.Ordering.{nat_cmp}
@@ -9,18 +10,20 @@ use Rattle.apiservice_table.specs.Changes.{after, changed}
 use Rattle.apiservice_table.specs.Order.{AllAfter, IsInOrder}
 use Rattle.apiservice_table.specs.Table.{with_row, with_rows}
 use Rattle.apiservice_table.specs.declared.change.Change.{Change}
+use Rattle.route_history.specs.History.{changes_of}
+use Rattle.route_history.specs.declared.entry.Entry.{Entry}
 
-one_only : (zs : List Change) (c : Change) → length zs ≡ 1 → slice_get zs 0 ≡ Some c → zs ≡ c ∷ []
+one_only : {A : Type 0} (zs : List A) (c : A) → length zs ≡ 1 → slice_get zs 0 ≡ Some c → zs ≡ c ∷ []
 one_only [] c len at = absurd (omega arith)
-one_only (z ∷ []) c len at = let e : z ≡ c = cc in ap (λ (y : Change). y ∷ []) e
+one_only {A} (z ∷ []) c len at = let e : z ≡ c = cc in ap (λ (y : A). y ∷ []) e
 one_only (z ∷ y ∷ ys) c len at = absurd (omega arith)
 
-past : (xs zs : List Change) → slice_get (xs ++ zs) (length xs) ≡ slice_get zs 0
+past : {A : Type 0} (xs zs : List A) → slice_get (xs ++ zs) (length xs) ≡ slice_get zs 0
 past [] zs = refl
 past (x ∷ xs) zs = past xs zs
 
--- a list with one change more ends with its last
-pub extends : (xs ys : List Change) (c : Change) → IsPrefix xs ys → length ys ≡ length xs + 1 → slice_get ys (length ys - 1) ≡ Some c → ys ≡ xs ++ c ∷ []
+-- a list with one element more ends with its last
+pub extends : (xs ys : List Entry) (c : Entry) → IsPrefix xs ys → length ys ≡ length xs + 1 → slice_get ys (length ys - 1) ≡ Some c → ys ≡ xs ++ c ∷ []
 extends xs ys c p len at =
     let n : length ys - 1 ≡ length xs = omega arith in
     let one : length p.0 ≡ 1 = omega (arith, ap length p.1, length-append xs p.0, len) in
@@ -28,7 +31,7 @@ extends xs ys c p len at =
     sym p.1 ∙ ap (λ l. xs ++ l) (one_only p.0 c one first)
 
 -- the last of a list that ends so
-pub last_of : (xs ys : List Change) (c : Change) → ys ≡ xs ++ c ∷ [] → (0 < length ys) × (slice_get ys (length ys - 1) ≡ Some c)
+pub last_of : (xs ys : List Entry) (c : Entry) → ys ≡ xs ++ c ∷ [] → (0 < length ys) × (slice_get ys (length ys - 1) ≡ Some c)
 last_of xs ys c e =
     let len : length ys ≡ length xs + 1 = omega (arith, ap length e, length-append xs (c ∷ [])) in
     let n : length ys - 1 ≡ length xs = omega arith in
@@ -37,6 +40,12 @@ last_of xs ys c e =
 pub after_push : (rows : List Row) (changes : List Change) (change : Change) → after rows (changes ++ change ∷ []) ≡ changed (after rows changes) change
 after_push rows [] change = refl
 after_push rows (first ∷ changes) change = after_push (changed rows first) changes change
+
+-- the rows after one entry more
+pub after_entry : (rows : List Row) (entries : List Entry) (entry : Entry)
+    → after rows (changes_of (entries ++ entry ∷ [])) ≡ changed (after rows (changes_of entries)) entry.change
+after_entry rows entries entry =
+    ap (after rows) (map-append (λ (e : Entry). e.change) entries (entry ∷ [])) ∙ after_push rows (changes_of entries) entry.change
 
 -- ---- rows in order, put in one after another, stay in their order
 

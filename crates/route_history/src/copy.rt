@@ -1,8 +1,10 @@
 ghost use Rattle.std.specs.Prelude.{◌≡◌, ◌<◌, ◌-◌, ◌++◌, ◌∷◌, [], List, length, OnOk, OnErr, Some, slice_get};
 ghost use Rattle.apiservice_rows.specs.Row.{Row};
 ghost use Rattle.apiservice_table.specs.Changes.{after, changed};
-ghost use Rattle.apiservice_table.specs.declared.change.Change.{Change};
+ghost use Rattle.route_history.specs.History.{changes_of};
+ghost use Rattle.route_history.specs.declared.entry.Entry.{Entry};
 
+use crate::entry::Entry;
 use crate::history::{HistoryPrefix, RouteName};
 use crate::prefix::Prefix;
 use apiservice_table::{Change, RouteTable};
@@ -15,22 +17,22 @@ pub struct RouteCopy<N: RouteName> {
     alloc: Global,
     table: RouteTable,
     pub prefix: HistoryPrefix<N>,
-    ghost kept: { table.rows ≡ after N.opening prefix.changes },
+    ghost kept: { table.rows ≡ after N.opening (changes_of prefix.entries) },
 }
 
-/// The change that a prefix of the history ends with.
+/// The entry that a prefix of the history ends with.
 #[derive(Drop)]
 pub struct NextChange<N: RouteName> {
-    change: Change,
+    entry: Entry,
     pub prefix: HistoryPrefix<N>,
-    ghost some: { 0 < length prefix.changes },
-    ghost last: { slice_get prefix.changes (length prefix.changes - 1) ≡ Some change },
+    ghost some: { 0 < length prefix.entries },
+    ghost last: { slice_get prefix.entries (length prefix.entries - 1) ≡ Some entry },
 }
 
 impl<N: RouteName> RouteCopy<N> {
     /// A copy with the rows after that prefix.
     pub fn new(alloc: Global, table: RouteTable, prefix: HistoryPrefix<N>) -> RouteCopy<N>
-        requires { table.rows ≡ after N.opening prefix.changes }
+        requires { table.rows ≡ after N.opening (changes_of prefix.entries) }
         ensures { result.prefix ≡ prefix }
     {
         RouteCopy {
@@ -71,7 +73,7 @@ impl<N: RouteName> Absorb<NextChange<N>> for RouteCopy<N> {
             return Err(AllocError);
         }
         let prefix = self.prefix.onto(&next.prefix);
-        apply_copy(self.alloc, &mut self.table, &next.change)?;
+        apply_copy(self.alloc, &mut self.table, &next.entry.change)?;
         self.prefix = prefix;
         Ok(())
     }
@@ -93,9 +95,9 @@ pub trait TableCopy<P: Prefix, O>: Drop {
     fn table(&self) -> &RouteTable
         ensures { result.now.rows ≡ rows self.now };
 
-    /// The last change of a prefix.
-    fn next(change: Change, prefix: P) -> O
-        requires { (before : List Change) × ((P.history prefix).changes ≡ before ++ change ∷ []) }
+    /// The last entry of a prefix.
+    fn next(entry: Entry, prefix: P) -> O
+        requires { (before : List Entry) × ((P.history prefix).entries ≡ before ++ entry ∷ []) }
         ensures { reaches result ≡ prefix };
 }
 
@@ -114,10 +116,10 @@ impl<N: RouteName> TableCopy<HistoryPrefix<N>, NextChange<N>> for RouteCopy<N> {
         &self.table
     }
 
-    fn next(change: Change, prefix: HistoryPrefix<N>) -> NextChange<N>
-        requires { (before : List Change) × (prefix.changes ≡ before ++ change ∷ []) }
+    fn next(entry: Entry, prefix: HistoryPrefix<N>) -> NextChange<N>
+        requires { (before : List Entry) × (prefix.entries ≡ before ++ entry ∷ []) }
         ensures { result.prefix ≡ prefix }
     {
-        NextChange { change, prefix }
+        NextChange { entry, prefix }
     }
 }

@@ -2,13 +2,15 @@ ghost use Rattle.std.specs.Prelude.{◌≡◌, ◌+◌, ◌<◌, ◌≤◌, ◌^
 ghost use mathlib.Core.List.{IsPrefix};
 ghost use Rattle.route_history.specs.Rules.{head_of};
 
+use crate::entry::Entry;
 use crate::rule::{Add, Law, Nothing};
-use apiservice_table::Change;
 use logbook::{Offer, Seen, Start, Word};
 use std::marker::{Brand, Model, PhantomData};
+use std::sync::ledger::Ledger;
 
-/// Which history of changes it is, and the rows before any change. The call of a run picks both.
-pub trait RouteName {
+/// Which history of changes it is, the rows before any change, and the ledger of how many changes each bay made. The call of a
+/// run picks all three.
+pub trait RouteName: Ledger {
     ghost use Rattle.std.specs.Prelude.{List};
     ghost use Rattle.apiservice_rows.specs.Row.{Row};
     ghost use Rattle.logbook.specs.Pages.{Book};
@@ -29,8 +31,8 @@ impl RouteName for Brand {
 /// A history without changes, which has no name yet.
 #[derive(Drop)]
 pub struct NewHistory {
-    head: Word<Change, u64, Law>,
-    seen: Seen<Change, u64, Law>,
+    head: Word<Entry, u64, Law>,
+    seen: Seen<Entry, u64, Law>,
     pub ghost empty: { seen.log ≡ [] },
     pub ghost head_is: { head ≡ head_of seen.book },
 }
@@ -47,7 +49,7 @@ impl NewHistory {
     /// What adds to the history, under a name, and a prefix of it without changes.
     pub fn named<N: RouteName>(self) -> (HistoryHead<N>, HistoryPrefix<N>)
         requires { self.seen.book ≡ N.home }
-        ensures { (result.1.home ≡ N.home) × (result.1.changes ≡ []) }
+        ensures { (result.1.home ≡ N.home) × (result.1.entries ≡ []) }
     {
         let NewHistory { head, seen } = self;
         (
@@ -67,15 +69,15 @@ impl NewHistory {
 /// What adds to a history: a word with its length.
 #[derive(Drop)]
 pub struct HistoryHead<N: RouteName> {
-    head: Word<Change, u64, Law>,
+    head: Word<Entry, u64, Law>,
     of: PhantomData<N>,
     ghost head_is: { head ≡ head_of N.home },
 }
 
-/// A prefix of a history, which has no name any more. Contracts see which history it is, and its changes.
+/// A prefix of a history, which has no name any more. Contracts see which history it is, and its entries.
 #[derive(Drop)]
 pub struct SeenHistory {
-    seen: Seen<Change, u64, Law>,
+    seen: Seen<Entry, u64, Law>,
 }
 
 impl Model for SeenHistory {
@@ -83,15 +85,15 @@ impl Model for SeenHistory {
 
     ghost Value = { History };
 
-    ghost view = { λ s. record { home = s.seen.book; changes = s.seen.log } };
+    ghost view = { λ s. record { home = s.seen.book; entries = s.seen.log } };
 }
 
 /// A prefix of a history, which has been reached. It is a number of changes and stores none of them. Contracts see which
-/// history it is, and its changes.
+/// history it is, and its entries.
 #[derive(Drop)]
 pub struct HistoryPrefix<N: RouteName> {
     count: u64,
-    seen: Seen<Change, u64, Law>,
+    seen: Seen<Entry, u64, Law>,
     of: PhantomData<N>,
 }
 
@@ -101,7 +103,7 @@ impl<N: RouteName> Model for HistoryPrefix<N> {
 
     ghost Value = { History };
 
-    ghost view = { λ p. record { home = p.seen.book; changes = p.seen.log } };
+    ghost view = { λ p. record { home = p.seen.book; entries = p.seen.log } };
 
     ghost invariant = { λ p. (p.count ≡ length p.seen.log) × (p.seen.book ≡ N.home) };
 }
@@ -109,7 +111,7 @@ impl<N: RouteName> Model for HistoryPrefix<N> {
 impl<N: RouteName> HistoryPrefix<N> {
     /// How many changes it has.
     pub fn len(&self) -> u64
-        ensures count { result ≡ length self.now.changes }
+        ensures count { result ≡ length self.now.entries }
         ensures home { self.now.home ≡ N.home }
     {
         self.count
@@ -128,9 +130,9 @@ impl<N: RouteName> HistoryPrefix<N> {
 
     /// Another prefix, which is no shorter. It begins with this one.
     pub fn onto(&self, other: &HistoryPrefix<N>) -> HistoryPrefix<N>
-        requires { length self.now.changes ≤ length other.now.changes }
+        requires { length self.now.entries ≤ length other.now.entries }
         ensures same { result ≡ other.now }
-        ensures begins { IsPrefix self.now.changes other.now.changes }
+        ensures begins { IsPrefix self.now.entries other.now.entries }
     {
         let mut both = self.seen.again();
         both.learn(&other.seen);
@@ -145,16 +147,16 @@ impl<N: RouteName> HistoryPrefix<N> {
         SeenHistory { seen }
     }
 
-    /// Adds a change to a history that is no longer than this prefix, and says whether it did. Where the history is longer it
+    /// Adds an entry to a history that is no longer than this prefix, and says whether it did. Where the history is longer it
     /// adds none, and sees it.
-    pub fn put(&mut self, head: &HistoryHead<N>, change: &Change) -> bool
-        requires { length self.old.changes < 2 ^ 62 }
+    pub fn put(&mut self, head: &HistoryHead<N>, entry: &Entry) -> bool
+        requires { length self.old.entries < 2 ^ 62 }
         ensures home { self.new.home ≡ self.old.home }
-        ensures put { MatchBool result (self.new.changes ≡ self.old.changes ++ change.now ∷ []) (IsPrefix self.old.changes self.new.changes) }
+        ensures put { MatchBool result (self.new.entries ≡ self.old.entries ++ entry.now ∷ []) (IsPrefix self.old.entries self.new.entries) }
     {
-        let mut offer: Offer<Change, u64, Law, Nothing> = self
+        let mut offer: Offer<Entry, u64, Law, Nothing> = self
             .seen
-            .plain::<Nothing, Change, Add>(change);
+            .plain::<Nothing, Entry, Add>(entry);
         let mut pen = self.seen.no_pen();
         let count = self.count;
         let found = head

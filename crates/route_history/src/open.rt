@@ -74,7 +74,7 @@ impl NewRoutes {
     pub fn named<N: RouteName>(self) -> NamedRoutes<N>
         requires home { self.home ≡ N.home }
         requires opening { self.opening ≡ N.opening }
-        ensures prefix { (result.prefix.home ≡ N.home) × (result.prefix.changes ≡ []) }
+        ensures prefix { (result.prefix.home ≡ N.home) × (result.prefix.entries ≡ []) }
         ensures first { result.first.prefix ≡ result.prefix }
         ensures second { result.second.prefix ≡ result.prefix }
     {

@@ -4,8 +4,8 @@ ghost use Rattle.apiservice_rows.specs.Row.{Row};
 ghost use Rattle.logbook.specs.Pages.{Book};
 ghost use Rattle.route_history.specs.History.{History};
 
+use crate::entry::Entry;
 use crate::history::{HistoryHead, HistoryPrefix, RouteName, SeenHistory};
-use apiservice_table::Change;
 
 /// A prefix of the one history that its type names.
 pub trait Prefix: Drop {
@@ -22,7 +22,7 @@ pub trait Prefix: Drop {
 
     /// How many changes it has.
     fn size(&self) -> u64
-        ensures count { result ≡ length (history self.now).changes }
+        ensures count { result ≡ length (history self.now).entries }
         ensures home { (history self.now).home ≡ home };
 
     /// An equal prefix.
@@ -31,20 +31,20 @@ pub trait Prefix: Drop {
 
     /// Another prefix, which is no shorter. It begins with this one.
     fn later(&self, other: &Self) -> Self
-        requires { length (history self.now).changes ≤ length (history other.now).changes }
+        requires { length (history self.now).entries ≤ length (history other.now).entries }
         ensures same { history result ≡ history other.now }
-        ensures begins { IsPrefix (history self.now).changes (history other.now).changes };
+        ensures begins { IsPrefix (history self.now).entries (history other.now).entries };
 
     /// The same prefix without the name.
     fn unnamed(self) -> SeenHistory
         ensures { result ≡ history self };
 
-    /// Adds a change to a history that is no longer than this prefix, and says whether it did.
-    fn add(&mut self, head: &Self::Head, change: &Change) -> bool
-        requires { length (history self.old).changes < 2 ^ 62 }
+    /// Adds an entry to a history that is no longer than this prefix, and says whether it did.
+    fn add(&mut self, head: &Self::Head, entry: &Entry) -> bool
+        requires { length (history self.old).entries < 2 ^ 62 }
         ensures home { (history self.new).home ≡ (history self.old).home }
-        ensures added { MatchBool result ((history self.new).changes ≡ (history self.old).changes ++ change.now ∷ [])
-            (IsPrefix (history self.old).changes (history self.new).changes) };
+        ensures added { MatchBool result ((history self.new).entries ≡ (history self.old).entries ++ entry.now ∷ [])
+            (IsPrefix (history self.old).entries (history self.new).entries) };
 }
 
 impl<N: RouteName> Prefix for HistoryPrefix<N> {
@@ -72,7 +72,7 @@ impl<N: RouteName> Prefix for HistoryPrefix<N> {
         HistoryPrefix::unnamed(self)
     }
 
-    fn add(&mut self, head: &HistoryHead<N>, change: &Change) -> bool {
-        self.put(head, change)
+    fn add(&mut self, head: &HistoryHead<N>, entry: &Entry) -> bool {
+        self.put(head, entry)
     }
 }

@@ -1,10 +1,10 @@
 // The rule of a history: its word is its length.
-use apiservice_table::Change;
+use crate::entry::Entry;
 use logbook::{Gain, Plain, Play, Rule};
 
 pub struct Law;
 
-impl Rule<Change, u64> for Law {
+impl Rule<Entry, u64> for Law {
     ghost use Rattle.std.specs.Prelude.{[]};
     ghost use base.Fml.{ftrue};
     ghost use Rattle.route_history.specs.Rules.{IsKept};
@@ -25,26 +25,26 @@ impl Rule<Change, u64> for Law {
 // Callers trade nothing.
 pub struct Nothing;
 
-impl Gain<Change, u64> for Nothing {
+impl Gain<Entry, u64> for Nothing {
     ghost use base.Fml.{ftrue};
 
     ghost after = { λ names about answer. ftrue };
 }
 
-// A step that adds a change.
+// A step that adds an entry.
 pub struct Add;
 
-impl Play<Change, u64> for Add {
+impl Play<Entry, u64> for Add {
     ghost use Rattle.route_history.specs.Rules.{Adds};
 
     ghost then = { Adds };
 }
 
-// What a step asks for: the change.
-impl Plain<Change, Change, u64> for Add {
+// What a step asks for: the entry.
+impl Plain<Entry, Entry, u64> for Add {
     ghost use Rattle.std.specs.Prelude.{None};
 
-    ghost ask = { λ change. change };
+    ghost ask = { λ entry. entry };
 
-    ghost state = { λ change. None };
+    ghost state = { λ entry. None };
 }

@@ -1,7 +1,9 @@
 ghost use Rattle.std.specs.Prelude.{◌≡◌, IfSome};
 ghost use Rattle.std.specs.Fn.{FnReturnsAt};
-ghost use Rattle.apiservice_table.specs.Changes.{after, IsLater};
+ghost use mathlib.Core.List.{IsPrefix};
+ghost use Rattle.apiservice_table.specs.Changes.{after};
 ghost use Rattle.apiservice_table.specs.Table.{Table};
+ghost use Rattle.route_history.specs.History.{changes_of};
 
 use apiservice_table::RouteTable;
 use left_right::ReadHandle;
@@ -23,7 +25,7 @@ fn try_look<P: Prefix, T: TableCopy<P, O>, O: Drop, A, F: Fn(&RouteTable) -> A>(
     of: PhantomData<O>,
 ) -> Option<Looked<P, A>>
     requires { F.IsAlwaysCallable ask.now }
-    ensures later { IfSome result (λ r. IsLater (P.history seen.now).changes (P.history r.prefix).changes) }
+    ensures later { IfSome result (λ r. IsPrefix (P.history seen.now).entries (P.history r.prefix).entries) }
     ensures home { IfSome result (λ r. (P.history r.prefix).home ≡ P.home) }
     ensures answer { IfSome result (λ r. (copy : T) × (P.history r.prefix ≡ P.history (T.shows copy))
         × ((t : Table) × (t.rows ≡ T.rows copy) × FnReturnsAt F.Fn ask.now t r.answer)) }
@@ -50,10 +52,10 @@ pub fn look<P: Prefix, T: TableCopy<P, O>, O: Drop, R: Wait, A, F: Fn(&RouteTabl
     of: PhantomData<O>,
 ) -> A
     requires callable { F.IsAlwaysCallable ask.now }
-    requires rows_are { (copy : T) → T.rows copy ≡ after P.opening (P.history (T.shows copy)).changes }
-    ensures later { IsLater (P.history seen.old).changes (P.history seen.new).changes }
+    requires rows_are { (copy : T) → T.rows copy ≡ after P.opening (changes_of (P.history (T.shows copy)).entries) }
+    ensures later { IsPrefix (P.history seen.old).entries (P.history seen.new).entries }
     ensures home { (P.history seen.new).home ≡ P.home }
-    ensures answer { (t : Table) × (t.rows ≡ after P.opening (P.history seen.new).changes) × FnReturnsAt F.Fn ask.now t result }
+    ensures answer { (t : Table) × (t.rows ≡ after P.opening (changes_of (P.history seen.new).entries)) × FnReturnsAt F.Fn ask.now t result }
 {
     for _ in rt.forever() {
         // A copy is never older than what was seen: no type says so.

@@ -9,29 +9,15 @@ both : (a b : Bool) → (a && b) ≡ true → (a ≡ true) × (b ≡ true)
 both true b e = (refl, e)
 both false b e = absurd (cc e)
 
-joined : (a b : Bool) → a ≡ true → b ≡ true → (a && b) ≡ true
+pub joined : (a b : Bool) → a ≡ true → b ≡ true → (a && b) ≡ true
 joined true b p q = q
 joined false b p q = absurd (cc p)
 
 less : (a b : ℕ) → nat_lt a b ≡ true → a < b
 less a b e = grind (arith, nat_tests)
 
-is_less : (a b : ℕ) → a < b → nat_lt a b ≡ true
+pub is_less : (a b : ℕ) → a < b → nat_lt a b ≡ true
 is_less a b h = grind (arith, nat_tests)
-
-pub below_more : (n m : ℕ) (places : List ℕ) → n ≤ m → are_below n places ≡ true → are_below m places ≡ true
-below_more n m [] le h = refl
-below_more n m (place ∷ places) le h =
-    let parts = both (nat_lt place n) (are_below n places) h in
-    let lt : place < n = less place n parts.0 in
-    joined (nat_lt place m) (are_below m places) (is_less place m (omega arith)) (below_more n m places le parts.1)
-
-below_last : (n m place : ℕ) (places : List ℕ) → n ≤ m → place < m → are_below n places ≡ true → are_below m (places ++ place ∷ []) ≡ true
-below_last n m place [] le lt h = joined (nat_lt place m) true (is_less place m lt) refl
-below_last n m place (first ∷ places) le lt h =
-    let parts = both (nat_lt first n) (are_below n places) h in
-    let here : first < n = less first n parts.0 in
-    joined (nat_lt first m) (are_below m (places ++ place ∷ [])) (is_less first m (omega arith)) (below_last n m place places le lt parts.1)
 
 get_within : (xs ys : List Change) (k : ℕ) → k < length xs → slice_get (xs ++ ys) k ≡ slice_get xs k
 get_within [] ys k lt = absurd (omega arith)
@@ -64,17 +50,10 @@ places_last (place ∷ places) seen change =
     shifted None = refl
     shifted (Some found) = refl
 
-pub later_length : (old new : List Change) → IsLater old new → length old ≤ length new
-later_length old new later = omega (arith, ap (λ l. length l) later.1 ∙ length-append old later.0)
-
 -- what was seen more leaves the own changes
 pub own_stay : (places : List ℕ) (old new : List Change) → IsLater old new → are_below (length old) places ≡ true
     → changes_at places new ≡ changes_at places old
 own_stay places old new later h = ap (λ l. changes_at places l) later.1 ∙ places_stay places old later.0 h
-
-pub below_stay : (places : List ℕ) (old new : List Change) → IsLater old new → are_below (length old) places ≡ true
-    → are_below (length new) places ≡ true
-below_stay places old new later h = below_more (length old) (length new) places (later_length old new later) h
 
 -- an own change joins them at its place
 pub own_push : (places : List ℕ) (old before new : List Change) (change : Change) (place : ℕ) → IsLater old before → new ≡ before ++ change ∷ []
@@ -88,11 +67,3 @@ own_push places old before new change place later last at h =
     ∙ ap (λ l. changes_at (places ++ length before ∷ []) l) last
     ∙ places_last places before change
     ∙ ap (λ l. l ++ (length before, change) ∷ []) (ap (λ l. changes_at places l) all ∙ places_stay places old (later.0 ++ change ∷ []) h)
-
-pub below_push : (places : List ℕ) (old before new : List Change) (change : Change) (place : ℕ) → IsLater old before → new ≡ before ++ change ∷ []
-    → place ≡ length new - 1 → are_below (length old) places ≡ true
-    → are_below (length new) (places ++ place ∷ []) ≡ true
-below_push places old before new change place later last at h =
-    let one : length new ≡ length before + 1 = ap (λ l. length l) last ∙ length-append before (change ∷ []) in
-    let more = later_length old before later in
-    below_last (length old) (length new) place places (omega (arith, one, more)) (omega (arith, at, one)) h

@@ -4,10 +4,11 @@ use apiservice_rows::{Rows, read_row};
 use apiservice_table::{Change, ChangeFault, RouteTable, Routes};
 use front_base::{Bytes, Text};
 use route_history::{NewRoutes, RouteName};
-use route_share::share_routes;
+use route_share::{SharedTable, share_routes};
 use std::alloc::Global;
 use std::marker::Brand;
 use std::sync::Wait;
+use std::sync::ledger::Blank;
 use std::test::Fail;
 use std::thread::Threads;
 use std::{str, thread};
@@ -165,12 +166,15 @@ fn share_and_ask<N: RouteName + Send + Sync, R: Threads + Wait + Copy + Send + S
     rt: R,
     alloc: Global,
     routes: NewRoutes,
+    blank: Blank,
 ) -> Result<u64, Fail>
     requires home { routes.home ≡ N.home }
     requires opening { routes.opening ≡ N.opening }
+    requires ledger { (blank.name ≡ N.name) × (blank.parts ≡ N.parts) }
+    requires parts { blank.parts ≡ 8 }
 {
-    let all = share_routes::<N, R>(rt, alloc, routes, 8)?;
-    wrong_of(&rt, alloc, all)
+    let SharedTable { routes, .. } = share_routes::<N, R>(rt, alloc, routes, blank, 8)?;
+    wrong_of(&rt, alloc, routes)
 }
 
 fn no_rows(alloc: Global) -> Result<NewRoutes, Fail> {
@@ -183,7 +187,7 @@ fn no_rows(alloc: Global) -> Result<NewRoutes, Fail> {
 fn eight_bays_share_one_table(rt: HostRuntime) -> Result<(), Fail> {
     let alloc = rt.alloc();
     let routes = no_rows(alloc)?;
-    let wrong = share_and_ask::<Brand, HostRuntime>(rt, alloc, routes)?;
+    let wrong = share_and_ask::<Brand, HostRuntime>(rt, alloc, routes, Blank::new(8))?;
     assert_eq!(rt; wrong, 0);
     Ok(())
 }
