@@ -120,6 +120,11 @@ fn told(run: Run, refused: bool, due: &Due) -> Told {
             how: word(&ended),
             refused,
         },
+        Run::Uncounted => Told {
+            kept: false,
+            how: "changes not counted",
+            refused,
+        },
         Run::Refused(status) => Told {
             kept: is_out_of_memory(status),
             how: "status 6",

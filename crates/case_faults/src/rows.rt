@@ -18,6 +18,7 @@ fn line_of<R: Threads + Wait + Copy + Send + Sync + Drop>(
     };
     match run_ready(threads, alloc, ready) {
         Run::Ended(ended) => ended_line(alloc, row, &ended),
+        Run::Uncounted => format!(in alloc; "{row}: changes not counted").ok(),
         Run::Refused(status) => refused_line(alloc, row, status),
     }
 }

@@ -21,6 +21,8 @@ fn plant_of<R>(threads: &R, alloc: Global, script: &str, row: &str) -> Option<Me
 pub enum Run {
     /// What is left of it.
     Ended(Ended),
+    /// It served, and the changes of its table were not counted.
+    Uncounted,
     /// It didn't begin, since its words or files were refused or memory ran out, and this is its status.
     Refused(Status),
 }
@@ -62,9 +64,17 @@ pub fn run_ready<R: Threads + Wait + Copy + Send + Sync + Drop>(
         status,
         why: _,
         ended,
+        counted,
     } = serve(threads, alloc, &words, &mut files, &mut plant);
     match ended {
-        Some(ended) => Run::Ended(ended),
+        Some(ended) => {
+            if counted || ended.bays.is_empty() {
+                Run::Ended(ended)
+            } else {
+                drop(ended);
+                Run::Uncounted
+            }
+        }
         None => Run::Refused(status),
     }
 }

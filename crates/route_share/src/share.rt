@@ -52,7 +52,15 @@ fn one_bay<
 {
     let writer = Arc::try_clone(writer)?;
     let reader = readers.handle()?;
-    Ok(SharedRoutes::new(rt, writer, reader, prefix.copy(), bay, Vec::new(alloc), share))
+    Ok(SharedRoutes::new(
+        rt,
+        writer,
+        reader,
+        prefix.copy(),
+        bay,
+        Vec::new(alloc),
+        share,
+    ))
 }
 
 // Routes for so many bays, with one part of the share for each.
@@ -116,7 +124,10 @@ pub fn share_routes<N: RouteName, R: Wait + Copy + Drop>(
         alloc, rt, first, second, most,
     )?;
     let readers = copies.factory()?;
-    let writer = Arc::new(alloc, Mutex::new(RouteWriter::new(copies, head, made, none)))?;
+    let writer = Arc::new(
+        alloc,
+        Mutex::new(RouteWriter::new(copies, head, made, none)),
+    )?;
     let routes = each_bay(rt, alloc, &writer, &readers, &prefix, &mut rest, bays)?;
     Ok(SharedTable { writer, routes })
 }

@@ -1,5 +1,5 @@
 -- A run of what words and files make.
-use Rattle.std.proofs.Common.{◌≡◌, ◌⊎◌, ℕ, List, subst}
+use Rattle.std.proofs.Common.{◌≡◌, ◌⊎◌, ℕ, Bool, List, subst}
 use Rattle.apiservice_rows.specs.Row.{Row}
 use Rattle.audit_core.specs.declared.settings.Settings.{Settings}
 use Rattle.command_ends.specs.Ports.{FilesPort}
@@ -21,20 +21,21 @@ use Rattle.shared_runs.specs.Runs.{RunShared}
 use Rattle.shared_runs.specs.Setup.{options_of, settings_of}
 
 module _ {L N W H K Y D C : Type 0} (h : BayHandles Shared L N W H K Y D C) (T : Type 0) (opens : Openings) (home : Book)
-    (before after : PlantTells C) (ended : Ended History L W H K Y D) where
+    (before after : PlantTells C) (ended : Ended History L W H K Y D) (counted : Bool) where
   -- a run, or none, by these words, settings and rows
   abbrev pub Ran : ServeWords → Address → Settings → List Row → Type 0
   Ran words listen set opening =
-      RunShared h T set (options_of words listen) opens home opening before after ended
+      RunShared h T set (options_of words listen) opens home opening before after ended counted
       ⊎ NothingRan set (options_of words listen) before after ended
 
   pub runs : (words : List (List ℕ)) (files : FilesPort) (serve : Serve) (is : IsServe words files.before.told serve) (left : Served L W H K Y D)
-      → Ran serve.words serve.words.listen serve.settings serve.routes.opening → IsLeft ended left
+      → Ran serve.words serve.words.listen serve.settings serve.routes.opening → IsLeft ended counted left
       → Runs h T opens words files before after left
   runs words files serve is left ran is_left = record {
     config = is.config;
     configures = is.configures;
     ended = ended;
+    counted = counted;
     home = home;
     ran =
         subst (λ own. Ran own own.listen (settings_of is.config.words is.config.loaded) is.config.loaded.table.rows) is.words_are

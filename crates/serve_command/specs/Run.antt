@@ -1,5 +1,5 @@
 -- A run of `serve`, from its words to its end.
-use Rattle.std.specs.Prelude.{◌≡◌, ◌⊎◌, ℕ, List, Option, Some, None}
+use Rattle.std.specs.Prelude.{◌≡◌, ◌⊎◌, ℕ, Bool, List, Option, Some, None}
 use Rattle.command_ends.specs.Ports.{FilesPort}
 use Rattle.command_ends.specs.declared.status.Status.{Status}
 use Rattle.front_plants.specs.Fresh.{Openings}
@@ -26,10 +26,11 @@ module _ {L W H K Y D : Type 0} where
     pub none : left.ended ≡ None
 
   -- a run ended so, and its status is reported alone
-  pub record IsLeft (ended : Ended History L W H K Y D) (left : Served L W H K Y D) : Type 0 where
+  pub record IsLeft (ended : Ended History L W H K Y D) (counted : Bool) (left : Served L W H K Y D) : Type 0 where
     pub status_is : left.status ≡ status_of ended.status
     pub why_is : left.why ≡ None
     pub ended_is : left.ended ≡ Some ended
+    pub counted_is : left.counted ≡ counted
 
 module _ {L N W H K Y D C : Type 0} (h : BayHandles Shared L N W H K Y D C) (T : Type 0) (opens : Openings) where
   -- Words and files are refused, for the first reason in order, and the plant wasn't called
@@ -44,11 +45,12 @@ module _ {L N W H K Y D C : Type 0} (h : BayHandles Shared L N W H K Y D C) (T :
     pub config : ServeConfig
     pub configures : Configures words files.before.told config
     pub ended : Ended History L W H K Y D
+    pub counted : Bool
     pub home : Book
     pub ran : RunShared h T (settings_of config.words config.loaded) (options_of config.words config.words.listen) opens home
-        config.loaded.table.rows before after ended
+        config.loaded.table.rows before after ended counted
         ⊎ NothingRan (settings_of config.words config.loaded) (options_of config.words config.words.listen) before after ended
-    pub is_left : IsLeft ended left
+    pub is_left : IsLeft ended counted left
 
   abbrev pub Run : List (List ℕ) → FilesPort → PlantTells C → PlantTells C → Served L W H K Y D → Type 0
   Run words files before after left = RunsNot words files before after left ⊎ Runs words files before after left

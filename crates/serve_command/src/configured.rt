@@ -18,15 +18,18 @@ use front_ports::{Dial, Door, Files};
 use route_history::{NewRoutes, SeenHistory};
 use serve_config::{ServeConfig, ServeWords, configure_serve};
 use serve_runs::Ended;
-use shared_runs::{run_shared, settings_of};
+use shared_runs::{SharedEnd, run_shared, settings_of};
 use std::alloc::Global;
 use std::marker::Brand;
+use std::sync::ledger::Blank;
 
 /// What a run leaves, beside what its words asked for.
 #[derive(Drop)]
 pub struct Ran<L, W, H, K, Y, D> {
     pub words: ServeWords,
     pub ended: Ended<SeenHistory, L, W, H, K, Y, D>,
+    /// Whether the changes of the table were counted at the end: see `shared_runs::SharedEnd`.
+    pub counted: bool,
 }
 
 impl Serve {
@@ -109,7 +112,7 @@ impl Serve {
         ensures words { result.words ≡ self.words }
         ensures ran { RunShared (bay_handles shared_routes P.L.Dial P.W.BatchSink P.H.BatchSink P.K.Clock P.Y.Diary P.D.Door
             P.D.C.Source P.D.C.ByteSink P.D.C.Conn.own) P.Rt self.settings
-            (options_of self.words listen) P.opens self.routes.home self.routes.opening (P.tells plant.old) (P.tells plant.new) result.ended
+            (options_of self.words listen) P.opens self.routes.home self.routes.opening (P.tells plant.old) (P.tells plant.new) result.ended result.counted
             ⊎ NothingRan self.settings (options_of self.words listen) (P.tells plant.old) (P.tells plant.new) result.ended }
     {
         let Serve {
@@ -118,7 +121,14 @@ impl Serve {
             routes,
             services: _,
         } = self;
-        let ended = run_shared::<Brand, P>(rt, alloc, &words, settings, listen, routes, plant);
-        Ran { words, ended }
+        let blank = Blank::new(u64::from(words.bays));
+        let SharedEnd { ended, counted } = run_shared::<Brand, P>(
+            rt, alloc, &words, settings, listen, routes, blank, plant,
+        );
+        Ran {
+            words,
+            ended,
+            counted,
+        }
     }
 }

@@ -25,6 +25,8 @@ pub struct Served<L, W, H, K, Y, D> {
     pub why: Option<Refusal>,
     /// What the run left, where words and files were not refused.
     pub ended: Option<Ended<SeenHistory, L, W, H, K, Y, D>>,
+    /// Whether the changes of the table were counted at the end of the run: see `shared_runs::SharedEnd`.
+    pub counted: bool,
 }
 
 fn refused<L, W, H, K, Y, D>(outcome: Outcome) -> Served<L, W, H, K, Y, D>
@@ -35,18 +37,21 @@ fn refused<L, W, H, K, Y, D>(outcome: Outcome) -> Served<L, W, H, K, Y, D>
         status,
         why,
         ended: None,
+        counted: false,
     }
 }
 
 fn ended_so<L, W, H, K, Y, D>(
     ended: Ended<SeenHistory, L, W, H, K, Y, D>,
+    counted: bool,
 ) -> Served<L, W, H, K, Y, D>
-    ensures { spec.IsLeft ended result }
+    ensures { spec.IsLeft ended counted result }
 {
     Served {
         status: status_of(ended.status),
         why: None,
         ended: Some(ended),
+        counted,
     }
 }
 
@@ -84,8 +89,12 @@ where
     match Serve::configure(alloc, words, files) {
         Ok(run) => {
             let listen = run.words().listen;
-            let Ran { words: _, ended } = run.run(rt, alloc, listen, plant);
-            ended_so(ended)
+            let Ran {
+                words: _,
+                ended,
+                counted,
+            } = run.run(rt, alloc, listen, plant);
+            ended_so(ended, counted)
         }
         Err(outcome) => refused(outcome),
     }

@@ -48,6 +48,8 @@ struct Left {
     status: RunStatus,
     // What it came to, in words, where anything ran.
     text: Option<String>,
+    // Whether the changes of the table were counted, where anything ran.
+    counted: bool,
 }
 
 // What is known of a run of which this is left, whose sinks counted so.
@@ -55,10 +57,12 @@ fn left_of<R: Drop, L: Drop, W: Drop, H: Drop, K: Drop, Y: Drop, D: Drop>(
     alloc: Global,
     words: &ServeWords,
     ended: Ended<R, L, W, H, K, Y, D>,
+    counted: bool,
     log: SinkCounts,
     hook: SinkCounts,
 ) -> Left {
-    let text = if ended.bays.is_empty() {
+    let none = ended.bays.is_empty();
+    let text = if none {
         None
     } else {
         ended_text(alloc, words, &ended, log, hook).ok()
@@ -66,6 +70,7 @@ fn left_of<R: Drop, L: Drop, W: Drop, H: Drop, K: Drop, Y: Drop, D: Drop>(
     Left {
         status: ended.status,
         text,
+        counted: none || counted,
     }
 }
 
@@ -82,6 +87,9 @@ fn ending_of(host: &HostRuntime, words: &ServeWords, gate: &TcpGate, left: &Left
     if let Some(text) = &left.text {
         let text = text.as_str();
         let _ = eprint!(host; "{text}");
+    }
+    if !left.counted {
+        let _ = eprintln!(host; "apiaggd: changes of the table: could not be counted");
     }
     ending_by(alloc, words, left.status)
 }
@@ -112,11 +120,16 @@ where
     P::H: Send,
 {
     let (alloc, at) = (host.alloc(), gate.address());
-    let Ran { words, ended } = serve.run(rt, alloc, at, plant);
+    let Ran {
+        words,
+        ended,
+        counted,
+    } = serve.run(rt, alloc, at, plant);
     let left = left_of(
         alloc,
         &words,
         ended,
+        counted,
         gate.log().counts(),
         gate.hook().counts(),
     );

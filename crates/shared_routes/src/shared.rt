@@ -134,7 +134,10 @@ impl<
         ensures within { fits.new ≡ true → (fits.old ≡ true) × (self.bay ≡ number) × IsWithin (P.history whole.now).entries self }
     {
         let SharedRoutes {
-            prefix, bay, share, ..
+            prefix,
+            bay,
+            share,
+            ..
         } = self;
         all.merge(share);
         if bay != number || prefix.size() > whole.size() {

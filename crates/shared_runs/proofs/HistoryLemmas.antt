@@ -3,27 +3,23 @@ use Rattle.std.proofs.Common.{◌++◌, List, All, ap, sym, ◌∙◌, append_as
 use Rattle.std.proofs.lemmas.List.Elements.{All-weaker}
 use mathlib.Core.List.{IsPrefix}
 use Rattle.apiservice_rows.specs.Row.{Row}
-use Rattle.apiservice_table.specs.Changes.{IsLater}
-use Rattle.apiservice_table.specs.declared.change.Change.{Change}
 use Rattle.logbook.specs.Pages.{Book}
+use Rattle.route_history.specs.declared.entry.Entry.{Entry}
 use Rattle.shared_runs.specs.Histories.{SawOne}
 use Rattle.serve_roles.specs.declared.bay_end.BayEnd.{BayEnd}
 use Rattle.shared_routes.specs.Shared.{Shared}
 
-pub begins_later : (old new : List Change) → IsPrefix old new → IsLater old new
-begins_later old new h = (h.0, sym h.1)
-
-pub later_later : (xs ys zs : List Change) → IsLater xs ys → IsLater ys zs → IsLater xs zs
-later_later xs ys zs (m, e) (n, f) = (m ++ n, f ∙ (ap (λ l. l ++ n) e ∙ append_assoc xs m n))
+pub prefix_trans : (xs ys zs : List Entry) → IsPrefix xs ys → IsPrefix ys zs → IsPrefix xs zs
+prefix_trans xs ys zs p q = (p.0 ++ q.0, sym (append_assoc xs p.0 q.0) ∙ (ap (λ w. w ++ q.0) p.1 ∙ q.1))
 
 module _ {L K Y D : Type 0} (home : Book) (opening : List Row) where
-  pub saw_more : (xs ys : List Change) → IsLater xs ys → (end : BayEnd Shared L K Y D) → SawOne home opening xs end → SawOne home opening ys end
+  pub saw_more : (xs ys : List Entry) → IsPrefix xs ys → (end : BayEnd Shared L K Y D) → SawOne home opening xs end → SawOne home opening ys end
   saw_more xs ys h end s = record {
     home_is = s.home_is;
     opening_is = s.opening_is;
-    seen = later_later end.routes.seen xs ys s.seen h;
+    seen = prefix_trans end.routes.entries xs ys s.seen h;
   }
 
-  pub all_saw_more : (xs ys : List Change) → IsLater xs ys → (ends : List (BayEnd Shared L K Y D)) → All (SawOne home opening xs) ends
+  pub all_saw_more : (xs ys : List Entry) → IsPrefix xs ys → (ends : List (BayEnd Shared L K Y D)) → All (SawOne home opening xs) ends
       → All (SawOne home opening ys) ends
   all_saw_more xs ys h ends all = All-weaker (SawOne home opening xs) (SawOne home opening ys) (saw_more xs ys h) ends all

@@ -1,3 +1,4 @@
+mod EndLemmas
 mod HistoryLemmas
 mod RunLemmas
 mod WalkLemmas

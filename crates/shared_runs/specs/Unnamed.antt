@@ -3,7 +3,11 @@ use Rattle.route_history.specs.History.{History}
 use Rattle.serve_roles.specs.declared.bay_end.BayEnd.{BayEnd}
 use Rattle.shared_routes.specs.Shared.{Shared}
 
--- of a bay's routes which history it is, and the changes that were seen
+-- a bay's routes at its end
+abbrev pub routes_of : {L K Y D : Type 0} → BayEnd Shared L K Y D → Shared
+routes_of end = end.routes
+
+-- of a bay's routes which history it is, and the entries that were seen
 abbrev pub unnamed_end : {L K Y D : Type 0} → BayEnd Shared L K Y D → BayEnd History L K Y D
 unnamed_end end = record {
   bay = end.bay;
@@ -14,7 +18,7 @@ unnamed_end end = record {
   counts = end.counts;
   stop = end.stop;
   door = end.door;
-  routes = record { home = end.routes.home; changes = end.routes.seen };
+  routes = record { home = end.routes.home; entries = end.routes.entries };
   dial = end.dial;
   clock = end.clock;
   diary = end.diary;

@@ -1,7 +1,7 @@
 // What the bays of a run saw of their one history.
 ghost use Rattle.std.specs.Prelude.{◌≡◌, All, List};
-ghost use Rattle.apiservice_table.specs.Changes.{IsLater};
-ghost use Rattle.apiservice_table.specs.declared.change.Change.{Change};
+ghost use mathlib.Core.List.{IsPrefix};
+ghost use Rattle.route_history.specs.declared.entry.Entry.{Entry};
 ghost use Rattle.shared_runs.specs.Histories.{SawOne};
 
 use left_right::Absorb;
@@ -9,12 +9,12 @@ use route_history::{Prefix, TableCopy};
 use serve_roles::BayEnd;
 use shared_routes::SharedRoutes;
 use std::sync::Wait;
+use std::sync::ledger::Ledger;
 
 // Of two prefixes of a history the longer one.
-#[tactic(auto, using(crate::proofs::HistoryLemmas::begins_later))]
 fn longer<P: Prefix>(one: P, other: P) -> P
-    ensures one { IsLater (P.history one).changes (P.history result).changes }
-    ensures other { IsLater (P.history other).changes (P.history result).changes }
+    ensures one { IsPrefix (P.history one).entries (P.history result).entries }
+    ensures other { IsPrefix (P.history other).entries (P.history result).entries }
 {
     if one.size() <= other.size() {
         one.later(&other)
@@ -26,6 +26,7 @@ fn longer<P: Prefix>(one: P, other: P) -> P
 // All that the bays saw, where the first saw this.
 fn whole<
     P: Prefix,
+    G: Ledger,
     T: TableCopy<P, O> + Absorb<O, State = P>,
     O: Drop,
     R: Wait + Copy + Drop,
@@ -33,8 +34,8 @@ fn whole<
     K,
     Y,
     D,
->(first: P, ends: &[BayEnd<SharedRoutes<P, T, O, R>, L, K, Y, D>]) -> P
-    ensures { All (SawOne P.home P.opening (P.history result).changes) ends.now }
+>(first: P, ends: &[BayEnd<SharedRoutes<P, G, T, O, R>, L, K, Y, D>]) -> P
+    ensures { All (SawOne P.home P.opening (P.history result).entries) ends.now }
 {
     let mut longest = first;
     for end in ends {
@@ -44,9 +45,10 @@ fn whole<
     longest
 }
 
-/// What each bay saw is the beginning of one list of changes, and all are of the history that their type names.
+/// What each bay saw is a prefix of one list of entries, and all are of the history that their type names.
 pub fn all_saw_one<
     P: Prefix,
+    G: Ledger,
     T: TableCopy<P, O> + Absorb<O, State = P>,
     O: Drop,
     R: Wait + Copy + Drop,
@@ -54,8 +56,8 @@ pub fn all_saw_one<
     K,
     Y,
     D,
->(ends: &[BayEnd<SharedRoutes<P, T, O, R>, L, K, Y, D>])
-    ensures { (history : List Change) × All (SawOne P.home P.opening history) ends.now }
+>(ends: &[BayEnd<SharedRoutes<P, G, T, O, R>, L, K, Y, D>])
+    ensures { (history : List Entry) × All (SawOne P.home P.opening history) ends.now }
 {
     if let Some(first) = ends.first() {
         whole(first.routes.prefix(), ends);

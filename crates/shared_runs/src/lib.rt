@@ -15,4 +15,4 @@ mod unnamed;
 
 pub use configured::{can_run, run_configured};
 pub use setup::settings_of;
-pub use shared::run_shared;
+pub use shared::{SharedEnd, run_shared};

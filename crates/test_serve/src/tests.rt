@@ -58,8 +58,13 @@ fn bays_and_the_drainer_work_at_once(rt: HostRuntime) -> Result<(), Fail> {
         drop(serve);
         return Err(Fail::from("a player"));
     };
-    let Ran { words: _, ended } = serve.run(&rt, alloc, listen, &mut plant);
+    let Ran {
+        words: _,
+        ended,
+        counted,
+    } = serve.run(&rt, alloc, listen, &mut plant);
     assert_eq!(rt; player.join(&rt), "all was served");
+    assert!(rt; counted);
     let expected = Counted {
         status: RunStatus::Done,
         requests: 6,

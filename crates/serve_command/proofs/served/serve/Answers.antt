@@ -17,10 +17,11 @@ returns-in-Ok-clause-run g c =
     let before = g.P.Plant.tells c.args.plant.now in
     let after = g.P.Plant.tells c.run-ended.new.plant in
     let ended = c.run-ended.result.ended in
+    let counted = c.run-ended.result.counted in
     let words = map string_bytes c.args.words.now.items in
     let files =
     files_port (F.files c.args.files.now) (F.failed c.args.files.now) (F.faults c.args.files.now)
     (F.files c.configure.new.files) (F.failed c.configure.new.files) (F.faults c.configure.new.files) in
-    let ran = subst (λ own. Ran h T opens home before after ended run.words own.listen run.settings run.routes.opening)
+    let ran = subst (λ own. Ran h T opens home before after ended counted run.words own.listen run.settings run.routes.opening)
     c.words.ensures c.run-ended.ensures.ran in
-    inr (runs h T opens home before after ended words files run c.in-Ok.ensures.ok c.ended_so.result ran c.ended_so.ensures)
+    inr (runs h T opens home before after ended counted words files run c.in-Ok.ensures.ok c.ended_so.result ran c.ended_so.ensures)

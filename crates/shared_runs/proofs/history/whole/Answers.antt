@@ -1,8 +1,8 @@
 use Rattle.std.proofs.Common.{List, sym, subst, take}
 use Rattle.std.proofs.lemmas.List.{take_all}
 use Rattle.std.proofs.lemmas.List.Elements.{All-more, All-same}
-use Rattle.apiservice_table.specs.Changes.{IsLater}
-use Rattle.apiservice_table.specs.declared.change.Change.{Change}
+use mathlib.Core.List.{IsPrefix}
+use Rattle.route_history.specs.declared.entry.Entry.{Entry}
 use Rattle.shared_runs.proofs.HistoryLemmas.{all_saw_more}
 use Rattle.shared_runs.specs.Histories.{SawOne}
 use Rattle.route_history.specs.History.{History}
@@ -10,11 +10,11 @@ use Rattle.shared_runs.proofs.history.whole.Goals as goal
 
 pub loop-end-preserved : goal.loop-end-preserved
 loop-end-preserved g c =
-    let old : List Change = (g.P.Prefix.history c.loop-end.longest).changes in
-    let new : List Change = (g.P.Prefix.history c.longer-longest.result).changes in
+    let old : List Entry = (g.P.Prefix.history c.loop-end.longest).entries in
+    let new : List Entry = (g.P.Prefix.history c.longer-longest.result).entries in
     let end = c.end-item.result in
     let own = SawOne g.P.Prefix.home g.P.Prefix.opening new in
-    let seen = subst (λ (h : History). IsLater h.changes new) c.prefix.ensures c.longer-longest.ensures.other in
+    let seen = subst (λ (h : History). IsPrefix h.entries new) c.prefix.ensures c.longer-longest.ensures.other in
     let one : own end = record {
       home_is = c.tells_its_home.ensures.home;
       opening_is = c.tells_its_home.ensures.opening;
@@ -26,6 +26,6 @@ loop-end-preserved g c =
 
 pub returns : goal.returns
 returns g c =
-    let own = SawOne g.P.Prefix.home g.P.Prefix.opening (g.P.Prefix.history c.loop-end.longest).changes in
+    let own = SawOne g.P.Prefix.home g.P.Prefix.opening (g.P.Prefix.history c.loop-end.longest).entries in
     All-same own c.args.ends.now (take c.loop-end.end-index c.args.ends.now)
     (sym (take_all c.loop-end.end-index c.args.ends.now c.loop-end-test.false)) c.loop-end.invariant
