@@ -1,11 +1,12 @@
 -- Members that a path leaves out leave no trace.
-use Rattle.std.proofs.Common.{◌≡◌, ℕ, zero, suc, ◌∷◌, [], List, Bool, true, false, cond, refl, ap, ◌∙◌}
+use Rattle.std.proofs.Common.{◌≡◌, ℕ, zero, suc, ◌∷◌, [], List, Bool, true, false, cond, codes, refl, sym, ap, ◌∙◌}
 use Rattle.std.specs.Prelude.{bytes_eq}
 use Rattle.std.proofs.lemmas.Slice.Eq.{bytes_eq-Decides}
 use Rattle.json_span.specs.Value.{Value, token, array, object, Items, no_items, item, Members, no_members, member}
 use Rattle.json_span.specs.Member.{in_quotes}
-use Rattle.json_prune.specs.Prune.{Path, dropped, at_name, at_each, star, prune, own_fields, fields_of_items, managed, put_at, with_member}
+use Rattle.json_prune.specs.Prune.{Path, dropped, at_name, at_each, star, prune, own_fields, fields_of_items, fields_of_rows, is_table, rows_pruned, managed, put_at, with_member}
 use Rattle.json_prune.proofs.PruneLemmas.{prune_comm}
+use Rattle.json_prune.proofs.TableLemmas.{both_pruned, rows_last, put_table}
 
 dropped_new : (k : ℕ) (name : List ℕ) (x : Value) (ms : Members) → dropped name (put_at k (in_quotes name) x ms) ≡ dropped name ms
 dropped_new zero name x ms =
@@ -42,10 +43,27 @@ no_trace (name ∷ next ∷ path) k x (array vs) = by_star (bytes_eq star name) 
 
 pub own_hide : (k : ℕ) (x v : Value) → managed (with_member own_fields k x v) ≡ managed v
 unfolding managed
-own_hide k x v = ap (prune fields_of_items) (no_trace own_fields k x v)
+own_hide k x v =
+    sym (rows_last (with_member own_fields k x v))
+    ∙ (ap (λ w. rows_pruned (prune fields_of_items w)) (no_trace own_fields k x v) ∙ rows_last v)
 
 pub items_hide : (k : ℕ) (x v : Value) → managed (with_member fields_of_items k x v) ≡ managed v
 unfolding managed
 items_hide k x v =
-    prune_comm own_fields fields_of_items (with_member fields_of_items k x v)
-    ∙ (ap (prune own_fields) (no_trace fields_of_items k x v) ∙ prune_comm fields_of_items own_fields v)
+    sym (rows_last (with_member fields_of_items k x v))
+    ∙ (ap rows_pruned
+    (prune_comm own_fields fields_of_items (with_member fields_of_items k x v)
+    ∙ (ap (prune own_fields) (no_trace fields_of_items k x v) ∙ prune_comm fields_of_items own_fields v))
+    ∙ rows_last v)
+
+pub rows_hide : (k : ℕ) (x v : Value) → is_table v ≡ true → managed (with_member fields_of_rows k x v) ≡ managed v
+unfolding managed
+rows_hide k x v is =
+    ap both_pruned
+    (ap (λ c. cond c (prune fields_of_rows (with_member fields_of_rows k x v)) (with_member fields_of_rows k x v))
+    (put_table (codes "rows") star (codes "object" ∷ own_fields) k x v ∙ is)
+    ∙ (no_trace fields_of_rows k x v ∙ sym (ap (λ c. cond c (prune fields_of_rows v) v) is)))
+
+pub others_stay : (v : Value) → is_table v ≡ false → managed v ≡ prune fields_of_items (prune own_fields v)
+unfolding managed
+others_stay v is = ap (λ c. both_pruned (cond c (prune fields_of_rows v) v)) is

@@ -1,29 +1,39 @@
 -- What is kept of a text.
-use Rattle.std.proofs.Common.{◌≡◌, ℕ, ◌≤◌, [], ◌∷◌, List, length, Bool, true, false, cond, refl, sym, ap, ◌∙◌, arith, codes, true≢false}
+use Rattle.std.proofs.Common.{◌≡◌, ℕ, ◌≤◌, [], ◌∷◌, List, length, Bool, true, false, cond, refl, sym, ap, ◌∙◌, subst, arith, codes, true≢false}
 use Rattle.std.specs.Prelude.{◌==◌}
 use Rattle.json_prune.proofs.NameLemmas.{names_within}
 use Rattle.json_span.specs.Value.{Value, flat, depth, StandsFor, Compacts}
 use Rattle.json_prune.specs.Kept.{LeavesOut, LeavesManaged, kept, Keeps}
 use Rattle.json_prune.specs.Mend.{mend, mended}
 use Rattle.json_prune.specs.Names.{names, names_from}
-use Rattle.json_prune.specs.Prune.{Path, prune, own_fields, fields_of_items, managed}
+use Rattle.json_prune.specs.Prune.{Path, prune, own_fields, fields_of_items, rows_pruned, managed}
 use Rattle.json_prune.specs.Tokens.{HasTokens}
 use Rattle.json_prune.specs.Walk.{prune_both}
 use Rattle.json_prune.proofs.PieceLemmas.{mended_text, mended_tokens, mended_depth, mended_length, mended_again}
 use Rattle.json_prune.proofs.PruneLemmas.{prune_tokens, prune_depth, prune_shorter}
+use Rattle.json_prune.proofs.TableLemmas.{rows_tokens, rows_depth, rows_shorter}
 use Rattle.json_prune.proofs.TokenLemmas.{has_tokens, tokens_stand}
 
 managed_tokens : (v : Value) → HasTokens v → HasTokens (managed v)
 unfolding managed
-managed_tokens v h = prune_tokens fields_of_items (prune own_fields v) (prune_tokens own_fields v h)
+managed_tokens v h =
+    prune_tokens fields_of_items (prune own_fields (rows_pruned v)) (prune_tokens own_fields (rows_pruned v) (rows_tokens v h))
 
 managed_depth : (v : Value) → depth (managed v) ≤ depth v
 unfolding managed
-managed_depth v = let one = prune_depth own_fields v in let two = prune_depth fields_of_items (prune own_fields v) in omega arith
+managed_depth v =
+    let rows = rows_depth v in
+    let one = prune_depth own_fields (rows_pruned v) in
+    let two = prune_depth fields_of_items (prune own_fields (rows_pruned v)) in
+    omega arith
 
 managed_shorter : (v : Value) → length (flat (managed v)) ≤ length (flat v)
 unfolding managed
-managed_shorter v = let one = prune_shorter own_fields v in let two = prune_shorter fields_of_items (prune own_fields v) in omega arith
+managed_shorter v =
+    let rows = rows_shorter v in
+    let one = prune_shorter own_fields (rows_pruned v) in
+    let two = prune_shorter fields_of_items (prune own_fields (rows_pruned v)) in
+    omega arith
 
 left_tokens : (omit : Bool) (v : Value) → HasTokens v → HasTokens (cond omit (managed v) v)
 left_tokens true v h = managed_tokens v h
@@ -81,8 +91,15 @@ leaves_out text whole seen path bytes out none empty c same is test e no_second 
       ∙ (ap (λ p. flat (prune p c.0)) (names_all bytes (some_bytes bytes empty test e)) ∙ ap (λ p. flat (prune (names p) c.0)) is)),
 )
 
-pub leaves_managed : (text whole seen path out : List ℕ) → Compacts whole text → seen ≡ whole → path ≡ codes "items/*/metadata/managedFields" →
+pub leaves_managed : (text whole rows seen path out : List ℕ) → Compacts whole text
+    → ((v : Value) → StandsFor whole v → whole ≡ flat v → rows ≡ flat (rows_pruned v)) → seen ≡ rows → path ≡ codes "items/*/metadata/managedFields" →
     ((v : Value) → seen ≡ flat v → HasTokens v → out ≡ flat (prune_both (names_from path 8) (names_from path 0) v)) → LeavesManaged true out text
 unfolding managed
-leaves_managed text whole seen path out c same e f =
-    (c.0, c.1, f c.0 (same ∙ c.2) (has_tokens text c.0 c.1) ∙ ap (λ p. flat (prune_both (names_from p 8) (names_from p 0) c.0)) e)
+leaves_managed text whole rows seen path out c left same e f =
+    let has = has_tokens text c.0 c.1 in
+    let stands = subst (λ t. StandsFor t c.0) (sym c.2) (tokens_stand c.0 has c.1.1) in (
+      c.0,
+      c.1,
+      f (rows_pruned c.0) (same ∙ left c.0 stands c.2) (rows_tokens c.0 has)
+          ∙ ap (λ p. flat (prune_both (names_from p 8) (names_from p 0) (rows_pruned c.0))) e,
+    )

@@ -9,5 +9,6 @@ pub mod PieceLemmas
 pub mod PruneLemmas
 pub mod ScanLemmas
 pub mod StepLemmas
+pub mod TableLemmas
 pub mod TokenLemmas
 pub mod WalkLemmas

@@ -5,10 +5,11 @@ use Rattle.std.proofs.lemmas.Bool.Decides.{nat_tests}
 use Rattle.json_span.specs.Value.{Value, token, array, object, Items, no_items, item, Members, no_members, member}
 use Rattle.json_span.specs.Member.{in_quotes}
 use Rattle.json_prune.specs.Mend.{instead, mend_behind, mend, mended, mended_items, mended_members}
-use Rattle.json_prune.specs.Prune.{Path, at_each, star, prune, own_fields, fields_of_items, managed}
+use Rattle.json_prune.specs.Prune.{Path, at_each, star, prune, own_fields, fields_of_items, fields_of_rows, is_token, says_table, is_table, rows_pruned, managed}
 use Rattle.json_prune.specs.Walk.{into_member, into_items}
 use Rattle.json_prune.proofs.HalfLemmas.{both_true}
 use Rattle.json_prune.proofs.PruneLemmas.{keep_one, left, prune-object, prune-array, prune-token}
+use Rattle.json_prune.proofs.TableLemmas.{both_pruned, kind, table}
 
 -- no backslash
 abbrev is_bare : List ℕ → Bool
@@ -85,6 +86,32 @@ mutual
       ap (λ o. keep_one o (mend n) (mended v) (left p (mended_members ms))) (same_member p n h)
       ∙ one_order (into_member p n) n v (left p (mended_members ms)) (left p ms) (next_bare p n h) (λ q k. prune_mended q v k) (members_mended p ms h)
 
+mended_token : (v : Value) → is_token table (mended v) ≡ is_token table v
+mended_token (token t) = bare_name t table refl
+mended_token (array vs) = refl
+mended_token (object ms) = refl
+
+mended_says : (ms : Members) → says_table (mended_members ms) ≡ says_table ms
+mended_says no_members = refl
+mended_says (member n v ms) =
+    ap (λ c. cond c (is_token table (mended v)) (says_table (mended_members ms))) (bare_name n kind refl)
+    ∙ (ap (λ t. cond (bytes_eq n kind) t (says_table (mended_members ms))) (mended_token v)
+    ∙ ap (cond (bytes_eq n kind) (is_token table v)) (mended_says ms))
+
+mended_table : (v : Value) → is_table (mended v) ≡ is_table v
+mended_table (token t) = refl
+mended_table (array vs) = refl
+mended_table (object ms) = mended_says ms
+
+rows_mended : (v : Value) → rows_pruned (mended v) ≡ mended (rows_pruned v)
+rows_mended v = ap (λ c. cond c (prune fields_of_rows (mended v)) (mended v)) (mended_table v) ∙ by_table (is_table v)
+  where
+    by_table : (c : Bool) → cond c (prune fields_of_rows (mended v)) (mended v) ≡ mended (cond c (prune fields_of_rows v) v)
+    by_table true = prune_mended fields_of_rows v refl
+    by_table false = refl
+
 pub managed_mended : (v : Value) → managed (mended v) ≡ mended (managed v)
 unfolding managed
-managed_mended v = ap (prune fields_of_items) (prune_mended own_fields v refl) ∙ prune_mended fields_of_items (prune own_fields v) refl
+managed_mended v =
+    ap both_pruned (rows_mended v)
+    ∙ (ap (prune fields_of_items) (prune_mended own_fields (rows_pruned v) refl) ∙ prune_mended fields_of_items (prune own_fields (rows_pruned v)) refl)

@@ -4,7 +4,7 @@ use Rattle.std.specs.Prelude.{bytes_eq}
 use Rattle.json_span.specs.Strings.{IsString}
 use Rattle.json_span.specs.Value.{Value, token, array, object, Items, no_items, item, Members, no_members, member, flat, flat_items, flat_members, comma_if, depth, depth_items, depth_members}
 use Rattle.json_span.specs.Member.{in_quotes}
-use Rattle.json_prune.specs.Prune.{Path, dropped, at_name, at_each, star, prune, own_fields, fields_of_items, managed}
+use Rattle.json_prune.specs.Prune.{Path, dropped, at_name, at_each, star, prune}
 use Rattle.json_prune.specs.Tokens.{HasTokens, ItemsHaveTokens, MembersHaveTokens}
 use Rattle.json_prune.specs.Walk.{into_member, into_items, if_both, prune_both, member_if, members_left, items_left}
 
@@ -130,12 +130,6 @@ mutual
   members_once : (p : Path) (ms : Members) → members_left p p ms ≡ left p ms
   members_once p no_members = refl
   members_once p (member n v ms) = same_option (into_member p n) n v (members_left p p ms) (left p ms) (λ r. prune_once r v) (members_once p ms)
-
-pub managed_once : (v : Value) → managed (managed v) ≡ managed v
-unfolding managed
-managed_once v =
-    ap (prune fields_of_items) (prune_comm fields_of_items own_fields (prune own_fields v))
-    ∙ (prune_once fields_of_items (prune own_fields (prune own_fields v)) ∙ ap (prune fields_of_items) (prune_once own_fields v))
 
 -- ---- what is left is a value of JSON, and no deeper or longer
 

@@ -1,5 +1,5 @@
--- Values without the members at a path (Kubernetes, `audit.k8s.io/v1`, `omitManagedFields`).
-use Rattle.std.specs.Prelude.{ℕ, zero, suc, List, [], ◌∷◌, codes, bytes_eq, if◌then◌else◌}
+-- Values without the members at a path (Kubernetes, `audit.k8s.io/v1`, `omitManagedFields`; `meta/v1`, Table).
+use Rattle.std.specs.Prelude.{ℕ, zero, suc, Bool, false, List, [], ◌∷◌, codes, bytes_eq, if◌then◌else◌}
 use Rattle.json_span.specs.Value.{Value, token, array, object, Items, no_items, item, Members, no_members, member}
 use Rattle.json_span.specs.Member.{in_quotes}
 
@@ -47,9 +47,35 @@ own_fields = codes "metadata" ∷ codes "managedFields" ∷ []
 abbrev pub fields_of_items : Path
 fields_of_items = codes "items" ∷ star ∷ own_fields
 
--- the value without managed fields, its own and those of its items
+-- where the objects in a Table's rows have theirs
+abbrev pub fields_of_rows : Path
+fields_of_rows = codes "rows" ∷ star ∷ codes "object" ∷ own_fields
+
+-- a token that is spelled so
+abbrev pub is_token : List ℕ → Value → Bool
+is_token text (token t) = bytes_eq t text
+is_token text (array vs) = false
+is_token text (object ms) = false
+
+-- the first member `kind` says so
+abbrev pub says_table : Members → Bool
+says_table no_members = false
+says_table (member n v ms) =
+    if bytes_eq n (in_quotes (codes "kind")) then is_token (in_quotes (codes "Table")) v else says_table ms
+
+-- an object that says that it is a Table
+abbrev pub is_table : Value → Bool
+is_table (token t) = false
+is_table (array vs) = false
+is_table (object ms) = says_table ms
+
+-- the value without the managed fields of its rows, where it is a Table
+abbrev pub rows_pruned : Value → Value
+rows_pruned v = if is_table v then prune fields_of_rows v else v
+
+-- the value without managed fields: its own, those of its items, and those of a Table's rows
 unfoldable pub managed : Value → Value
-managed v = prune fields_of_items (prune own_fields v)
+managed v = prune fields_of_items (prune own_fields (rows_pruned v))
 
 -- the members with one more, at the k-th place or the last
 abbrev pub put_at : ℕ → List ℕ → Value → Members → Members

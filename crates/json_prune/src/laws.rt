@@ -1,8 +1,8 @@
-ghost use Rattle.std.specs.Prelude.{◌≡◌, ◌≤◌, ℕ, List, Bool, length, if◌then◌else◌};
+ghost use Rattle.std.specs.Prelude.{◌≡◌, ◌≤◌, ℕ, List, Bool, true, false, length, if◌then◌else◌};
 ghost use Rattle.json_span.specs.Value.{Value, StandsFor, flat, depth};
 ghost use Rattle.json_prune.specs.Kept.{Keeps, kept};
 ghost use Rattle.json_prune.specs.Mend.{mended};
-ghost use Rattle.json_prune.specs.Prune.{Path, prune, managed, own_fields, fields_of_items, with_member};
+ghost use Rattle.json_prune.specs.Prune.{Path, prune, managed, is_table, own_fields, fields_of_items, fields_of_rows, with_member};
 
 use json_span::one_value;
 
@@ -32,11 +32,14 @@ pub fn left_out_once()
     ensures managed { (v : Value) → managed (managed v) ≡ managed v }
 {}
 
-/// Managed fields leave no trace: a member `managedFields` of any value, at any place in the metadata of an object or of
-/// each item of a list, changes nothing of what is left.
+/// Managed fields leave no trace: a member `managedFields` of any value, at any place in the metadata of an object, of
+/// each item of a list or of the object in each row of a Table, changes nothing of what is left. What is no Table keeps
+/// what stands in its rows.
 pub fn managed_fields_hide()
     ensures own { (k : ℕ) (x v : Value) → managed (with_member own_fields k x v) ≡ managed v }
     ensures items { (k : ℕ) (x v : Value) → managed (with_member fields_of_items k x v) ≡ managed v }
+    ensures rows { (k : ℕ) (x v : Value) → is_table v ≡ true → managed (with_member fields_of_rows k x v) ≡ managed v }
+    ensures others { (v : Value) → is_table v ≡ false → managed v ≡ prune fields_of_items (prune own_fields v) }
     ensures path { (path : Path) (k : ℕ) (x v : Value) → prune path (with_member path k x v) ≡ prune path v }
 {}
 

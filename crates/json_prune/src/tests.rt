@@ -19,6 +19,10 @@ const KEPT: &str =
     r#"{"kind":"PodList","items":[{"metadata":{"managedFields":[]}},3]}~{"kind":"PodList","items":[{"metadata":{}},3]}~{"kind":"PodList","items":[{"metadata":{"managedFields":[]}},3]}
 {"managedFields":1,"spec":{"metadata":{"managedFields":2}},"metadata":{"managedFields":3,"x":4}}~{"managedFields":1,"spec":{"metadata":{"managedFields":2}},"metadata":{"x":4}}~{"managedFields":1,"spec":{"metadata":{"managedFields":2}},"metadata":{"managedFields":3,"x":4}}
 {"items":{"metadata":{"managedFields":1}},"metadata":{"managedFields":1,"managedFields":2,"a":0}}~{"items":{"metadata":{"managedFields":1}},"metadata":{"a":0}}~{"items":{"metadata":{"managedFields":1}},"metadata":{"managedFields":1,"managedFields":2,"a":0}}
+{"kind":"Table","rows":[{"cells":[1],"object":{"kind":"P","metadata":{"managedFields":[2],"name":"a"}}},{"object":null},3]}~{"kind":"Table","rows":[{"cells":[1],"object":{"kind":"P","metadata":{"name":"a"}}},{"object":null},3]}~{"kind":"Table","rows":[{"cells":[1],"object":{"kind":"P","metadata":{"managedFields":[2],"name":"a"}}},{"object":null},3]}
+{"rows":[{"object":{"metadata":{"managedFields":1}}}],"a":{"kind":"x"},"kind":"Table"}~{"rows":[{"object":{"metadata":{}}}],"a":{"kind":"x"},"kind":"Table"}~{"rows":[{"object":{"metadata":{"managedFields":1}}}],"a":{"kind":"x"},"kind":"Table"}
+{"kind":"Rows","rows":[{"object":{"metadata":{"managedFields":1}}}]}~{"kind":"Rows","rows":[{"object":{"metadata":{"managedFields":1}}}]}~{"kind":"Rows","rows":[{"object":{"metadata":{"managedFields":1}}}]}
+{"kind":["Table"],"kind":"Table","rows":[{"object":{"metadata":{"managedFields":1}}}]}~{"kind":["Table"],"kind":"Table","rows":[{"object":{"metadata":{"managedFields":1}}}]}~{"kind":["Table"],"kind":"Table","rows":[{"object":{"metadata":{"managedFields":1}}}]}
 ["\ud800","\uDC00x","\u00e9"]~["\ufffd","\ufffdx","\u00e9"]~["\ufffd","\ufffdx","\u00e9"]
 ["\uD83d\uDe00","\ud83d\ud83d\ude00\ude00"]~["\uD83d\uDe00","\ufffd\ud83d\ude00\ufffd"]~["\uD83d\uDe00","\ufffd\ud83d\ude00\ufffd"]
 {"\udbff":"\\ud800\ud800\n\ud800u"}~{"\ufffd":"\\ud800\ufffd\n\ufffdu"}~{"\ufffd":"\\ud800\ufffd\n\ufffdu"}

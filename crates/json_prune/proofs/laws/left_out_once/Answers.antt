@@ -1,4 +1,5 @@
-use Rattle.json_prune.proofs.PruneLemmas.{prune_once, prune_comm, managed_once}
+use Rattle.json_prune.proofs.PruneLemmas.{prune_once, prune_comm}
+use Rattle.json_prune.proofs.TableLemmas.{managed_once}
 use Rattle.json_prune.proofs.laws.left_out_once.Goals as goal
 
 pub returns : goal.returns
