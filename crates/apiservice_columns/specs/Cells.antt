@@ -1,4 +1,5 @@
--- What the columns of an APIService say (kube-aggregator, `pkg/registry/apiservice/etcd`: ConvertToTable).
+-- What the columns of an APIService say (kube-aggregator, `pkg/registry/apiservice/etcd`: ConvertToTable; `pkg/apiserver`: a local
+-- APIService always has the condition `Available`).
 use Rattle.std.specs.Prelude.{ℕ, ◌||◌, ◌==◌, List, [], ◌∷◌, ◌++◌, length, codes, Option, Some, None, option_and_then, unwrap_or, if◌then◌else◌}
 use Rattle.std.specs.Str.{bytes_eq}
 use Rattle.serde_json.specs.Data.{Data, Items, no_items, item}
@@ -34,6 +35,11 @@ abbrev pub available_by : Option Items → List ℕ
 available_by None = codes "Unknown"
 available_by (Some conditions) = available_in conditions
 
--- whether the object of an APIService says that it is available
-unfoldable pub available_cell : Data → List ℕ
-available_cell d = available_by (option_and_then as_array (inner (codes "status") (codes "conditions") d))
+-- what the conditions of an object say
+abbrev pub conditions_cell : Data → List ℕ
+conditions_cell d = available_by (option_and_then as_array (inner (codes "status") (codes "conditions") d))
+
+-- whether an APIService is available: the cluster's own API server is, and of a service the object says it
+unfoldable pub available_cell : Option ServiceRef → Data → List ℕ
+available_cell None d = codes "True"
+available_cell (Some s) d = conditions_cell d

@@ -3,6 +3,8 @@ ghost use Rattle.std.specs.Prelude.{◌≡◌, ◌≤◌, IsTrue, length, option
 ghost use Rattle.std.specs.List.{list_all, list_any, find, slice_split};
 ghost use Rattle.apiservice_columns.specs.Accept as spec;
 
+use http_head::has_only;
+
 fn is_blank(byte: u8) -> bool
     ensures { result ≡ spec.is_blank byte }
 {
@@ -47,19 +49,58 @@ fn is_word(part: &[u8], word: &str) -> bool
     begins(rest, word) && are_blank(&rest[word.len()..])
 }
 
+// What stands before the first equals sign.
+fn name_of(part: &[u8]) -> &[u8]
+    ensures { result.now ≡ spec.name_of part.now }
+{
+    match part.iter().position(|byte| *byte == b'=') {
+        Some(i) => &part[..i],
+        None => part,
+    }
+}
+
+// What stands after it.
+fn value_of(part: &[u8]) -> &[u8]
+    ensures { result.now ≡ spec.value_of part.now }
+{
+    match part.iter().position(|byte| *byte == b'=') {
+        Some(i) => &part[i + 1..],
+        None => &[],
+    }
+}
+
+fn is_named(part: &[u8], name: &str) -> bool
+    ensures { result ≡ spec.is_named name.now part.now }
+{
+    has_only(name_of(part), name)
+}
+
+fn is_parameter(part: &[u8], name: &str, value: &str) -> bool
+    ensures { result ≡ spec.is_parameter name.now value.now part.now }
+{
+    is_named(part, name) && is_word(value_of(part), value)
+}
+
 fn is_transform(part: &[u8]) -> bool
     ensures { result ≡ spec.is_transform part.now }
 {
-    let rest = unindented(part);
-    begins(rest, "as=") || begins(rest, "g=") || begins(rest, "v=")
+    is_named(part, "as") || is_named(part, "g") || is_named(part, "v")
 }
 
-fn has_word(range: &[u8], word: &str) -> bool
-    ensures { result ≡ spec.has_word word.now range.now }
+fn has_type(range: &[u8], name: &str) -> bool
+    ensures { result ≡ spec.has_type name.now range.now }
 {
     range
         .split(|byte| *byte == b';')
-        .any(|part| is_word(part, word))
+        .any(|part| has_only(part, name))
+}
+
+fn has_parameter(range: &[u8], name: &str, value: &str) -> bool
+    ensures { result ≡ spec.has_parameter name.now value.now range.now }
+{
+    range
+        .split(|byte| *byte == b';')
+        .any(|part| is_parameter(part, name, value))
 }
 
 fn has_transform(range: &[u8]) -> bool
@@ -73,15 +114,17 @@ fn has_transform(range: &[u8]) -> bool
 fn takes_json(range: &[u8]) -> bool
     ensures { result ≡ spec.takes_json range.now }
 {
-    has_word(range, "application/json")
-        || has_word(range, "application/*")
-        || has_word(range, "*/*")
+    has_type(range, "application/json")
+        || has_type(range, "application/*")
+        || has_type(range, "*/*")
 }
 
 fn is_table(range: &[u8]) -> bool
     ensures { result ≡ spec.is_table range.now }
 {
-    has_word(range, "as=Table") && has_word(range, "g=meta.k8s.io") && has_word(range, "v=v1")
+    has_parameter(range, "as", "Table")
+        && has_parameter(range, "g", "meta.k8s.io")
+        && has_parameter(range, "v", "v1")
 }
 
 fn is_acceptable(range: &[u8]) -> bool
@@ -101,7 +144,8 @@ fn first_acceptable<'a>(accept: &'a [u8]) -> Option<&'a [u8]>
 
 /// Whether the value of an Accept header asks for a Table of `meta.k8s.io/v1`: the first media range that can be given decides.
 /// A range can be given where it takes JSON and either names that Table by its parameters `as`, `g` and `v` or has none of
-/// these. Quality values are not looked at, as kubectl sends none; kube-apiserver sorts by them.
+/// these. The type and the names of parameters have no case, the values of these have one, and blanks round each don't count.
+/// Quality values are not looked at, as kubectl sends none; kube-apiserver sorts by them.
 #[tactic(auto, unfolding(crate::specs::Accept::asks_for_table))]
 pub fn asks_for_table(accept: &[u8]) -> bool
     ensures { result ≡ spec.asks_for_table accept.now }

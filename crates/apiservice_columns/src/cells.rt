@@ -71,14 +71,28 @@ fn available_in(alloc: Global, conditions: &Vec<Value>) -> Result<String, AllocE
     String::from_str(alloc, "Unknown")
 }
 
-/// The column Available: `True`, or the status of the first condition of that type with its reason, as
-/// `False (MissingEndpoints)`; `Unknown` where the object has none. Routing counts such an object as available.
-#[tactic(auto, unfolding(crate::specs::Cells::available_cell))]
-pub fn available_cell(alloc: Global, object: &Value) -> Result<String, AllocError>
-    ensures { IfOk result (λ text. string_bytes text ≡ spec.available_cell (view object.now)) }
+fn conditions_cell(alloc: Global, object: &Value) -> Result<String, AllocError>
+    ensures { IfOk result (λ text. string_bytes text ≡ spec.conditions_cell (view object.now)) }
 {
     match inner(object, "status", "conditions") {
         Some(Value::Array(conditions)) => available_in(alloc, conditions),
         _ => String::from_str(alloc, "Unknown"),
+    }
+}
+
+/// The column Available: `True` where no service is named, as the cluster's own API server answers and routing asks no condition.
+/// Else `True`, or the status of the first condition of that type with its reason, as `False (MissingEndpoints)`; `Unknown` where
+/// the object has none. Routing counts such an object as available.
+#[tactic(auto, unfolding(crate::specs::Cells::available_cell))]
+pub fn available_cell(
+    alloc: Global,
+    service: &Option<ServiceRef>,
+    object: &Value,
+) -> Result<String, AllocError>
+    ensures { IfOk result (λ text. string_bytes text ≡ spec.available_cell service.now (view object.now)) }
+{
+    match service {
+        Some(_) => conditions_cell(alloc, object),
+        None => String::from_str(alloc, "True"),
     }
 }
