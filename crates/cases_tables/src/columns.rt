@@ -22,9 +22,10 @@ fn service_of(alloc: Global, row: &str) -> Option<String> {
     service_cell(alloc, &row.service).ok()
 }
 
-fn available_of(alloc: Global, row: &str) -> Option<String> {
-    let value = read_value(alloc, row.as_bytes()).ok()?;
-    available_cell(alloc, &value).ok()
+fn available_of(alloc: Global, text: &str) -> Option<String> {
+    let row = read_row(alloc, text.as_bytes()).ok()?;
+    let value = read_value(alloc, text.as_bytes()).ok()?;
+    available_cell(alloc, &row.service, &value).ok()
 }
 
 fn show_object(rt: &HostRuntime, row: &str) -> io::Result<()> {

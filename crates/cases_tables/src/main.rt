@@ -1,5 +1,5 @@
-//! Cases of the Table of APIServices and of merge patches: a moment in microseconds since 1970, and APIServices in JSON: their Table at
-//! that moment; what its columns say; and what a patch makes of an APIService, and of any value.
+//! Cases of the Table of APIServices and of merge patches: a moment in microseconds since 1970, what a query includes of the objects, and
+//! APIServices in JSON: their Table at that moment; what its columns say; and what a patch makes of an APIService, and of any value.
 //!
 //! Expected texts follow the types of `meta/v1`, kube-aggregator's `ConvertToTable`, kube-apiserver's and kube-aggregator's sources where a
 //! file says so, and RFC 7396. What none of them has was worked out by hand.
@@ -21,6 +21,7 @@ accepts.txt
 durations.txt
 columns.txt
 tables.txt
+objects.txt
 ages.txt
 patches.txt
 rfc7396.txt

@@ -3,14 +3,24 @@ use apiservice_rows::read_rows;
 use case_rows::{fields, spelled};
 use front_base::{Moment, number_of};
 use service_patches::patched_row;
-use service_tables::service_table;
+use service_tables::{IncludeObject, include_object, service_table};
 use std::alloc::Global;
 use std::io;
 
-fn table_of(alloc: Global, moment: &str, objects: &str) -> Option<String> {
+// What the first field of a row says: a moment, and `includeObject` of the query behind a blank, if it has one.
+fn asked(field: &str) -> Option<(Moment, IncludeObject)> {
+    let (moment, include) = match field.split_once(' ') {
+        Some((moment, include)) => (moment, Some(include)),
+        None => (field, None),
+    };
     let now = Moment::new(number_of(moment.as_bytes())?)?;
+    Some((now, include_object(include)?))
+}
+
+fn table_of(alloc: Global, field: &str, objects: &str) -> Option<String> {
+    let (now, include) = asked(field)?;
     let rows = read_rows(alloc, objects.as_bytes()).ok()?;
-    let text = service_table(alloc, rows.as_slice(), now).ok()?;
+    let text = service_table(alloc, rows.as_slice(), include, now).ok()?;
     Some(spelled(alloc, text.as_slice()))
 }
 
@@ -29,7 +39,7 @@ fn patched(alloc: Global, object: &str, patch: &str) -> Option<String> {
 fn text_of(alloc: Global, matter: &str, row: &str) -> Option<String> {
     let (first, rest) = fields(row);
     match matter {
-        "tables.txt" => table_of(alloc, first, rest),
+        "tables.txt" | "objects.txt" => table_of(alloc, first, rest),
         "ages.txt" => table_of(alloc, first, created(alloc, rest)?.as_str()),
         _ => patched(alloc, first, rest),
     }
@@ -43,10 +53,12 @@ fn rows_part(text: &str) -> &str {
     }
 }
 
-/// Shows a case of Tables, of ages in one, or of merge patches of an APIService.
+/// Shows a case of Tables, of their rows, of ages in one, or of merge patches of an APIService.
 pub fn show_table(rt: &HostRuntime, matter: &str, row: &str) -> io::Result<()> {
     match text_of(rt.alloc(), matter, row) {
-        Some(text) if matter == "ages.txt" => println!(rt; "{row} => {}", rows_part(text.as_str())),
+        Some(text) if matter == "ages.txt" || matter == "objects.txt" => {
+            println!(rt; "{row} => {}", rows_part(text.as_str()))
+        }
         Some(text) => println!(rt; "{row} => {}", text.as_str()),
         None => println!(rt; "{row} => none"),
     }

@@ -9,14 +9,15 @@ use Rattle.local_replies.specs.declared.local.Local.{Local}
 use Rattle.local_replies.specs.declared.local.Local.TheVariants.{Health, GroupList, OneGroup, ResourceList, AllServices, OneService, ServicesNamed, Unserved}
 use Rattle.local_replies.specs.declared.reply.LocalReply.{LocalReply}
 use Rattle.service_tables.specs.Tables.{table_text}
+use Rattle.service_tables.specs.declared.include.IncludeObject.TheVariants as include
 
 abbrev pub rows_if : Option Row → List Row
 rows_if None = []
 rows_if (Some row) = row ∷ []
 
--- the Table of rows at that moment
+-- the Table of rows at that moment, which carry their metadata
 abbrev pub table_reply : ℕ → List Row → LocalReply
-table_reply moment rows = json_reply 200 (table_text moment rows)
+table_reply moment rows = json_reply 200 (table_text include.Metadata moment rows)
 
 -- the Table of one row, or the refusal where there is none
 abbrev pub one_table : ℕ → Option Row → LocalReply

@@ -10,13 +10,16 @@ use crate::status::{json_reply, refusal};
 use apiservice_rows::Row;
 use apiservice_table::Routes;
 use front_base::{Moment, NoMemory};
-use service_tables::service_table;
+use service_tables::{IncludeObject, service_table};
 use std::alloc::Global;
 
 fn table_reply(alloc: Global, rows: &[Row], moment: Moment) -> Result<LocalReply, NoMemory>
     ensures { IfOk result (λ reply. reply ≡ spec.table_reply moment rows.now) }
 {
-    Ok(json_reply(200, service_table(alloc, rows, moment)?))
+    Ok(json_reply(
+        200,
+        service_table(alloc, rows, IncludeObject::Metadata, moment)?,
+    ))
 }
 
 fn rows_if(alloc: Global, row: Option<Row>) -> Result<Vec<Row>, NoMemory>

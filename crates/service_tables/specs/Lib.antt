@@ -1,2 +1,4 @@
 pub mod Ages
+pub mod Include
+pub mod Objects
 pub mod Tables

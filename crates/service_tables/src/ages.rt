@@ -6,6 +6,7 @@ ghost use Rattle.service_tables.specs.Ages as spec;
 
 use apiservice_columns::duration_text;
 use front_base::Moment;
+use jiff::error::Bound;
 use jiff::{Error, Timestamp};
 use json_value::{inner, text_in};
 use serde_json::Value;
@@ -66,18 +67,53 @@ fn read_time(text: &str) -> Result<Timestamp, Error>
     text.parse()
 }
 
-#[tactic(auto, unfolding(crate::specs::Ages::age_at))]
-fn age_of(alloc: Global, now: Moment, text: &str) -> Result<String, AllocError>
-    ensures { IfOk result (λ age. string_bytes age ≡ spec.age_at now (parse_timestamp text.now)) }
+fn is_instant(bound: Bound) -> bool
+    ensures { result ≡ spec.is_instant bound }
 {
-    match read_time(text) {
-        Ok(created) => since_any(alloc, micros_of(created), now),
-        Err(_) => String::from_str(alloc, "<unknown>"),
+    match bound {
+        Bound::UnixEpochSeconds => true,
+        _ => false,
     }
 }
 
-/// The column Age: how long before that moment the object was created, by its `metadata.creationTimestamp` (RFC 3339), and
-/// `<unknown>` where it tells none, or one before 1970. Up to two seconds after that moment count as `0s`, as clocks differ.
+fn is_past_an_end(error: Error) -> bool
+    ensures { result ≡ spec.is_past_an_end error }
+{
+    match error {
+        Error::Range(bound) => is_instant(bound),
+        _ => false,
+    }
+}
+
+fn has_minus(text: &[u8]) -> bool
+    ensures { result ≡ spec.has_minus text.now }
+{
+    text.starts_with("-".as_bytes())
+}
+
+// The age by a text that gives no instant.
+fn unread(alloc: Global, text: &str, error: Error) -> Result<String, AllocError>
+    ensures { IfOk result (λ age. string_bytes age ≡ spec.unread text.now error) }
+{
+    if is_past_an_end(error) && !has_minus(text.as_bytes()) {
+        return String::from_str(alloc, "<invalid>");
+    }
+    String::from_str(alloc, "<unknown>")
+}
+
+#[tactic(auto, unfolding(crate::specs::Ages::age_at))]
+fn age_of(alloc: Global, now: Moment, text: &str) -> Result<String, AllocError>
+    ensures { IfOk result (λ age. string_bytes age ≡ spec.age_at now text.now (parse_timestamp text.now)) }
+{
+    match read_time(text) {
+        Ok(created) => since_any(alloc, micros_of(created), now),
+        Err(error) => unread(alloc, text, error),
+    }
+}
+
+/// The column Age: how long before that moment the object was created, by its `metadata.creationTimestamp` as `jiff` reads a
+/// timestamp (RFC 3339), and `<unknown>` where it has none, or one before 1970. Less than two seconds after that moment count as
+/// `0s`, as clocks differ, and a later time is `<invalid>`: also one after 9999-12-30T22:00:00.999999999Z, the last that is read.
 #[tactic(auto, unfolding(crate::specs::Ages::age_cell))]
 pub fn age_cell(alloc: Global, object: &Value, now: Moment) -> Result<String, AllocError>
     ensures { IfOk result (λ age. string_bytes age ≡ spec.age_cell now (view object.now)) }

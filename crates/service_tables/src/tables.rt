@@ -1,16 +1,18 @@
 // The Table of rows.
-ghost use Rattle.std.specs.Prelude.{◌≡◌, ◌++◌, ◌∷◌, Some, IfOk, string_bytes};
+ghost use Rattle.std.specs.Prelude.{◌≡◌, ◌++◌, ◌∷◌, IfOk};
 ghost use Rattle.std.specs.List.{flat_map};
 ghost use Rattle.serde_json.specs.View.{view};
 ghost use Rattle.apiservice_rows.specs.Row.{Row};
 ghost use Rattle.service_tables.specs.Tables as spec;
 
 use crate::ages::age_cell;
+use crate::include::IncludeObject;
+use crate::objects::object_text;
 use apiservice_columns::{available_cell, service_cell};
 use apiservice_rows::Row;
 use front_base::{Bytes, Moment, NoMemory};
 use json_span::quote;
-use json_value::{ValueError, has_float, present, read_value};
+use json_value::{ValueError, read_value};
 use serde_json::Value;
 use std::alloc::{AllocError, Global};
 
@@ -43,37 +45,16 @@ fn cells_text(
     Ok(text)
 }
 
-// The text of a member that holds the metadata.
-fn member_text(alloc: Global, member: &Value) -> Result<String, AllocError>
-    ensures { IfOk result (λ text. string_bytes text ≡ spec.metadata_in (Some (view member.now))) }
-{
-    if has_float(member) {
-        return String::from_str(alloc, "{}");
-    }
-    member.to_string(alloc)
-}
-
-fn metadata_text(alloc: Global, object: &Value) -> Result<String, AllocError>
-    ensures { IfOk result (λ text. string_bytes text ≡ spec.metadata_text (view object.now)) }
-{
-    match present(object, "metadata") {
-        Some(member) => member_text(alloc, member),
-        None => String::from_str(alloc, "{}"),
-    }
-}
-
 #[tactic(auto, unfolding(crate::specs::Tables::parts_text))]
-fn parts_text(alloc: Global, cells: &[u8], metadata: &str) -> Result<Vec<u8>, AllocError>
-    ensures { IfOk result (λ text. text.items ≡ spec.parts_text cells.now metadata.now) }
+fn parts_text(alloc: Global, cells: &[u8], object: &str) -> Result<Vec<u8>, AllocError>
+    ensures { IfOk result (λ text. text.items ≡ spec.parts_text cells.now object.now) }
 {
     let mut text = Vec::new(alloc);
     text.extend_from_slice(b"{\"cells\":")?;
     text.extend_from_slice(cells)?;
-    text.extend_from_slice(
-        b",\"object\":{\"kind\":\"PartialObjectMetadata\",\"apiVersion\":\"meta.k8s.io/v1\",\"metadata\":",
-    )?;
-    text.extend_from_slice(metadata.as_bytes())?;
-    text.extend_from_slice(b"}}")?;
+    text.extend_from_slice(b",\"object\":")?;
+    text.extend_from_slice(object.as_bytes())?;
+    text.push(b'}')?;
     Ok(text)
 }
 
@@ -92,7 +73,7 @@ fn cells_of(alloc: Global, row: &Row, object: &Value, now: Moment) -> Result<Vec
     ensures { IfOk result (λ text. text.items ≡ spec.cells_of now row.now (view object.now)) }
 {
     let service = service_cell(alloc, &row.service)?;
-    let available = available_cell(alloc, object)?;
+    let available = available_cell(alloc, &row.service, object)?;
     let age = age_cell(alloc, object, now)?;
     cells_text(
         alloc,
@@ -103,51 +84,67 @@ fn cells_of(alloc: Global, row: &Row, object: &Value, now: Moment) -> Result<Vec
     )
 }
 
-fn row_with(alloc: Global, row: &Row, object: &Value, now: Moment) -> Result<Vec<u8>, AllocError>
-    ensures { IfOk result (λ text. text.items
-        ≡ spec.parts_text (spec.cells_of now row.now (view object.now)) (spec.metadata_text (view object.now))) }
-{
-    let cells = cells_of(alloc, row, object, now)?;
-    let metadata = metadata_text(alloc, object)?;
-    parts_text(alloc, cells.as_slice(), metadata.as_str())
-}
-
 #[tactic(auto, unfolding(crate::specs::Tables::row_text))]
-fn row_text(alloc: Global, row: &Row, now: Moment) -> Result<Vec<u8>, NoMemory>
-    ensures { IfOk result (λ text. text.items ≡ spec.row_text now row.now) }
+fn row_text(
+    alloc: Global,
+    row: &Row,
+    include: IncludeObject,
+    now: Moment,
+) -> Result<Vec<u8>, NoMemory>
+    ensures { IfOk result (λ text. text.items ≡ spec.row_text include now row.now) }
 {
     let object = object_of(alloc, row)?;
-    Ok(row_with(alloc, row, &object, now)?)
+    let cells = cells_of(alloc, row, &object, now)?;
+    let text = object_text(alloc, include, object)?;
+    Ok(parts_text(alloc, cells.as_slice(), text.as_str())?)
 }
 
-fn push_row(alloc: Global, out: &mut Vec<u8>, row: &Row, now: Moment) -> Result<(), NoMemory>
-    ensures { IfOk result (λ _. out.new.items ≡ out.old.items ++ spec.row_text now row.now) }
+fn push_row(
+    alloc: Global,
+    out: &mut Vec<u8>,
+    row: &Row,
+    include: IncludeObject,
+    now: Moment,
+) -> Result<(), NoMemory>
+    ensures { IfOk result (λ _. out.new.items ≡ out.old.items ++ spec.row_text include now row.now) }
 {
-    let text = row_text(alloc, row, now)?;
+    let text = row_text(alloc, row, include, now)?;
     out.extend_from_slice(text.as_slice())?;
     Ok(())
 }
 
 // The rows, with a comma before each.
-fn push_more(alloc: Global, out: &mut Vec<u8>, rows: &[Row], now: Moment) -> Result<(), NoMemory>
+fn push_more(
+    alloc: Global,
+    out: &mut Vec<u8>,
+    rows: &[Row],
+    include: IncludeObject,
+    now: Moment,
+) -> Result<(), NoMemory>
     ensures { IfOk result (λ _.
-        out.new.items ≡ out.old.items ++ flat_map (λ (row : Row). 44 ∷ spec.row_text now row) rows.now) }
+        out.new.items ≡ out.old.items ++ flat_map (λ (row : Row). 44 ∷ spec.row_text include now row) rows.now) }
 {
     for row in rows {
         out.push(b',')?;
-        push_row(alloc, out, row, now)?;
+        push_row(alloc, out, row, include, now)?;
     }
     Ok(())
 }
 
-fn push_rows(alloc: Global, out: &mut Vec<u8>, rows: &[Row], now: Moment) -> Result<(), NoMemory>
-    ensures { IfOk result (λ _. out.new.items ≡ out.old.items ++ spec.rows_text now rows.now) }
+fn push_rows(
+    alloc: Global,
+    out: &mut Vec<u8>,
+    rows: &[Row],
+    include: IncludeObject,
+    now: Moment,
+) -> Result<(), NoMemory>
+    ensures { IfOk result (λ _. out.new.items ≡ out.old.items ++ spec.rows_text include now rows.now) }
 {
     let Some((first, others)) = rows.split_first() else {
         return Ok(());
     };
-    push_row(alloc, out, first, now)?;
-    push_more(alloc, out, others, now)
+    push_row(alloc, out, first, include, now)?;
+    push_more(alloc, out, others, include, now)
 }
 
 #[tactic(auto, unfolding(crate::specs::Tables::columns_text))]
@@ -183,13 +180,19 @@ fn head_text(alloc: Global) -> Result<Vec<u8>, AllocError>
     Ok(text)
 }
 
-/// The Table of these rows in their order, at that moment: in JSON, each object by its metadata alone, as kubectl asks for.
+/// The Table of these rows in their order, at that moment, as JSON. Each row carries of its object what `include` says; a whole object
+/// has its kind and its version, also where its text has none.
 #[tactic(auto, unfolding(crate::specs::Tables::table_text))]
-pub fn service_table(alloc: Global, rows: &[Row], now: Moment) -> Result<Bytes, NoMemory>
-    ensures { IfOk result (λ text. text ≡ spec.table_text now rows.now) }
+pub fn service_table(
+    alloc: Global,
+    rows: &[Row],
+    include: IncludeObject,
+    now: Moment,
+) -> Result<Bytes, NoMemory>
+    ensures { IfOk result (λ text. text ≡ spec.table_text include now rows.now) }
 {
     let mut text = head_text(alloc)?;
-    push_rows(alloc, &mut text, rows, now)?;
+    push_rows(alloc, &mut text, rows, include, now)?;
     text.extend_from_slice(b"]}")?;
     Ok(Bytes::new(text))
 }

@@ -7,4 +7,4 @@ use Rattle.service_tables.proofs.tables.push_more.Given as goal
 -- the rows that were passed are written
 abbrev pub invariant-loop-row : goal.invariant-loop-row
 invariant-loop-row l =
-    l.out.items ≡ l.fn.out.items ++ flat_map (λ (row : Row). 44 ∷ row_text l.now row) (take l.row-index l.rows)
+    l.out.items ≡ l.fn.out.items ++ flat_map (λ (row : Row). 44 ∷ row_text l.include l.now row) (take l.row-index l.rows)
