@@ -4,6 +4,7 @@ mod MethodLemmas
 mod PartsLemmas
 mod PathLemmas
 mod RequestLemmas
+mod SelectorLemmas
 mod SpellingLemmas
 mod TargetLemmas
 mod VerbLemmas

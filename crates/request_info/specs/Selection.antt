@@ -1,17 +1,26 @@
--- Whether a query asks for less than its path names: for some of the objects, or that nothing be changed (Kubernetes, "Labels and
+-- Whether a query asks for less than its path names: for some of the objects, or that a change be tried only (Kubernetes, "Labels and
 -- Selectors", "Field Selectors", and "API concepts": dry-run).
-use Rattle.std.specs.Prelude.{ℕ, ◌==◌, Bool, false, not, ◌||◌, ◌&&◌, List, [], Option, Some, None, codes, bytes_eq, if◌then◌else◌}
+use Rattle.std.specs.Prelude.{ℕ, ◌==◌, Bool, false, not, ◌||◌, ◌&&◌, List, [], ◌∷◌, Option, Some, None, codes, bytes_eq, if◌then◌else◌}
 use Rattle.std.specs.List.{list_any, before_first, after_first}
 use Rattle.form_urlencoded.specs.Form.{raw_pairs}
 use Rattle.request_info.specs.Target.{query_of}
-use Rattle.request_info.specs.Watch.{text_of, first_value}
+use Rattle.request_info.specs.Watch.{text_of}
 
 abbrev pub is_selector : List ℕ → Bool
 is_selector name = bytes_eq name (codes "labelSelector") || bytes_eq name (codes "fieldSelector")
 
--- a selector with a value, or `dryRun` with any
+-- the pair that asks for a dry run
+abbrev pub is_trial : List ℕ → Bool
+is_trial name = bytes_eq name (codes "dryRun")
+
+-- a pair of the target's query asks for one, whatever its value is
+abbrev pub asks_trial : List ℕ → Bool
+asks_trial target = list_any (λ pair. is_trial (text_of pair.0)) (raw_pairs (query_of target))
+
+-- a selector with a value, or a dry run of another kind than `All`, the only one that there is
 abbrev pub is_selecting : List ℕ → List ℕ → Bool
-is_selecting name value = bytes_eq name (codes "dryRun") || (is_selector name && not (bytes_eq value []))
+is_selecting name value =
+    (is_trial name && not (bytes_eq value (codes "All"))) || (is_selector name && not (bytes_eq value []))
 
 -- a pair of the target's query is one
 abbrev pub asks_selection : List ℕ → Bool
@@ -46,9 +55,19 @@ abbrev pub name_if_any : Option (List ℕ) → Option (List ℕ)
 name_if_any None = None
 name_if_any (Some selector) = name_in selector
 
+-- a field selector that isn't empty
+abbrev pub is_field_selector : List ℕ → List ℕ → Bool
+is_field_selector name value = bytes_eq name (codes "fieldSelector") && not (bytes_eq value [])
+
+-- the first one of these pairs
+unfoldable pub first_selector : List (List ℕ × List ℕ) → Option (List ℕ)
+first_selector [] = None
+first_selector (pair ∷ rest) =
+    if is_field_selector (text_of pair.0) (text_of pair.1) then Some (text_of pair.1) else first_selector rest
+
 -- the name that the first field selector of the target's query asks for, if it asks for one
 abbrev pub selected_name : List ℕ → Option (List ℕ)
-selected_name target = name_if_any (first_value (codes "fieldSelector") (raw_pairs (query_of target)))
+selected_name target = name_if_any (first_selector (raw_pairs (query_of target)))
 
 -- a pair asks for the object of that name
 abbrev pub asks_name : Option (List ℕ) → List ℕ → List ℕ → Bool

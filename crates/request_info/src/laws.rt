@@ -1,4 +1,4 @@
-ghost use Rattle.std.specs.Prelude.{◌≡◌, ◌≢◌, ℕ, List, [], ◌∷◌, ◌++◌, ◌⊎◌, Option, Some, Err, IsTrue, IsFalse, codes};
+ghost use Rattle.std.specs.Prelude.{◌≡◌, ◌≢◌, ℕ, List, [], ◌∷◌, ◌++◌, ◌⊎◌, Option, Some, Err, IsTrue, IsFalse, false, codes};
 ghost use Rattle.form_urlencoded.specs.Form.{raw_pairs};
 ghost use Rattle.std.specs.List.{All};
 ghost use Rattle.std.specs.Str.{is_utf8};
@@ -6,9 +6,10 @@ ghost use Rattle.request_info.specs.Parts.{IsPart, parts_of, path_with};
 ghost use Rattle.request_info.specs.Forms.{IsApiPath, IsInCluster, IsInNamespace, IsNamespace, IsSpecialVerb, HasWatch};
 ghost use Rattle.request_info.specs.Request.{audit_info, method_verb, verb_of, collection_verb, resource_info, path_info};
 ghost use Rattle.request_info.specs.Resource.{Api, Named, api_of, behind_verb, named_by};
+ghost use Rattle.request_info.specs.Selection.{first_selector, is_selecting, is_trial};
 ghost use Rattle.request_info.specs.Spelling.{Spells};
 ghost use Rattle.request_info.specs.Target.{decoded};
-ghost use Rattle.request_info.specs.Watch.{asks_watch};
+ghost use Rattle.request_info.specs.Watch.{asks_watch, text_of};
 
 use crate::fault::InfoFault;
 
@@ -99,6 +100,14 @@ pub fn end_slashes_do_not_count()
 pub fn escapes_stand_for_bytes()
     ensures spelled { (spelled path : List ℕ) → decoded spelled ≡ Some path → Spells path spelled × IsTrue (is_utf8 path) }
     ensures decoded { (spelled path : List ℕ) → Spells path spelled → IsTrue (is_utf8 path) → decoded spelled ≡ Some path }
+{}
+
+/// A pair with an empty value selects nothing, wherever it stands: no other object is selected with it than without it, and it
+/// asks for no less.
+pub fn empty_selectors_are_none()
+    ensures first { (before after : List (List ℕ × List ℕ)) (pair : List ℕ × List ℕ) → text_of pair.1 ≡ []
+        → first_selector (before ++ pair ∷ after) ≡ first_selector (before ++ after) }
+    ensures less { (name : List ℕ) → is_trial name ≡ false → is_selecting name [] ≡ false }
 {}
 
 /// The method of a request gives its verb, and nothing else of what it asks for.

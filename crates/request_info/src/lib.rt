@@ -20,11 +20,12 @@ mod watch;
 
 pub use fault::InfoFault;
 pub use laws::{
-    collections_have_verbs, end_slashes_do_not_count, escapes_stand_for_bytes, methods_have_verbs,
-    paths_are_in_an_api, paths_begin_with_verbs, paths_name_resources, queries_give_no_name,
-    slashes_part_paths, the_first_watch_counts, the_method_gives_the_verb_alone,
+    collections_have_verbs, empty_selectors_are_none, end_slashes_do_not_count,
+    escapes_stand_for_bytes, methods_have_verbs, paths_are_in_an_api, paths_begin_with_verbs,
+    paths_name_resources, queries_give_no_name, slashes_part_paths, the_first_watch_counts,
+    the_method_gives_the_verb_alone,
 };
 pub use parts::{parts_of, split};
 pub use request::{audit_info, info};
 pub use running::long_running;
-pub use selection::{asks_else, asks_selection, selected_name};
+pub use selection::{asks_else, asks_selection, asks_trial, selected_name};

@@ -17,16 +17,41 @@ fn is_selector(name: &str) -> bool
     name == "labelSelector" || name == "fieldSelector"
 }
 
+fn is_trial(alloc: Global, name: &[u8]) -> Result<bool, AllocError>
+    ensures { IfOk result (λ is. is ≡ spec.is_trial (text_of name.now)) }
+{
+    let name = decode(alloc, name)?;
+    Ok(name.as_str() == "dryRun")
+}
+
+/// Whether the query of a target has the pair `dryRun`, whatever its value is: what is asked for is tried then, and not done.
+pub fn asks_trial(alloc: Global, target: &str) -> Result<bool, NoMemory>
+    ensures { IfOk result (λ asks. asks ≡ spec.asks_trial target.now) }
+{
+    for (name, _) in raw_pairs(query_of(target).as_bytes()) {
+        if is_trial(alloc, name)? {
+            return Ok(true);
+        }
+    }
+    Ok(false)
+}
+
+fn is_less(name: &str, value: &str) -> bool
+    ensures { result ≡ spec.is_selecting name.now value.now }
+{
+    (name == "dryRun" && value != "All") || (is_selector(name) && !value.is_empty())
+}
+
 fn is_selecting(alloc: Global, name: &[u8], value: &[u8]) -> Result<bool, AllocError>
     ensures { IfOk result (λ selects. selects ≡ spec.is_selecting (text_of name.now) (text_of value.now)) }
 {
     let name = decode(alloc, name)?;
     let value = decode(alloc, value)?;
-    Ok(name.as_str() == "dryRun" || (is_selector(name.as_str()) && !value.as_str().is_empty()))
+    Ok(is_less(name.as_str(), value.as_str()))
 }
 
 /// Whether the query of a target has a pair that asks for less than the path names: `labelSelector` or `fieldSelector` with a
-/// value, or `dryRun` with any.
+/// value, or `dryRun` with another one than `All`.
 pub fn asks_selection(alloc: Global, target: &str) -> Result<bool, NoMemory>
     ensures { IfOk result (λ asks. asks ≡ spec.asks_selection target.now) }
 {
@@ -86,20 +111,33 @@ fn name_in(alloc: Global, selector: &[u8]) -> Result<Option<Text>, NoMemory>
     }
 }
 
-fn is_field_selector(alloc: Global, name: &[u8]) -> Result<bool, AllocError>
-    ensures { IfOk result (λ is. is ≡ bytes_eq (text_of name.now) (codes "fieldSelector")) }
+fn is_of_fields(name: &str) -> bool
+    ensures { result ≡ bytes_eq name.now (codes "fieldSelector") }
 {
-    let name = decode(alloc, name)?;
-    Ok(name.as_str() == "fieldSelector")
+    name == "fieldSelector"
 }
 
-/// The name of the one object that the query of a target asks for: where its first `fieldSelector` is `metadata.name=NAME`, and
-/// the name needs no escape. No other pair counts here: `asks_else` says whether one asks for more.
+fn selects_fields(name: &str, value: &str) -> bool
+    ensures { result ≡ spec.is_field_selector name.now value.now }
+{
+    is_of_fields(name) && !value.is_empty()
+}
+
+fn is_field_selector(alloc: Global, name: &[u8], value: &[u8]) -> Result<bool, AllocError>
+    ensures { IfOk result (λ is. is ≡ spec.is_field_selector (text_of name.now) (text_of value.now)) }
+{
+    let name = decode(alloc, name)?;
+    let value = decode(alloc, value)?;
+    Ok(selects_fields(name.as_str(), value.as_str()))
+}
+
+/// The name of the one object that the query of a target asks for: where its first `fieldSelector` that isn't empty is
+/// `metadata.name=NAME`, and the name needs no escape. No other pair counts here: `asks_else` says whether one asks for more.
 pub fn selected_name(alloc: Global, target: &str) -> Result<Option<Text>, NoMemory>
     ensures { IfOk result (λ name. name ≡ spec.selected_name target.now) }
 {
     for (name, value) in raw_pairs(query_of(target).as_bytes()) {
-        if is_field_selector(alloc, name)? {
+        if is_field_selector(alloc, name, value)? {
             return name_in(alloc, value);
         }
     }
