@@ -1,6 +1,6 @@
 -- What a request on a local path wants, before any row is looked at (Kubernetes, "API concepts" and the API of
 -- APIServices).
-use Rattle.std.specs.Prelude.{ℕ, ◌||◌, ◌==◌, Bool, false, if◌then◌else◌, List, Option, Some, None, Result, Ok, Err, codes}
+use Rattle.std.specs.Prelude.{ℕ, ◌||◌, ◌&&◌, ◌==◌, Bool, false, if◌then◌else◌, List, Option, Some, None, Result, Ok, Err, codes}
 use Rattle.std.specs.List.{before_first, list_any}
 use Rattle.std.specs.Str.{bytes_eq}
 use Rattle.apiservice_columns.specs.Accept.{asks_for_table}
@@ -10,12 +10,19 @@ use Rattle.apiservice_rows.specs.declared.fault.RowFault.{RowFault}
 use Rattle.apiservice_table.specs.declared.change.Change.TheVariants.{Create, Replace, Delete, Patch}
 use Rattle.front_base.specs.declared.info.Info.{Info}
 use Rattle.front_base.specs.declared.user.User.{User}
+use Rattle.http_head.specs.Connection.{has_only}
 use Rattle.http_head.specs.Name.{first_value}
 use Rattle.http_head.specs.declared.request.Head.{Head}
+use Rattle.json_value.specs.Read.{value_of}
 use Rattle.local_replies.specs.declared.errand.LocalErrand.{LocalErrand}
-use Rattle.local_replies.specs.declared.errand.LocalErrand.TheVariants.{Deny, Look, Tabulate, Write}
+use Rattle.local_replies.specs.declared.errand.LocalErrand.TheVariants.{Deny, Conflict, Look, Tabulate, Write, Try}
 use Rattle.local_replies.specs.declared.local.Local.{Local}
 use Rattle.local_replies.specs.declared.local.Local.TheVariants.{Health, GroupList, OneGroup, ResourceList, AllServices, OneService, ServicesNamed, Unserved}
+use Rattle.request_info.specs.Selection.{asks_trial}
+use Rattle.write_bodies.specs.Deletion.{deletion_of}
+use Rattle.write_bodies.specs.Directives.{directives_in}
+use Rattle.write_bodies.specs.declared.deletion.Deletion.{Deletion}
+use Rattle.write_bodies.specs.declared.deletion.Deletion.TheVariants.{Plain, Trial, Conditional}
 
 -- the methods that only look (RFC 9110, sections 9.3.1 and 9.3.2)
 abbrev pub looks : List ℕ → Bool
@@ -76,22 +83,50 @@ list_errand info head moment body user =
 abbrev pub type_of : List ℕ → List ℕ
 type_of value = before_first (λ b. b == 59) value
 
+-- that type, in whatever case and with blanks round it; a type that a list names again and again is that type
+abbrev pub is_type : List ℕ → Option (List ℕ) → Bool
+is_type name None = false
+is_type name (Some value) = has_only name (type_of value)
+
 -- that of a merge patch (RFC 7396, section 4)
 abbrev pub is_merge_patch : Option (List ℕ) → Bool
-is_merge_patch None = false
-is_merge_patch (Some value) = bytes_eq (type_of value) (codes "application/merge-patch+json")
+is_merge_patch value = is_type (codes "application/merge-patch+json") value
 
--- a merge patch of the object of that name; patches of other kinds aren't served, whoever sends them
-abbrev pub patch : Bool → List ℕ → List ℕ → User → LocalErrand
-patch is name body user = if is then by_master user (Write (Patch name body)) else Deny 415
+-- that of a strategic merge patch (Kubernetes, "Update API Objects in Place Using kubectl patch")
+abbrev pub is_strategic_patch : Option (List ℕ) → Bool
+is_strategic_patch value = is_type (codes "application/strategic-merge-patch+json") value
 
--- on one APIService: a PUT replaces it, a DELETE, whose body doesn't count, deletes it, and a PATCH has its body made of it
+-- one of them
+abbrev pub is_patch : Option (List ℕ) → Bool
+is_patch value = is_merge_patch value || is_strategic_patch value
+
+-- a strategic merge patch with directives, which aren't served
+abbrev pub is_directed : Option (List ℕ) → List ℕ → Bool
+is_directed value body = is_strategic_patch value && directives_in (value_of body)
+
+-- a patch comes to the object of that name. A strategic merge patch without directives is served as a merge patch
+abbrev pub served_patch : Bool → List ℕ → List ℕ → LocalErrand
+served_patch directed name body = if directed then Deny 415 else Write (Patch name body)
+
+-- patches of other kinds aren't served, whoever sends them
+abbrev pub patch : Bool → Bool → List ℕ → List ℕ → User → LocalErrand
+patch is directed name body user = if is then by_master user (served_patch directed name body) else Deny 415
+
+-- the object of that name goes, as the options say. This server gives none a `uid` or a `resourceVersion`, so no condition on them holds
+abbrev pub delete : List ℕ → Option Deletion → LocalErrand
+delete name None = Deny 400
+delete name (Some Plain) = Write (Delete name)
+delete name (Some Trial) = Try (Delete name)
+delete name (Some Conditional) = Conflict name
+
+-- on one APIService: a PUT replaces it, a DELETE deletes it as the options in its body say, and a PATCH has its body made of it
 unfoldable pub name_errand : List ℕ → Head → ℕ → List ℕ → User → LocalErrand
 name_errand name head moment body user =
     if bytes_eq head.method (codes "PUT") then by_master user (replace name (row_in body))
-    else if bytes_eq head.method (codes "DELETE") then by_master user (Write (Delete name))
+    else if bytes_eq head.method (codes "DELETE") then by_master user (delete name (deletion_of body))
     else if bytes_eq head.method (codes "PATCH") then
-    patch (is_merge_patch (first_value (codes "content-type") head.headers)) name body user
+    patch (is_patch (first_value (codes "content-type") head.headers))
+    (is_directed (first_value (codes "content-type") head.headers) body) name body user
     else look_services head moment
 
 -- on the list of the APIService of a name: it is looked at, and watching it isn't served. Other requests have no field selector
@@ -101,13 +136,30 @@ listed_errand info head moment =
     else if looks head.method then seen_as head moment
     else Deny 400
 
--- what a request wants that was read at that moment: the refusal with a code, a look, or a change
+-- what a request wants that was read at that moment, whatever its query asks for: a refusal, a look, or a change
+abbrev pub asked_errand : Local → Info → Head → ℕ → List ℕ → User → LocalErrand
+asked_errand Health info head moment body user = look_only head.method
+asked_errand GroupList info head moment body user = look_only head.method
+asked_errand (OneGroup name) info head moment body user = look_only head.method
+asked_errand ResourceList info head moment body user = look_only head.method
+asked_errand AllServices info head moment body user = list_errand info head moment body user
+asked_errand (OneService name) info head moment body user = name_errand name head moment body user
+asked_errand (ServicesNamed name) info head moment body user = listed_errand info head moment
+asked_errand Unserved info head moment body user = Deny 404
+
+-- a change that is wanted is tried only; what else is wanted is wanted as ever
+abbrev pub tried : LocalErrand → LocalErrand
+tried (Deny code) = Deny code
+tried (Conflict name) = Conflict name
+tried Look = Look
+tried (Tabulate moment) = Tabulate moment
+tried (Write change) = Try change
+tried (Try change) = Try change
+
+abbrev pub tried_if : Bool → LocalErrand → LocalErrand
+tried_if trial own = if trial then tried own else own
+
+-- what it wants: where its query asks for a dry run, no change is made
 abbrev pub local_errand : Local → Info → Head → ℕ → List ℕ → User → LocalErrand
-local_errand Health info head moment body user = look_only head.method
-local_errand GroupList info head moment body user = look_only head.method
-local_errand (OneGroup name) info head moment body user = look_only head.method
-local_errand ResourceList info head moment body user = look_only head.method
-local_errand AllServices info head moment body user = list_errand info head moment body user
-local_errand (OneService name) info head moment body user = name_errand name head moment body user
-local_errand (ServicesNamed name) info head moment body user = listed_errand info head moment
-local_errand Unserved info head moment body user = Deny 404
+local_errand local info head moment body user =
+    tried_if (asks_trial head.target) (asked_errand local info head moment body user)

@@ -9,10 +9,10 @@ use Rattle.apiservice_table.specs.declared.change.Change.TheVariants.{Create, Re
 use Rattle.apiservice_table.specs.declared.change.ChangeFault.{ChangeFault}
 use Rattle.apiservice_table.specs.declared.change.ChangeFault.TheVariants.{Exists, Missing, Full, Invalid, NoMemory}
 use Rattle.local_replies.specs.Looked.{looked}
-use Rattle.local_replies.specs.Status.{json_reply, refusal, success}
+use Rattle.local_replies.specs.Status.{conflict, json_reply, refusal, success}
 use Rattle.local_replies.specs.Tabulated.{tabulated}
 use Rattle.local_replies.specs.declared.errand.LocalErrand.{LocalErrand}
-use Rattle.local_replies.specs.declared.errand.LocalErrand.TheVariants.{Deny, Look, Tabulate, Write}
+use Rattle.local_replies.specs.declared.errand.LocalErrand.TheVariants.{Deny, Conflict, Look, Tabulate, Write, Try}
 use Rattle.local_replies.specs.declared.local.Local.{Local}
 use Rattle.local_replies.specs.declared.reply.LocalReply.{LocalReply}
 
@@ -48,16 +48,20 @@ rows_with rows change (Some fault) = rows
 -- what an errand is answered by the rows as they stand
 abbrev pub local_reply : List Row → Local → LocalErrand → LocalReply
 local_reply rows local (Deny code) = refusal code
+local_reply rows local (Conflict name) = conflict name
 local_reply rows local Look = looked local rows
 local_reply rows local (Tabulate moment) = tabulated local moment rows
 local_reply rows local (Write change) = change_reply rows change (table.refusal rows change)
+local_reply rows local (Try change) = change_reply rows change (table.refusal rows change)
 
 -- the rows after it
 abbrev pub rows_after : List Row → LocalErrand → List Row
 rows_after rows (Deny code) = rows
+rows_after rows (Conflict name) = rows
 rows_after rows Look = rows
 rows_after rows (Tabulate moment) = rows
 rows_after rows (Write change) = rows_with rows change (table.refusal rows change)
+rows_after rows (Try change) = rows
 
 -- what became of a change: the routes took it, or they refused it by the rows that were seen, and took none
 abbrev pub IsDecided : Change → List Row → List Change → List (ℕ × Change) → List Change → List (ℕ × Change)
@@ -69,14 +73,19 @@ IsDecided change opening seen own new_seen new_own reply None =
     × (new_own ≡ own)
 
 -- the reply to an errand and the change that was made, over routes that had seen so much, and have seen so much then:
--- a denial touches no routes, and a look is answered by the rows that are seen then
+-- a denial touches no routes; a look is answered by the rows that are seen then, and so is a change that is tried only
 abbrev pub IsServed : Local → LocalErrand → List Row → List Change → List (ℕ × Change) → List Change → List (ℕ × Change)
     → LocalReply → Option Change → Type 0
 IsServed local (Deny code) opening seen own new_seen new_own reply change =
     (reply ≡ refusal code) × (change ≡ None) × (new_seen ≡ seen) × (new_own ≡ own)
+IsServed local (Conflict name) opening seen own new_seen new_own reply change =
+    (reply ≡ conflict name) × (change ≡ None) × (new_seen ≡ seen) × (new_own ≡ own)
 IsServed local Look opening seen own new_seen new_own reply change =
     (reply ≡ looked local (after opening new_seen)) × (change ≡ None) × (new_own ≡ own)
 IsServed local (Tabulate moment) opening seen own new_seen new_own reply change =
     (reply ≡ tabulated local moment (after opening new_seen)) × (change ≡ None) × (new_own ≡ own)
 IsServed local (Write asked) opening seen own new_seen new_own reply change =
     IsDecided asked opening seen own new_seen new_own reply change
+IsServed local (Try asked) opening seen own new_seen new_own reply change =
+    (reply ≡ change_reply (after opening new_seen) asked (table.refusal (after opening new_seen) asked))
+    × (change ≡ None) × (new_own ≡ own)

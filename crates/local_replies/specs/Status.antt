@@ -66,6 +66,16 @@ front_refusal code =
     if code == 403 then status_reply 403 (codes "Forbidden") (codes "only system:masters may impersonate")
     else refusal code
 
+-- why no condition on what this server doesn't give holds
+abbrev pub conflict_message : List ℕ → List ℕ
+conflict_message name =
+    codes "Operation cannot be fulfilled on apiservices.apiregistration.k8s.io \"" ++ name
+    ++ codes "\": this server gives APIServices no uid and no resourceVersion, so no precondition on them holds"
+
+-- the refusal of a request that depends on them
+abbrev pub conflict : List ℕ → LocalReply
+conflict name = status_reply 409 (codes "Conflict") (conflict_message name)
+
 abbrev pub success : LocalReply
 success = json_reply 200 success_text
 

@@ -1,27 +1,34 @@
 // What requests on local paths want.
-ghost use Rattle.std.specs.Prelude.{◌≡◌, IfOk, codes};
+ghost use Rattle.std.specs.Prelude.{◌≡◌, IfOk, codes, option_map};
 ghost use Rattle.http_head.specs.Name.{first_value};
 ghost use Rattle.local_replies.specs.Errand as spec;
+ghost use Rattle.write_bodies.specs.Deletion.{deletion_of};
 
 use crate::local::Local;
 use apiservice_columns::asks_for_table;
 use apiservice_rows::{Row, RowFault, read_row};
 use apiservice_table::Change;
 use front_base::{Bytes, Info, Moment, NoMemory, Text, User};
-use http_head::Head;
+use http_head::{Head, has_only};
+use request_info::asks_trial;
 use std::alloc::Global;
+use write_bodies::{Deletion, deletion_of, has_directives};
 
 /// What a request on a local path wants, before any row is looked at.
 #[derive(Debug, Drop)]
 pub enum LocalErrand {
     /// It is refused with that code.
     Deny(u16),
+    /// It is refused with 409: it depends on the `uid` or the `resourceVersion` of that object, and this server gives none.
+    Conflict(Text),
     /// What the path names is looked up.
     Look,
     /// The APIServices that the path names are looked up, as a Table at that moment.
     Tabulate(Moment),
     /// A change of the table of APIs, which the user may make.
     Write(Change),
+    /// A change that the user may make, and that is tried only: a dry run.
+    Try(Change),
 }
 
 fn looks(method: &str) -> bool
@@ -121,15 +128,30 @@ fn replace(alloc: Global, name: &str, body: &[u8], user: &User) -> Result<LocalE
     }
 }
 
-fn delete(alloc: Global, name: &Text, user: &User) -> Result<LocalErrand, NoMemory>
-    ensures { IfOk result (λ errand.
-        errand ≡ spec.by_master user.now (LocalErrand.Write (Change.Delete name.now))) }
+// What becomes of the APIService of a name by the options of a DELETE.
+fn deleted(name: Text, deletion: Option<Deletion>) -> LocalErrand
+    ensures { result ≡ spec.delete name deletion }
 {
-    if is_master(user) {
-        Ok(LocalErrand::Write(Change::Delete(name.copy(alloc)?)))
-    } else {
-        Ok(LocalErrand::Deny(403))
+    match deletion {
+        Some(Deletion::Plain) => LocalErrand::Write(Change::Delete(name)),
+        Some(Deletion::Trial) => LocalErrand::Try(Change::Delete(name)),
+        Some(Deletion::Conditional) => LocalErrand::Conflict(name),
+        None => {
+            drop(name);
+            LocalErrand::Deny(400)
+        }
     }
+}
+
+fn delete(alloc: Global, name: &Text, body: &[u8], user: &User) -> Result<LocalErrand, NoMemory>
+    ensures { IfOk result (λ errand.
+        errand ≡ spec.by_master user.now (spec.delete name.now (deletion_of body.now))) }
+{
+    if !is_master(user) {
+        return Ok(LocalErrand::Deny(403));
+    }
+    let deletion = deletion_of(alloc, body)?;
+    Ok(deleted(name.copy(alloc)?, deletion))
 }
 
 // The media type of a Content-Type, its parameters apart.
@@ -142,13 +164,37 @@ fn type_of(value: &[u8]) -> &[u8]
     }
 }
 
-fn sends_merge_patch(head: &Head) -> bool
-    ensures { result ≡ spec.is_merge_patch (first_value (codes "content-type") head.now.headers) }
+fn is_type(name: &str, value: Option<&[u8]>) -> bool
+    ensures { result ≡ spec.is_type name.now (option_map (λ bytes. bytes.now) value.entry) }
 {
-    match head.headers.first_value("content-type") {
-        Some(value) => type_of(value) == b"application/merge-patch+json".as_slice(),
+    match value {
+        Some(value) => has_only(type_of(value), name),
         None => false,
     }
+}
+
+fn sends(head: &Head, name: &str) -> bool
+    ensures { result ≡ spec.is_type name.now (first_value (codes "content-type") head.now.headers) }
+{
+    is_type(name, head.headers.first_value("content-type"))
+}
+
+fn sends_patch(head: &Head) -> bool
+    ensures { result ≡ spec.is_patch (first_value (codes "content-type") head.now.headers) }
+{
+    sends(head, "application/merge-patch+json")
+        || sends(head, "application/strategic-merge-patch+json")
+}
+
+// Whether a strategic merge patch says how it is to be merged, which isn't served.
+fn is_directed(alloc: Global, head: &Head, body: &[u8]) -> Result<bool, NoMemory>
+    ensures { IfOk result (λ directed. directed
+        ≡ spec.is_directed (first_value (codes "content-type") head.now.headers) body.now) }
+{
+    if !sends(head, "application/strategic-merge-patch+json") {
+        return Ok(false);
+    }
+    has_directives(alloc, body)
 }
 
 fn patch_of(alloc: Global, name: &Text, body: &[u8]) -> Result<Change, NoMemory>
@@ -161,7 +207,22 @@ fn patch_of(alloc: Global, name: &Text, body: &[u8]) -> Result<Change, NoMemory>
     })
 }
 
-// A merge patch of the APIService of a name. What it makes of the object is read once it is known which object that is.
+fn served_patch(
+    alloc: Global,
+    directed: bool,
+    name: &Text,
+    body: &[u8],
+) -> Result<LocalErrand, NoMemory>
+    ensures { IfOk result (λ errand. errand ≡ spec.served_patch directed name.now body.now) }
+{
+    if directed {
+        Ok(LocalErrand::Deny(415))
+    } else {
+        Ok(LocalErrand::Write(patch_of(alloc, name, body)?))
+    }
+}
+
+// A patch of the APIService of a name. What it makes of the object is read once it is known which object that is.
 fn patch(
     alloc: Global,
     name: &Text,
@@ -170,15 +231,17 @@ fn patch(
     user: &User,
 ) -> Result<LocalErrand, NoMemory>
     ensures { IfOk result (λ errand. errand ≡ spec.patch
-        (spec.is_merge_patch (first_value (codes "content-type") head.now.headers)) name.now body.now user.now) }
+        (spec.is_patch (first_value (codes "content-type") head.now.headers))
+        (spec.is_directed (first_value (codes "content-type") head.now.headers) body.now) name.now body.now user.now) }
 {
-    if !sends_merge_patch(head) {
+    if !sends_patch(head) {
         return Ok(LocalErrand::Deny(415));
     }
     if !is_master(user) {
         return Ok(LocalErrand::Deny(403));
     }
-    Ok(LocalErrand::Write(patch_of(alloc, name, body)?))
+    let directed = is_directed(alloc, head, body)?;
+    served_patch(alloc, directed, name, body)
 }
 
 // What is wanted of all APIServices.
@@ -216,7 +279,7 @@ fn name_errand(
 {
     match head.method.as_str() {
         "PUT" => replace(alloc, name.as_str(), body, user),
-        "DELETE" => delete(alloc, name, user),
+        "DELETE" => delete(alloc, name, body, user),
         "PATCH" => patch(alloc, name, head, body, user),
         _ => Ok(look_services(head, moment)),
     }
@@ -236,9 +299,49 @@ fn listed_errand(info: &Info, head: &Head, moment: Moment) -> LocalErrand
     }
 }
 
+// What a request on a local path wants, whatever its query asks for.
+fn asked_errand(
+    alloc: Global,
+    local: &Local,
+    info: &Info,
+    head: &Head,
+    moment: Moment,
+    body: &[u8],
+    user: &User,
+) -> Result<LocalErrand, NoMemory>
+    ensures { IfOk result (λ errand.
+        errand ≡ spec.asked_errand local.now info.now head.now moment body.now user.now) }
+{
+    match local {
+        Local::Health | Local::GroupList | Local::OneGroup(_) | Local::ResourceList => {
+            Ok(look_only(head.method.as_str()))
+        }
+        Local::AllServices => list_errand(alloc, info, head, moment, body, user),
+        Local::OneService(name) => name_errand(alloc, name, head, moment, body, user),
+        Local::ServicesNamed(_) => Ok(listed_errand(info, head, moment)),
+        Local::Unserved => Ok(LocalErrand::Deny(404)),
+    }
+}
+
+// The errand of a dry run: a change that is wanted is tried only.
+fn tried(errand: LocalErrand) -> LocalErrand
+    ensures { result ≡ spec.tried errand }
+{
+    match errand {
+        LocalErrand::Deny(code) => LocalErrand::Deny(code),
+        LocalErrand::Conflict(name) => LocalErrand::Conflict(name),
+        LocalErrand::Look => LocalErrand::Look,
+        LocalErrand::Tabulate(moment) => LocalErrand::Tabulate(moment),
+        LocalErrand::Write(change) => LocalErrand::Try(change),
+        LocalErrand::Try(change) => LocalErrand::Try(change),
+    }
+}
+
 /// What a request on a local path wants, which was read at that moment: the ages in a Table count to it. A refusal by the method (404 where the path isn't served, 405, and 400 where
 /// a selector is no part of it) and by the type of a patch (415) comes before one by the user (403), and that before one by the
-/// body (422). What a patch makes of an object is read where the change is made.
+/// body: 422, of a DELETE 400 and 409, and 415 of a strategic merge patch with directives. What a patch makes of an object is
+/// read where the change is made. A change is tried only where the query has `dryRun`, whatever its value is, or the options of
+/// a DELETE ask for it.
 pub fn local_errand(
     alloc: Global,
     local: &Local,
@@ -251,13 +354,7 @@ pub fn local_errand(
     ensures { IfOk result (λ errand.
         errand ≡ spec.local_errand local.now info.now head.now moment body.now user.now) }
 {
-    match local {
-        Local::Health | Local::GroupList | Local::OneGroup(_) | Local::ResourceList => {
-            Ok(look_only(head.method.as_str()))
-        }
-        Local::AllServices => list_errand(alloc, info, head, moment, body, user),
-        Local::OneService(name) => name_errand(alloc, name, head, moment, body, user),
-        Local::ServicesNamed(_) => Ok(listed_errand(info, head, moment)),
-        Local::Unserved => Ok(LocalErrand::Deny(404)),
-    }
+    let trial = asks_trial(alloc, head.target.as_str())?;
+    let errand = asked_errand(alloc, local, info, head, moment, body, user)?;
+    if trial { Ok(tried(errand)) } else { Ok(errand) }
 }

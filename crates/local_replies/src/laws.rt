@@ -9,7 +9,7 @@ ghost use Rattle.front_base.specs.declared.info.Info.{Info};
 ghost use Rattle.front_base.specs.declared.user.User.{User};
 ghost use Rattle.http_head.specs.Name.{first_value};
 ghost use Rattle.http_head.specs.declared.request.Head.{Head};
-ghost use Rattle.local_replies.specs.Errand.{asks_table, is_master, is_merge_patch, local_errand};
+ghost use Rattle.local_replies.specs.Errand.{asks_table, is_master, is_patch, local_errand, tried};
 ghost use Rattle.local_replies.specs.Looked.{looked};
 ghost use Rattle.local_replies.specs.Paths.{local_of};
 ghost use Rattle.local_replies.specs.Serve.{local_reply, rows_after, IsServed};
@@ -19,6 +19,9 @@ ghost use Rattle.local_replies.specs.declared.errand.LocalErrand.TheVariants as 
 ghost use Rattle.local_replies.specs.declared.local.Local.{Local};
 ghost use Rattle.local_replies.specs.declared.local.Local.TheVariants as local;
 ghost use Rattle.local_replies.specs.declared.reply.LocalReply.{LocalReply};
+ghost use Rattle.request_info.specs.Selection.{asks_trial};
+ghost use Rattle.write_bodies.specs.Deletion.{deletion_of};
+ghost use Rattle.write_bodies.specs.declared.deletion.Deletion.TheVariants as deletion;
 
 use apiservice_table::{a_patch_leaves_its_object, one_user_knows_the_rows};
 use front_base::slashes_are_trimmed;
@@ -39,10 +42,29 @@ pub fn lengths_of_refusals()
     ensures acting { length (front_refusal 403).body ≡ 148 }
 {}
 
-/// No request of a user who isn't of `system:masters` asks for a change, whatever its path, head and body are.
+/// No request of a user who isn't of `system:masters` asks for a change or for a dry run of one, whatever its path, head and body
+/// are.
 pub fn only_masters_write()
-    ensures { (local : Local) (info : Info) (head : Head) (moment : ℕ) (body : List ℕ) (user : User) (change : Change)
+    ensures write { (local : Local) (info : Info) (head : Head) (moment : ℕ) (body : List ℕ) (user : User) (change : Change)
         → is_master user ≡ false → local_errand local info head moment body user ≡ errand.Write change → ⊥ }
+    ensures trial { (local : Local) (info : Info) (head : Head) (moment : ℕ) (body : List ℕ) (user : User) (change : Change)
+        → is_master user ≡ false → local_errand local info head moment body user ≡ errand.Try change → ⊥ }
+{}
+
+/// A dry run makes no change, and is answered as the request would be without it. Where the query has `dryRun`, or the options in
+/// the body of a DELETE, no change is asked for. With the query's the request wants what it wants without, but for the change
+/// that is tried then: the reply is the same by the same rows, and they stay.
+pub fn dry_runs_change_nothing()
+    ensures query { (local : Local) (info : Info) (head : Head) (moment : ℕ) (body : List ℕ) (user : User) (change : Change)
+        → asks_trial head.target ≡ true → local_errand local info head moment body user ≡ errand.Write change → ⊥ }
+    ensures options { (local : Local) (info : Info) (head : Head) (moment : ℕ) (body : List ℕ) (user : User) (change : Change)
+        → head.method ≡ codes "DELETE" → deletion_of body ≡ Some deletion.Trial
+        → local_errand local info head moment body user ≡ errand.Write change → ⊥ }
+    ensures wants { (local : Local) (info : Info) (head plain : Head) (moment : ℕ) (body : List ℕ) (user : User)
+        → head.method ≡ plain.method → head.headers ≡ plain.headers → asks_trial head.target ≡ true → asks_trial plain.target ≡ false
+        → local_errand local info head moment body user ≡ tried (local_errand local info plain moment body user) }
+    ensures reply { (rows : List Row) (local : Local) (own : LocalErrand) → local_reply rows local (tried own) ≡ local_reply rows local own }
+    ensures rows { (rows : List Row) (own : LocalErrand) → rows_after rows (tried own) ≡ rows }
 {}
 
 /// What is served over a table that one user alone changes, as `TableRoutes`, is the reply by the rows as they stood, and
@@ -90,7 +112,7 @@ pub fn moments_count_in_tables()
 /// The order of refusals on local paths: one by the path (404) whatever the request is, then one by the method (405)
 /// whatever the user and the body are, and one by the type of a patch (415) so too, then one by the user (403), who isn't of
 /// `system:masters`, whatever the body is, and at last one by the body (422). Where one name is selected, only the method
-/// counts.
+/// counts. A patch that isn't of a type that is served is refused by that alone.
 pub fn refusals_in_order()
     ensures by_path { (info : Info) (head : Head) (moment : ℕ) (body : List ℕ) (user : User)
         → local_errand local.Unserved info head moment body user ≡ errand.Deny 404 }
@@ -98,7 +120,7 @@ pub fn refusals_in_order()
         → local_errand local info head moment body user ≡ errand.Deny 405
         → local_errand local info head moment other_body other_user ≡ errand.Deny 405 }
     ensures by_type { (name : List ℕ) (info : Info) (head : Head) (moment : ℕ) (body : List ℕ) (user : User)
-        → head.method ≡ codes "PATCH" → is_merge_patch (first_value (codes "content-type") head.headers) ≡ false
+        → head.method ≡ codes "PATCH" → is_patch (first_value (codes "content-type") head.headers) ≡ false
         → local_errand (local.OneService name) info head moment body user ≡ errand.Deny 415 }
     ensures by_user { (local : Local) (info : Info) (head : Head) (moment : ℕ) (body other_body : List ℕ) (user : User)
         → local_errand local info head moment body user ≡ errand.Deny 403

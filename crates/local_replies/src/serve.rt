@@ -1,7 +1,8 @@
 // Replies to requests on local paths.
 ghost use Rattle.std.specs.Prelude.{◌≡◌, Some, None, Option, List, IfOk, OnErr};
 ghost use Rattle.apiservice_rows.specs.Row.{Row};
-ghost use Rattle.apiservice_table.specs.Changes.{left_by, IsDue, IsLater};
+ghost use Rattle.apiservice_table.specs.Changes as table;
+ghost use Rattle.apiservice_table.specs.Changes.{after, changed, left_by, IsDue, IsLater};
 ghost use Rattle.apiservice_table.specs.declared.change.ChangeFault.{ChangeFault};
 ghost use Rattle.local_replies.specs.Errand.{local_errand};
 ghost use Rattle.local_replies.specs.Serve as spec;
@@ -10,9 +11,11 @@ use crate::errand::{LocalErrand, local_errand};
 use crate::local::Local;
 use crate::looked::look;
 use crate::reply::LocalReply;
-use crate::status::{json_reply, refusal, success};
+use crate::status::{conflict, json_reply, refusal, success};
 use crate::tabulated::tabulate;
+use apiservice_rows::Row;
 use apiservice_table::{Change, ChangeFault, Routes};
+use change_trials::try_change;
 use front_base::{Bytes, Info, Moment, NoMemory, User};
 use http_head::Head;
 use std::alloc::Global;
@@ -132,8 +135,69 @@ fn write<R: Routes>(
     }
 }
 
+// The reply to a change that rows would take, with the object that it would leave.
+fn taken(
+    alloc: Global,
+    rows: &[Row],
+    change: &Change,
+    left: Option<Bytes>,
+) -> Result<LocalReply, NoMemory>
+    requires due { table.refusal rows.now change.now ≡ None }
+    requires left { left ≡ left_by change.now (changed rows.now change.now) }
+    ensures { IfOk result (λ reply. reply ≡ spec.change_reply rows.now change.now (table.refusal rows.now change.now)) }
+{
+    match done(alloc, change) {
+        Ok(reply) => Ok(with_left(reply, left)),
+        Err(fault) => {
+            drop(left);
+            Err(fault)
+        }
+    }
+}
+
+// The reply to a change that rows would refuse.
+fn untaken(
+    alloc: Global,
+    rows: &[Row],
+    change: &Change,
+    fault: ChangeFault,
+) -> Result<LocalReply, NoMemory>
+    requires { IsDue fault (table.refusal rows.now change.now) }
+    ensures { IfOk result (λ reply. reply ≡ spec.change_reply rows.now change.now (table.refusal rows.now change.now)) }
+{
+    let reply = refused(alloc, fault)?;
+    Ok(reply)
+}
+
+// The reply that a change of these rows would be given, which isn't made.
+fn tried(alloc: Global, rows: &[Row], change: &Change) -> Result<LocalReply, NoMemory>
+    ensures { IfOk result (λ reply. reply ≡ spec.change_reply rows.now change.now (table.refusal rows.now change.now)) }
+{
+    match try_change(alloc, rows, change) {
+        Ok(left) => taken(alloc, rows, change, left),
+        Err(fault) => untaken(alloc, rows, change, fault),
+    }
+}
+
+// Tries a change: it is answered by the rows that are seen then, and not made.
+fn try_out<R: Routes>(
+    alloc: Global,
+    change: &Change,
+    routes: &mut R,
+) -> Result<LocalReply, NoMemory>
+    ensures reply { IfOk result (λ reply. reply ≡ spec.change_reply
+        (after (R.opening routes.new) (R.seen routes.new)) change.now
+        (table.refusal (after (R.opening routes.new) (R.seen routes.new)) change.now)) }
+    ensures kept { R.own routes.new ≡ R.own routes.old }
+    ensures later { IsLater (R.seen routes.old) (R.seen routes.new) }
+    ensures fixed { R.opening routes.new ≡ R.opening routes.old }
+{
+    let rows = routes.list(alloc)?;
+    tried(alloc, rows.as_slice(), change)
+}
+
 /// Serves what a request on a local path wants: the reply, and the change that was made, if one was. Where memory ran out,
-/// no change was made.
+/// no change was made. A dry run makes none, and is answered as the change would be.
 pub fn serve_errand<R: Routes>(
     alloc: Global,
     local: &Local,
@@ -149,9 +213,15 @@ pub fn serve_errand<R: Routes>(
 {
     match errand {
         LocalErrand::Deny(code) => Ok((refusal(alloc, code)?, None)),
+        LocalErrand::Conflict(name) => Ok((conflict(alloc, name.as_str())?, None)),
         LocalErrand::Look => Ok((look(alloc, local, routes)?, None)),
         LocalErrand::Tabulate(moment) => Ok((tabulate(alloc, local, moment, routes)?, None)),
         LocalErrand::Write(change) => write(alloc, change, routes),
+        LocalErrand::Try(change) => {
+            let tried = try_out(alloc, &change, routes);
+            drop(change);
+            Ok((tried?, None))
+        }
     }
 }
 

@@ -116,6 +116,22 @@ pub fn front_refusal(alloc: Global, code: u16) -> Result<LocalReply, NoMemory>
     refusal(alloc, code)
 }
 
+fn conflict_message(alloc: Global, name: &str) -> Result<String, AllocError>
+    ensures { IfOk result (λ text. string_bytes text ≡ spec.conflict_message name.now) }
+{
+    format!(in alloc;
+        "Operation cannot be fulfilled on apiservices.apiregistration.k8s.io \"{name}\": this server gives APIServices no uid and no resourceVersion, so no precondition on them holds"
+    )
+}
+
+/// The refusal of a request that depends on the `uid` or the `resourceVersion` of the APIService of a name.
+pub fn conflict(alloc: Global, name: &str) -> Result<LocalReply, NoMemory>
+    ensures { IfOk result (λ reply. reply ≡ spec.conflict name.now) }
+{
+    let message = conflict_message(alloc, name)?;
+    status_reply(alloc, 409, "Conflict", message.as_str())
+}
+
 /// The reply 200 whose body is a Status that tells a success.
 #[tactic(auto, unfolding(crate::specs::Status::success_text))]
 pub fn success(alloc: Global) -> Result<LocalReply, NoMemory>

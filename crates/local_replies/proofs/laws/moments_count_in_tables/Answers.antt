@@ -5,12 +5,13 @@ use Rattle.front_base.specs.declared.info.Info.{Info}
 use Rattle.front_base.specs.declared.user.User.{User}
 use Rattle.http_head.specs.Name.{first_value}
 use Rattle.http_head.specs.declared.request.Head.{Head}
-use Rattle.local_replies.specs.Errand.{asks_table, by_master, create, is_merge_patch, list_errand, local_errand, looks, name_errand, patch, replace, row_in, seen_as}
+use Rattle.local_replies.specs.Errand.{asks_table, asked_errand, by_master, create, delete, is_directed, is_patch, list_errand, looks, name_errand, patch, replace, row_in, seen_as, tried_if}
 use Rattle.local_replies.specs.declared.errand.LocalErrand.{LocalErrand}
-use Rattle.local_replies.specs.declared.errand.LocalErrand.TheVariants.{Deny, Look, Tabulate, Write}
+use Rattle.local_replies.specs.declared.errand.LocalErrand.TheVariants.{Deny, Look, Tabulate}
 use Rattle.local_replies.specs.declared.local.Local.{Local}
 use Rattle.local_replies.specs.declared.local.Local.TheVariants.{Health, GroupList, OneGroup, ResourceList, AllServices, OneService, ServicesNamed, Unserved}
-use Rattle.apiservice_table.specs.declared.change.Change.TheVariants.{Delete}
+use Rattle.request_info.specs.Selection.{asks_trial}
+use Rattle.write_bodies.specs.Deletion.{deletion_of}
 use Rattle.local_replies.proofs.laws.moments_count_in_tables.Goals as goal
 
 module _ (info : Info) (head : Head) (moment other : ℕ) (body : List ℕ) (user : User)
@@ -24,7 +25,7 @@ module _ (info : Info) (head : Head) (moment other : ℕ) (body : List ℕ) (use
       ≡ (if looks head.method then seen_as head other else refused)
   looked_so refused = ap (λ (own : LocalErrand). if looks head.method then own else refused) same
 
-  each : (local : Local) → local_errand local info head moment body user ≡ local_errand local info head other body user
+  each : (local : Local) → asked_errand local info head moment body user ≡ asked_errand local info head other body user
   unfolding list_errand name_errand
   each Health = refl
   each GroupList = refl
@@ -35,12 +36,13 @@ module _ (info : Info) (head : Head) (moment other : ℕ) (body : List ℕ) (use
       else if bytes_eq head.method (codes "POST") then by_master user (create (row_in body)) else own) (looked_so (Deny 405))
   each (OneService name) =
       ap (λ (own : LocalErrand). if bytes_eq head.method (codes "PUT") then by_master user (replace name (row_in body))
-      else if bytes_eq head.method (codes "DELETE") then by_master user (Write (Delete name))
-      else if bytes_eq head.method (codes "PATCH") then patch (is_merge_patch (first_value (codes "content-type") head.headers)) name body user
+      else if bytes_eq head.method (codes "DELETE") then by_master user (delete name (deletion_of body))
+      else if bytes_eq head.method (codes "PATCH") then patch (is_patch (first_value (codes "content-type") head.headers)) (is_directed (first_value (codes "content-type") head.headers) body) name body user
       else own) (looked_so (Deny 405))
   each (ServicesNamed name) =
       ap (λ (own : LocalErrand). if bytes_eq info.verb (codes "watch") then Deny 405 else own) (looked_so (Deny 400))
   each Unserved = refl
 
 pub returns : goal.returns
-returns c = λ local info head moment other body user none. each info head moment other body user none local
+returns c = λ local info head moment other body user none.
+    ap (tried_if (asks_trial head.target)) (each info head moment other body user none local)

@@ -7,7 +7,7 @@ use Rattle.local_replies.specs.Looked.{looked}
 use Rattle.local_replies.specs.Serve.{change_reply, done_in, local_reply, rows_after, rows_with, IsServed}
 use Rattle.local_replies.specs.Tabulated.{tabulated}
 use Rattle.local_replies.specs.declared.errand.LocalErrand.{LocalErrand}
-use Rattle.local_replies.specs.declared.errand.LocalErrand.TheVariants.{Deny, Look, Tabulate, Write}
+use Rattle.local_replies.specs.declared.errand.LocalErrand.TheVariants.{Deny, Conflict, Look, Tabulate, Write, Try}
 use Rattle.local_replies.specs.declared.local.Local.{Local}
 use Rattle.local_replies.specs.declared.reply.LocalReply.{LocalReply}
 use Rattle.local_replies.proofs.laws.one_user_is_served.Goals as goal
@@ -40,10 +40,15 @@ module _ (stands : Stands) (takes : Takes) (local : Local) (old new : Story) (re
       → IsServed local errand old.opening old.seen (placed 0 old.seen) new.seen (placed 0 new.seen) reply change
       → Serves old new local errand reply
   served (Deny code) change h = (h.0, stands old new later fixed h.3)
+  served (Conflict name) change h = (h.0, stands old new later fixed h.3)
   served Look change h =
       (h.0 ∙ ap (looked local) (same_then h.2), stands old new later fixed h.2)
   served (Tabulate moment) change h =
       (h.0 ∙ ap (tabulated local moment) (same_then h.2), stands old new later fixed h.2)
+  served (Try c) change h = (
+    h.0 ∙ ap (λ (rows : List Row). change_reply rows c (table.refusal rows c)) (same_then h.2),
+    stands old new later fixed h.2,
+  )
   served (Write c) None h =
       let due : table.refusal (rows_of old) c ≡ Some h.0 =
       subst (λ rows. table.refusal rows c ≡ Some h.0) (same_then h.3) h.1 in (

@@ -4,16 +4,20 @@ use Rattle.std.proofs.lemmas.Bool.Decides.{Decides-eqb}
 use Rattle.std.specs.Prelude.{if◌then◌else◌, codes}
 use Rattle.std.specs.Str.{bytes_eq}
 use Rattle.apiservice_rows.specs.Row.{Row}
-use Rattle.apiservice_table.specs.declared.change.Change.TheVariants.{Replace, Delete, Patch}
+use Rattle.apiservice_table.specs.declared.change.Change.TheVariants.{Replace}
 use Rattle.front_base.specs.declared.info.Info.{Info}
 use Rattle.front_base.specs.declared.user.User.{User}
 use Rattle.http_head.specs.Name.{first_value}
 use Rattle.http_head.specs.declared.request.Head.{Head}
-use Rattle.local_replies.specs.Errand.{asks_table, create, is_master, is_merge_patch, list_errand, listed_errand, local_errand, look_only, look_services, looks, name_errand, patch, replace, row_in, seen_as}
+use Rattle.local_replies.specs.Errand.{asked_errand, asks_table, create, delete, is_directed, is_master, is_patch, list_errand, listed_errand, look_only, look_services, looks, name_errand, patch, replace, row_in, seen_as, served_patch, tried, tried_if}
 use Rattle.local_replies.specs.declared.errand.LocalErrand.{LocalErrand}
-use Rattle.local_replies.specs.declared.errand.LocalErrand.TheVariants.{Deny, Look, Tabulate, Write}
+use Rattle.local_replies.specs.declared.errand.LocalErrand.TheVariants.{Deny, Conflict, Look, Tabulate, Write, Try}
 use Rattle.local_replies.specs.declared.local.Local.{Local}
 use Rattle.local_replies.specs.declared.local.Local.TheVariants.{Health, GroupList, OneGroup, ResourceList, AllServices, OneService, ServicesNamed, Unserved}
+use Rattle.request_info.specs.Selection.{asks_trial}
+use Rattle.write_bodies.specs.Deletion.{deletion_of}
+use Rattle.write_bodies.specs.declared.deletion.Deletion.{Deletion}
+use Rattle.write_bodies.specs.declared.deletion.Deletion.TheVariants.{Plain, Trial, Conditional}
 use Rattle.local_replies.proofs.laws.refusals_in_order.Goals as goal
 
 -- an errand isn't refused with that code
@@ -22,9 +26,11 @@ Passes code errand = errand ≡ Deny code → ⊥
 
 abbrev code_of : LocalErrand → ℕ
 code_of (Deny code) = code
+code_of (Conflict name) = 0
 code_of Look = 0
 code_of (Tabulate moment) = 0
 code_of (Write change) = 0
+code_of (Try change) = 0
 
 -- refusals with two codes
 apart : (a b : ℕ) → (a == b) ≡ false → Deny a ≡ Deny b → ⊥
@@ -107,6 +113,26 @@ replace_405 name (Some row) e = either (bytes_eq row.name name) e
     either true e = cc e
     either false e = apart _ _ refl e
 
+delete_403 : (name : List ℕ) (deletion : Option Deletion) → Passes 403 (delete name deletion)
+delete_403 name None e = apart _ _ refl e
+delete_403 name (Some Plain) e = cc e
+delete_403 name (Some Trial) e = cc e
+delete_403 name (Some Conditional) e = cc e
+
+delete_405 : (name : List ℕ) (deletion : Option Deletion) → Passes 405 (delete name deletion)
+delete_405 name None e = apart _ _ refl e
+delete_405 name (Some Plain) e = cc e
+delete_405 name (Some Trial) e = cc e
+delete_405 name (Some Conditional) e = cc e
+
+served_403 : (directed : Bool) (name body : List ℕ) → Passes 403 (served_patch directed name body)
+served_403 true name body e = apart _ _ refl e
+served_403 false name body e = cc e
+
+served_405 : (directed : Bool) (name body : List ℕ) → Passes 405 (served_patch directed name body)
+served_405 true name body e = apart _ _ refl e
+served_405 false name body e = cc e
+
 -- what a master may do, or else the refusal
 abbrev may : Bool → LocalErrand → LocalErrand
 may master x = if master then x else Deny 403
@@ -134,19 +160,21 @@ list_405 false true x y z h e = absurd (h e)
 list_405 false false x y z h e = e
 
 -- a patch of an APIService
-patch_405 : (is : Bool) (name body : List ℕ) (user : User) → Passes 405 (patch is name body user)
-patch_405 true name body user e = may_405 (is_master user) (Write (Patch name body)) (λ d. cc d) e
-patch_405 false name body user e = apart _ _ refl e
+patch_405 : (is directed : Bool) (name body : List ℕ) (user : User) → Passes 405 (patch is directed name body user)
+patch_405 true directed name body user e =
+    may_405 (is_master user) (served_patch directed name body) (served_405 directed name body) e
+patch_405 false directed name body user e = apart _ _ refl e
 
-patch_403 : (is : Bool) (name body other : List ℕ) (user : User) → patch is name body user ≡ Deny 403
-    → (patch is name other user ≡ Deny 403) × (is_master user ≡ false)
-patch_403 true name body other user e =
-    may_403 (is_master user) (Write (Patch name body)) (Write (Patch name other)) (λ d. cc d) e
-patch_403 false name body other user e = absurd (apart _ _ refl e)
+patch_403 : (is directed others : Bool) (name body other : List ℕ) (user : User) → patch is directed name body user ≡ Deny 403
+    → (patch is others name other user ≡ Deny 403) × (is_master user ≡ false)
+patch_403 true directed others name body other user e =
+    may_403 (is_master user) (served_patch directed name body) (served_patch others name other) (served_403 directed name body) e
+patch_403 false directed others name body other user e = absurd (apart _ _ refl e)
 
-patch_422 : (is : Bool) (name body : List ℕ) (user : User) → patch is name body user ≡ Deny 422 → is_master user ≡ true
-patch_422 true name body user e = may_422 (is_master user) (Write (Patch name body)) e
-patch_422 false name body user e = absurd (apart _ _ refl e)
+patch_422 : (is directed : Bool) (name body : List ℕ) (user : User) → patch is directed name body user ≡ Deny 422
+    → is_master user ≡ true
+patch_422 true directed name body user e = may_422 (is_master user) (served_patch directed name body) e
+patch_422 false directed name body user e = absurd (apart _ _ refl e)
 
 -- on one APIService
 module _ (put delete patches : Bool) (z : LocalErrand) where
@@ -216,10 +244,13 @@ module _ (info : Info) (head : Head) (moment : ℕ) (body other : List ℕ) wher
   patches = bytes_eq head.method (codes "PATCH")
 
   abbrev merges : Bool
-  merges = is_merge_patch (first_value (codes "content-type") head.headers)
+  merges = is_patch (first_value (codes "content-type") head.headers)
 
-  by_method : (local : Local) (user someone : User) → local_errand local info head moment body user ≡ Deny 405
-      → local_errand local info head moment other someone ≡ Deny 405
+  abbrev directs : List ℕ → Bool
+  directs text = is_directed (first_value (codes "content-type") head.headers) text
+
+  by_method : (local : Local) (user someone : User) → asked_errand local info head moment body user ≡ Deny 405
+      → asked_errand local info head moment other someone ≡ Deny 405
   unfolding list_errand name_errand
   by_method Health user someone e = e
   by_method GroupList user someone e = e
@@ -231,13 +262,13 @@ module _ (info : Info) (head : Head) (moment : ℕ) (body other : List ℕ) wher
   by_method (OneService name) user someone e =
       name_405 puts deletes patches _ _ _ _ _ _ (look_services head moment)
       (may_405 (is_master user) (replace name (row_in body)) (replace_405 name (row_in body)))
-      (may_405 (is_master user) (Write (Delete name)) (λ d. cc d))
-      (patch_405 merges name body user) e
+      (may_405 (is_master user) (delete name (deletion_of body)) (delete_405 name (deletion_of body)))
+      (patch_405 merges (directs body) name body user) e
   by_method (ServicesNamed name) user someone e = e
   by_method Unserved user someone e = absurd (apart _ _ refl e)
 
   by_type : (name : List ℕ) (user : User) → head.method ≡ codes "PATCH" → merges ≡ false
-      → local_errand (OneService name) info head moment body user ≡ Deny 415
+      → asked_errand (OneService name) info head moment body user ≡ Deny 415
   unfolding name_errand
   by_type name user method none =
       name_415 puts deletes patches merges _ _ _ (look_services head moment)
@@ -245,8 +276,8 @@ module _ (info : Info) (head : Head) (moment : ℕ) (body other : List ℕ) wher
       (ap (λ (m : List ℕ). bytes_eq m (codes "DELETE")) method)
       (ap (λ (m : List ℕ). bytes_eq m (codes "PATCH")) method) none
 
-  by_user : (local : Local) (user : User) → local_errand local info head moment body user ≡ Deny 403
-      → (local_errand local info head moment other user ≡ Deny 403) × (is_master user ≡ false)
+  by_user : (local : Local) (user : User) → asked_errand local info head moment body user ≡ Deny 403
+      → (asked_errand local info head moment other user ≡ Deny 403) × (is_master user ≡ false)
   unfolding list_errand name_errand
   by_user Health user e = absurd (look_403 head.method e)
   by_user GroupList user e = absurd (look_403 head.method e)
@@ -258,12 +289,12 @@ module _ (info : Info) (head : Head) (moment : ℕ) (body other : List ℕ) wher
   by_user (OneService name) user e =
       name_403 puts deletes patches _ _ _ _ _ _ (look_services head moment) (is_master user) (services_403 head moment)
       (may_403 (is_master user) (replace name (row_in body)) (replace name (row_in other)) (replace_403 name (row_in body)))
-      (may_403 (is_master user) (Write (Delete name)) (Write (Delete name)) (λ d. cc d))
-      (patch_403 merges name body other user) e
+      (may_403 (is_master user) (delete name (deletion_of body)) (delete name (deletion_of other)) (delete_403 name (deletion_of body)))
+      (patch_403 merges (directs body) (directs other) name body other user) e
   by_user (ServicesNamed name) user e = absurd (listed_403 info head moment e)
   by_user Unserved user e = absurd (apart _ _ refl e)
 
-  by_body : (local : Local) (user : User) → local_errand local info head moment body user ≡ Deny 422 → is_master user ≡ true
+  by_body : (local : Local) (user : User) → asked_errand local info head moment body user ≡ Deny 422 → is_master user ≡ true
   unfolding list_errand name_errand
   by_body Health user e = absurd (look_422 head.method e)
   by_body GroupList user e = absurd (look_422 head.method e)
@@ -274,22 +305,45 @@ module _ (info : Info) (head : Head) (moment : ℕ) (body other : List ℕ) wher
       (may_422 (is_master user) (create (row_in body))) e
   by_body (OneService name) user e =
       name_422 puts deletes patches _ _ _ (look_services head moment) (is_master user) (services_422 head moment)
-      (may_422 (is_master user) (replace name (row_in body))) (may_422 (is_master user) (Write (Delete name)))
-      (patch_422 merges name body user) e
+      (may_422 (is_master user) (replace name (row_in body))) (may_422 (is_master user) (delete name (deletion_of body)))
+      (patch_422 merges (directs body) name body user) e
   by_body (ServicesNamed name) user e = absurd (listed_422 info head moment e)
   by_body Unserved user e = absurd (apart _ _ refl e)
 
+-- ---- the query asks for a dry run, or it doesn't
+
+back : (trial : Bool) (own : LocalErrand) (code : ℕ) → tried_if trial own ≡ Deny code → own ≡ Deny code
+back false own code e = e
+back true (Deny other) code e = e
+back true (Conflict name) code e = absurd (cc e)
+back true Look code e = absurd (cc e)
+back true (Tabulate moment) code e = absurd (cc e)
+back true (Write change) code e = absurd (cc e)
+back true (Try change) code e = absurd (cc e)
+
+on : (trial : Bool) (own : LocalErrand) (code : ℕ) → own ≡ Deny code → tried_if trial own ≡ Deny code
+on false own code e = e
+on true own code e = ap tried e
+
+pub returns-clause-by_path : goal.returns-clause-by_path
+returns-clause-by_path c = λ info head moment body user. on (asks_trial head.target) (Deny 404) 404 refl
+
 pub returns-clause-by_method : goal.returns-clause-by_method
-returns-clause-by_method c = λ local info head moment body other user someone e. by_method info head moment body other local user someone e
+returns-clause-by_method c = λ local info head moment body other user someone e.
+    on (asks_trial head.target) _ 405 (by_method info head moment body other local user someone (back (asks_trial head.target) _ 405 e))
 
 pub returns-clause-by_type : goal.returns-clause-by_type
-returns-clause-by_type c = λ name info head moment body user method none. by_type info head moment body body name user method none
+returns-clause-by_type c = λ name info head moment body user method none.
+    on (asks_trial head.target) _ 415 (by_type info head moment body body name user method none)
 
 pub returns-clause-by_user : goal.returns-clause-by_user
-returns-clause-by_user c = λ local info head moment body other user e. by_user info head moment body other local user e
+returns-clause-by_user c = λ local info head moment body other user e.
+    let own = by_user info head moment body other local user (back (asks_trial head.target) _ 403 e) in
+    (on (asks_trial head.target) _ 403 own.0, own.1)
 
 pub returns-clause-by_selector : goal.returns-clause-by_selector
 returns-clause-by_selector c = λ name info head moment body other user someone. refl
 
 pub returns-clause-by_body : goal.returns-clause-by_body
-returns-clause-by_body c = λ local info head moment body user e. by_body info head moment body body local user e
+returns-clause-by_body c = λ local info head moment body user e.
+    by_body info head moment body body local user (back (asks_trial head.target) _ 422 e)
