@@ -3,4 +3,5 @@ mod JudgedLemmas
 mod OwedLemmas
 mod RoutingLemmas
 mod StoryLemmas
+mod TrialLemmas
 mod UserLemmas

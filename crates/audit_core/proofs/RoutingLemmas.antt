@@ -6,9 +6,9 @@ use Rattle.apiservice_table.specs.Changes.{after, changed, placed, IsLater}
 use Rattle.apiservice_table.specs.Table.{row}
 use Rattle.apiservice_table.specs.declared.change.Change.{Change}
 use Rattle.local_replies.specs.Serve.{IsServed, IsDecided, local_reply, change_reply, done_in}
-use Rattle.local_replies.specs.Status.{refusal}
+use Rattle.local_replies.specs.Status.{conflict, refusal}
 use Rattle.local_replies.specs.declared.errand.LocalErrand.{LocalErrand}
-use Rattle.local_replies.specs.declared.errand.LocalErrand.TheVariants.{Deny, Look, Tabulate, Write}
+use Rattle.local_replies.specs.declared.errand.LocalErrand.TheVariants.{Deny, Conflict, Look, Tabulate, Write, Try}
 use Rattle.local_replies.specs.declared.local.Local.{Local}
 use Rattle.local_replies.specs.declared.reply.LocalReply.{LocalReply}
 use Rattle.service_endpoints.specs.Find.{others_of}
@@ -89,6 +89,10 @@ module _ (ends : List Endpoint) (opening : List Row) (seen : List Change) (own :
         unchanged
         (errand.Serve local (Deny code)) _ later
         (ap (λ x. served x change) h.0 ∙ ap (served (refusal code)) h.1) refl h.3
+    served_so (Conflict name) reply change h =
+        unchanged
+        (errand.Serve local (Conflict name)) _ later
+        (ap (λ x. served x change) h.0 ∙ ap (served (conflict name)) h.1) refl h.3
     served_so Look reply change h =
         unchanged
         (errand.Serve local Look) _ later
@@ -98,3 +102,7 @@ module _ (ends : List Endpoint) (opening : List Row) (seen : List Change) (own :
         (errand.Serve local (Tabulate moment)) _ later
         (ap (λ x. served x change) h.0 ∙ ap (served (local_reply (after opening now) local (Tabulate moment))) h.1) refl h.2
     served_so (Write asked) reply change h = changed_so asked reply change h
+    served_so (Try asked) reply change h =
+        unchanged
+        (errand.Serve local (Try asked)) _ later
+        (ap (λ x. served x change) h.0 ∙ ap (served (local_reply (after opening now) local (Try asked))) h.1) refl h.2

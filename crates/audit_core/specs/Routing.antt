@@ -11,7 +11,7 @@ use Rattle.forward_link.specs.declared.target.Target.TheVariants.{Service, Deleg
 use Rattle.front_base.specs.declared.address.Address.{Address}
 use Rattle.local_replies.specs.Serve.{local_reply}
 use Rattle.local_replies.specs.declared.errand.LocalErrand.{LocalErrand}
-use Rattle.local_replies.specs.declared.errand.LocalErrand.TheVariants.{Deny, Look, Tabulate, Write}
+use Rattle.local_replies.specs.declared.errand.LocalErrand.TheVariants.{Deny, Conflict, Look, Tabulate, Write, Try}
 use Rattle.service_endpoints.specs.Find.{endpoint_of, others_of}
 use Rattle.service_endpoints.specs.declared.endpoint.Endpoint.{Endpoint}
 use Rattle.audit_core.specs.declared.errand.Errand.{Errand}
@@ -58,9 +58,11 @@ made_by change (Some fault) = None
 
 abbrev pub local_made : List Row → LocalErrand → Option Change
 local_made rows (Deny code) = None
+local_made rows (Conflict name) = None
 local_made rows Look = None
 local_made rows (Tabulate moment) = None
 local_made rows (Write change) = made_by change (table.refusal rows change)
+local_made rows (Try change) = None
 
 -- ---- how an errand is handled
 

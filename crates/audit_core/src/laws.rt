@@ -1,4 +1,4 @@
-ghost use Rattle.std.specs.Prelude.{◌≡◌, ◌≤◌, Result, Err, List, [], ℕ, Some, Contains, codes, true, false, length};
+ghost use Rattle.std.specs.Prelude.{◌≡◌, ◌≤◌, Result, Err, List, [], ℕ, None, Some, Contains, codes, true, false, length};
 ghost use Rattle.std.specs.List.{AllByRecursion};
 ghost use Rattle.std.specs.List.{list_any};
 ghost use Rattle.apiservice_rows.specs.Row.{Row};
@@ -9,6 +9,7 @@ ghost use Rattle.http_edge.specs.declared.request.Request.{Request};
 ghost use Rattle.http_head.specs.Name.{first_value};
 ghost use Rattle.local_replies.specs.Errand.{asks_table};
 ghost use Rattle.request_info.specs.Request.{info_of};
+ghost use Rattle.request_info.specs.Selection.{asks_trial};
 ghost use Rattle.service_endpoints.specs.declared.endpoint.Endpoint.{Endpoint};
 ghost use Rattle.stage_event.specs.declared.event.Event.{Event};
 ghost use Rattle.request_info.specs.declared.fault.InfoFault.{InfoFault};
@@ -28,13 +29,15 @@ ghost use Rattle.audit_core.specs.declared.routed.Routed.{Routed};
 ghost use Rattle.audit_core.specs.declared.settings.Settings.{Settings};
 ghost use Rattle.audit_core.specs.declared.stamp.Stamp.{Stamp};
 ghost use Rattle.audit_core.specs.Unread.{is_unread};
+ghost use Rattle.write_bodies.specs.Deletion.{deletion_of};
+ghost use Rattle.write_bodies.specs.declared.deletion.Deletion.TheVariants as deletion;
 
-use local_replies::moments_count_in_tables;
+use local_replies::{dry_runs_change_nothing, moments_count_in_tables};
 use stage_event::{both_users_are_shown, levels_hide};
 use token_users::only_masters_act_as_others;
 use truncate_backend::what_fits;
 
-/// A target that is refused, or a selector on APIServices, counts before the token, an unknown token before the headers
+/// A target that is refused, or a selector on APIServices that isn't read, counts before the token, an unknown token before the headers
 /// that ask for another protocol, these before those that ask to act as another user, and all of them before the path.
 pub fn refusals_come_in_order()
     ensures target { (set : Settings) (r : Request) (moment : ℕ) (fault : InfoFault)
@@ -84,6 +87,17 @@ pub fn one_thread_decides()
         → routing.Decides ends own old.opening old.seen (placed 0 old.seen) new.seen (placed 0 new.seen) routed
         → new.opening ≡ old.opening → rows_of new ≡ routing.rows_by (rows_of old) own }
 {}
+
+/// No dry run of a change of APIServices makes a change, by whatever rows it is handled: neither where the query asks for it, nor
+/// where the options in the body of a DELETE do.
+pub fn dry_runs_make_no_change()
+    ensures query { (set : Settings) (r : Request) (moment : ℕ) (rows : List Row) → asks_trial r.head.target ≡ true
+        → routing.made rows (errand.errand_in set r moment) ≡ None }
+    ensures options { (set : Settings) (r : Request) (moment : ℕ) (rows : List Row) → r.head.method ≡ codes "DELETE"
+        → deletion_of r.body ≡ Some deletion.Trial → routing.made rows (errand.errand_in set r moment) ≡ None }
+{
+    dry_runs_change_nothing();
+}
 
 /// A request at level None owes no event, whatever it is and however it is answered.
 pub fn none_owes_nothing()

@@ -35,8 +35,8 @@ pub use errand::Errand;
 pub use facts::{facts_of, first_facts, kept_sent};
 pub use judged::{Judged, judge};
 pub use laws::{
-    errands_have_moments_in_tables, lines_fit, metadata_shows_no_body, none_owes_nothing,
-    one_thread_decides, refusals_come_in_order, users_are_told_apart,
+    dry_runs_make_no_change, errands_have_moments_in_tables, lines_fit, metadata_shows_no_body,
+    none_owes_nothing, one_thread_decides, refusals_come_in_order, users_are_told_apart,
 };
 pub use link_note::LinkNote;
 pub use offers::{OfferNote, Offers, Outcome, has_refused};

@@ -20,7 +20,8 @@ fn is_list(text: &str) -> bool
     text == "apis/apiregistration.k8s.io/v1/apiservices"
 }
 
-/// Whether a request on APIServices has a selector or `dryRun` that isn't read here: of their list a selector of one name is.
+/// Whether a request on APIServices has a selector that isn't read here, or a `dryRun` other than `All`: of their list a selector of
+/// one name is read.
 #[tactic(auto, unfolding(crate::specs::Unread::is_unread))]
 pub fn is_unread(alloc: Global, path: &str, target: &str) -> Result<bool, NoMemory>
     ensures { IfOk result (λ unread. unread ≡ spec.is_unread path.now target.now) }

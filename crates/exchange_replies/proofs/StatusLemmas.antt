@@ -25,18 +25,22 @@ use Rattle.front_base.specs.declared.user.User.{User}
 use Rattle.http_edge.specs.declared.request.Request.{Request}
 use Rattle.http_head.specs.Name.{first_value}
 use Rattle.http_head.specs.declared.request.Head.{Head}
-use Rattle.local_replies.specs.Errand.{asks_table, local_errand, look_services, looks, by_master, is_master, is_merge_patch, create, patch, replace, row_in, list_errand, name_errand, seen_as}
+use Rattle.local_replies.specs.Errand.{asked_errand, asks_table, local_errand, look_services, looks, by_master, delete, is_directed, is_master, is_patch, create, patch, replace, row_in, list_errand, name_errand, seen_as, served_patch, tried_if}
 use Rattle.local_replies.specs.Looked.{looked, found}
 use Rattle.local_replies.specs.Serve.{local_reply, change_reply, done, refused}
 use Rattle.local_replies.specs.Tabulated.{one_table, tabulated}
 use Rattle.local_replies.specs.declared.errand.LocalErrand.{LocalErrand}
-use Rattle.local_replies.specs.declared.errand.LocalErrand.TheVariants.{Deny, Look, Tabulate, Write}
+use Rattle.local_replies.specs.declared.errand.LocalErrand.TheVariants.{Deny, Conflict, Look, Tabulate, Write, Try}
 use Rattle.local_replies.specs.declared.local.Local.{Local}
 use Rattle.local_replies.specs.declared.local.Local.TheVariants.{Health, GroupList, OneGroup, ResourceList, AllServices, OneService, ServicesNamed, Unserved}
+use Rattle.request_info.specs.Selection.{asks_trial}
 use Rattle.service_endpoints.specs.Find.{endpoint_of, others_of}
 use Rattle.service_endpoints.specs.declared.endpoint.Endpoint.{Endpoint}
 use Rattle.token_users.specs.declared.acting.Act.{Act}
 use Rattle.token_users.specs.declared.acting.Act.TheVariants.{Own, As, Unserved, Bad, Forbidden}
+use Rattle.write_bodies.specs.Deletion.{deletion_of}
+use Rattle.write_bodies.specs.declared.deletion.Deletion.{Deletion}
+use Rattle.write_bodies.specs.declared.deletion.Deletion.TheVariants.{Plain, Trial, Conditional}
 
 -- ---- errands
 
@@ -81,32 +85,56 @@ list_by info head moment body user =
     (if_by (bytes_eq head.method (codes "POST")) (by_master user (create (row_in body))) (look_services head moment)
     (master_by (is_master user) (create (row_in body)) (create_by (row_in body))) (services_by head moment))
 
-patch_by : (is : Bool) (name body : List ℕ) (user : User) → IsFinalLocal (patch is name body user)
-patch_by true name body user = master_by (is_master user) (Write (Patch name body)) tt
-patch_by false name body user = (omega arith, omega arith)
+served_by : (directed : Bool) (name body : List ℕ) → IsFinalLocal (served_patch directed name body)
+served_by true name body = (omega arith, omega arith)
+served_by false name body = tt
+
+patch_by : (is directed : Bool) (name body : List ℕ) (user : User) → IsFinalLocal (patch is directed name body user)
+patch_by true directed name body user = master_by (is_master user) (served_patch directed name body) (served_by directed name body)
+patch_by false directed name body user = (omega arith, omega arith)
+
+delete_by : (name : List ℕ) (deletion : Option Deletion) → IsFinalLocal (delete name deletion)
+delete_by name None = (omega arith, omega arith)
+delete_by name (Some Plain) = tt
+delete_by name (Some Trial) = tt
+delete_by name (Some Conditional) = tt
 
 name_by : (name : List ℕ) (head : Head) (moment : ℕ) (body : List ℕ) (user : User) → IsFinalLocal (name_errand name head moment body user)
 unfolding name_errand
 name_by name head moment body user =
-    let is : Bool = is_merge_patch (first_value (codes "content-type") head.headers) in
+    let is : Bool = is_patch (first_value (codes "content-type") head.headers) in
+    let directed : Bool = is_directed (first_value (codes "content-type") head.headers) body in
     if_by (bytes_eq head.method (codes "PUT")) (by_master user (replace name (row_in body))) _
     (master_by (is_master user) (replace name (row_in body)) (replace_by name (row_in body)))
-    (if_by (bytes_eq head.method (codes "DELETE")) (by_master user (Write (Delete name))) _
-    (master_by (is_master user) (Write (Delete name)) tt)
-    (if_by (bytes_eq head.method (codes "PATCH")) (patch is name body user) (look_services head moment)
-    (patch_by is name body user) (services_by head moment)))
+    (if_by (bytes_eq head.method (codes "DELETE")) (by_master user (delete name (deletion_of body))) _
+    (master_by (is_master user) (delete name (deletion_of body)) (delete_by name (deletion_of body)))
+    (if_by (bytes_eq head.method (codes "PATCH")) (patch is directed name body user) (look_services head moment)
+    (patch_by is directed name body user) (services_by head moment)))
 
-local_by : (local : Local) (info : Info) (head : Head) (moment : ℕ) (body : List ℕ) (user : User) → IsFinalLocal (local_errand local info head moment body user)
-local_by Health info head moment body user = look_by (looks head.method)
-local_by GroupList info head moment body user = look_by (looks head.method)
-local_by (OneGroup name) info head moment body user = look_by (looks head.method)
-local_by ResourceList info head moment body user = look_by (looks head.method)
-local_by AllServices info head moment body user = list_by info head moment body user
-local_by (OneService name) info head moment body user = name_by name head moment body user
-local_by (ServicesNamed name) info head moment body user =
+asked_by : (local : Local) (info : Info) (head : Head) (moment : ℕ) (body : List ℕ) (user : User) → IsFinalLocal (asked_errand local info head moment body user)
+asked_by Health info head moment body user = look_by (looks head.method)
+asked_by GroupList info head moment body user = look_by (looks head.method)
+asked_by (OneGroup name) info head moment body user = look_by (looks head.method)
+asked_by ResourceList info head moment body user = look_by (looks head.method)
+asked_by AllServices info head moment body user = list_by info head moment body user
+asked_by (OneService name) info head moment body user = name_by name head moment body user
+asked_by (ServicesNamed name) info head moment body user =
     if_by (bytes_eq info.verb (codes "watch")) (Deny 405) _ (omega arith, omega arith)
     (if_by (looks head.method) (seen_as head moment) (Deny 400) (seen_by head moment) (omega arith, omega arith))
-local_by Unserved info head moment body user = (omega arith, omega arith)
+asked_by Unserved info head moment body user = (omega arith, omega arith)
+
+tried_by : (trial : Bool) (own : LocalErrand) → IsFinalLocal own → IsFinalLocal (tried_if trial own)
+tried_by false own h = h
+tried_by true (Deny code) h = h
+tried_by true (Conflict name) h = h
+tried_by true Look h = h
+tried_by true (Tabulate moment) h = h
+tried_by true (Write change) h = h
+tried_by true (Try change) h = h
+
+local_by : (local : Local) (info : Info) (head : Head) (moment : ℕ) (body : List ℕ) (user : User) → IsFinalLocal (local_errand local info head moment body user)
+local_by local info head moment body user =
+    tried_by (asks_trial head.target) (asked_errand local info head moment body user) (asked_by local info head moment body user)
 
 route_by : (route : Option Route) → IsFinalErrand (route_errand route)
 route_by None = tt
@@ -185,9 +213,11 @@ change_by rows change (Some fault) = refused_by fault
 
 reply_by : (rows : List Row) (local : Local) (own : LocalErrand) → IsFinalLocal own → IsStatus (local_reply rows local own).status
 reply_by rows local (Deny code) h = h
+reply_by rows local (Conflict name) h = (omega arith, omega arith)
 reply_by rows local Look h = looked_by local rows
 reply_by rows local (Tabulate moment) h = tabulated_by local moment rows
 reply_by rows local (Write change) h = change_by rows change (table.refusal rows change)
+reply_by rows local (Try change) h = change_by rows change (table.refusal rows change)
 
 service_by : (to : ServiceRef) (address : Option Address) → IsFinalHandling (service_at to address)
 service_by to None = (omega arith, omega arith)

@@ -7,7 +7,7 @@ use Rattle.audit_core.specs.declared.routed.Handling.TheVariants.{Refused, Serve
 use Rattle.exchange_replies.specs.declared.reached.Reached.{Reached}
 use Rattle.exchange_replies.specs.declared.reached.Reached.TheVariants as reached
 use Rattle.local_replies.specs.declared.errand.LocalErrand.{LocalErrand}
-use Rattle.local_replies.specs.declared.errand.LocalErrand.TheVariants.{Deny, Look, Tabulate, Write}
+use Rattle.local_replies.specs.declared.errand.LocalErrand.TheVariants.{Deny, Conflict, Look, Tabulate, Write, Try}
 
 abbrev pub IsStatus : ℕ → Type 0
 IsStatus code = (200 ≤ code) × (code < 1000)
@@ -15,9 +15,11 @@ IsStatus code = (200 ≤ code) × (code < 1000)
 -- it is refused with such a status, if it is
 abbrev pub IsFinalLocal : LocalErrand → Type 0
 IsFinalLocal (Deny code) = IsStatus code
+IsFinalLocal (Conflict name) = ⊤
 IsFinalLocal Look = ⊤
 IsFinalLocal (Tabulate moment) = ⊤
 IsFinalLocal (Write change) = ⊤
+IsFinalLocal (Try change) = ⊤
 
 abbrev pub IsFinalErrand : Errand → Type 0
 IsFinalErrand (errand.Refuse code) = IsStatus code

@@ -62,9 +62,11 @@ fn copy_own(alloc: Global, own: &LocalErrand) -> Result<LocalErrand, NoMemory>
 {
     match own {
         LocalErrand::Deny(code) => Ok(LocalErrand::Deny(*code)),
+        LocalErrand::Conflict(name) => Ok(LocalErrand::Conflict(name.copy(alloc)?)),
         LocalErrand::Look => Ok(LocalErrand::Look),
         LocalErrand::Tabulate(moment) => Ok(LocalErrand::Tabulate(*moment)),
         LocalErrand::Write(change) => Ok(LocalErrand::Write(change.copy(alloc)?)),
+        LocalErrand::Try(change) => Ok(LocalErrand::Try(change.copy(alloc)?)),
     }
 }
 

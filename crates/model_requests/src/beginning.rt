@@ -28,8 +28,10 @@ fn asked_by(alloc: Global, errand: &Errand) -> Result<Option<Change>, NoMemory>
     match errand {
         Errand::Serve(_, LocalErrand::Write(change)) => Ok(Some(change.copy(alloc)?)),
         Errand::Serve(_, LocalErrand::Deny(_)) => Ok(None),
+        Errand::Serve(_, LocalErrand::Conflict(_)) => Ok(None),
         Errand::Serve(_, LocalErrand::Look) => Ok(None),
         Errand::Serve(_, LocalErrand::Tabulate(_)) => Ok(None),
+        Errand::Serve(_, LocalErrand::Try(_)) => Ok(None),
         Errand::Refuse(_) => Ok(None),
         Errand::Route { .. } => Ok(None),
         Errand::Other => Ok(None),

@@ -10,7 +10,7 @@ use Rattle.front_base.specs.declared.level.Level.{Level}
 use Rattle.front_base.specs.declared.user.User.{User}
 use Rattle.http_edge.specs.declared.request.Request.{Request}
 use Rattle.local_replies.specs.declared.errand.LocalErrand.{LocalErrand}
-use Rattle.local_replies.specs.declared.errand.LocalErrand.TheVariants.{Deny, Look, Tabulate, Write}
+use Rattle.local_replies.specs.declared.errand.LocalErrand.TheVariants.{Deny, Conflict, Look, Tabulate, Write, Try}
 use Rattle.stage_event.specs.Due.{request_due}
 use Rattle.stage_event.specs.declared.facts.Kept.{Kept}
 use Rattle.stage_event.specs.declared.facts.Kept.TheVariants.{NotAsked}
@@ -20,9 +20,11 @@ use Rattle.model_worlds.specs.Setup.{Setup}
 
 abbrev pub local_asked : LocalErrand → Option Change
 local_asked (Deny code) = None
+local_asked (Conflict name) = None
 local_asked Look = None
 local_asked (Tabulate moment) = None
 local_asked (Write change) = Some change
+local_asked (Try change) = None
 
 abbrev pub asked_by : Errand → Option Change
 asked_by (errand.Refuse code) = None
