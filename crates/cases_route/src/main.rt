@@ -38,6 +38,7 @@ full-table.txt
 requests.txt
 replies.txt
 patches.txt
+trials.txt
 tables.txt
 ";
 

@@ -92,10 +92,10 @@ fn show_made(rt: &HostRuntime, change: &Option<Change>) {
     };
 }
 
-fn head_with(alloc: Global, method: &str, headers: Vec<Header>) -> Head {
+fn head_with(alloc: Global, method: &str, target: &str, headers: Vec<Header>) -> Head {
     Head {
         method: text(alloc, method),
-        target: empty(alloc),
+        target: text(alloc, target),
         minor: 1,
         headers: Headers::new(headers),
     }
@@ -117,29 +117,30 @@ fn media_header(method: &str) -> &'static str {
 }
 
 // A head with that media type.
-fn typed_head(alloc: Global, method: &str, media_type: &str) -> Head {
+fn typed_head(alloc: Global, method: &str, media_type: &str, target: &str) -> Head {
     let header = Header {
         name: text(alloc, media_header(method)),
         value: bytes(alloc, media_type),
     };
     match vec![in alloc; header] {
-        Ok(headers) => head_with(alloc, method, headers),
-        Err(_) => head_with(alloc, method, Vec::new(alloc)),
+        Ok(headers) => head_with(alloc, method, target, headers),
+        Err(_) => head_with(alloc, method, target, Vec::new(alloc)),
     }
 }
 
 // A head of a method, with the media type that follows it after a blank, if one does.
-fn head_of(alloc: Global, sent: &str) -> Head {
+fn head_of(alloc: Global, sent: &str, target: &str) -> Head {
     match sent.split_once(' ') {
-        Some((method, media_type)) => typed_head(alloc, method, media_type),
-        None => head_with(alloc, sent, Vec::new(alloc)),
+        Some((method, media_type)) => typed_head(alloc, method, media_type, target),
+        None => head_with(alloc, sent, target, Vec::new(alloc)),
     }
 }
 
-// The body itself where a media type is sent, and otherwise the object of a group.
+// The body itself where a media type is sent, and otherwise none of a DELETE, and the object of a group.
 fn body_of(alloc: Global, sent: &str, last: &str) -> String {
     match sent.split_once(' ') {
         Some(_) => text(alloc, last).into_string(),
+        None if sent == "DELETE" => String::new(alloc),
         None => object(alloc, "v1", last),
     }
 }
@@ -150,12 +151,19 @@ fn new_year() -> Moment {
 }
 
 // Serves a request with the verb, the method and the body of a case, and shows the reply and the change that was made.
-fn show_served(rt: &HostRuntime, routes: &mut TableRoutes, local: &Local, user: &User, asks: &str) {
+fn show_served(
+    rt: &HostRuntime,
+    routes: &mut TableRoutes,
+    local: &Local,
+    target: &str,
+    user: &User,
+    asks: &str,
+) {
     let alloc = rt.alloc();
     let (verb, rest) = fields(asks);
     let (sent, last) = fields(rest);
     let info = asked(alloc, verb);
-    let head = head_of(alloc, sent);
+    let head = head_of(alloc, sent, target);
     let body = body_of(alloc, sent, last);
     let served = serve_local(
         alloc,
@@ -177,16 +185,23 @@ fn show_served(rt: &HostRuntime, routes: &mut TableRoutes, local: &Local, user: 
     }
 }
 
-/// Shows the reply to a request, and the change that was made. The case is a path, the group of the user, the verb, the
+fn path_in(target: &str) -> &str {
+    match target.split_once('?') {
+        Some((path, _)) => path,
+        None => target,
+    }
+}
+
+/// Shows the reply to a request, and the change that was made. The case is a target, the group of the user, the verb, the
 /// method, and the group of the object in the body; or the method and a media type, and the body.
 pub fn show_request(rt: &HostRuntime, paths: &LocalPaths, routes: &mut TableRoutes, row: &str) {
     let alloc = rt.alloc();
-    let (path, rest) = fields(row);
+    let (target, rest) = fields(row);
     let (group, asks) = fields(rest);
-    match paths.local(alloc, path) {
+    match paths.local(alloc, path_in(target)) {
         Ok(Some(local)) => {
             let user = of_group(alloc, group);
-            show_served(rt, routes, &local, &user, asks);
+            show_served(rt, routes, &local, target, &user, asks);
             drop(user);
             drop(local);
         }
