@@ -1,9 +1,9 @@
 -- Lines and tries one after another.
-use Rattle.std.proofs.Common.{◌≡◌, ◌+◌, ◌≤◌, ℕ, List, [], ◌∷◌, ◌++◌, length, Option, Some, None, Err, refl, sym, ap, ◌∙◌, append_assoc, append-nil, length-append, subst, arith}
+use Rattle.std.proofs.Common.{◌≡◌, ◌+◌, ◌≤◌, ◌<◌, ℕ, List, [], ◌∷◌, ◌++◌, length, Option, Some, None, Err, refl, sym, ap, ◌∙◌, append_assoc, append-nil, length-append, subst, arith}
 use Rattle.front_base.specs.Line.{Line}
 use Rattle.front_ports.specs.Told.{Grows}
 use Rattle.truncate_backend.specs.Told.{Joined}
-use Rattle.truncate_backend.specs.Tries.{Try, try_of, answer_of, lines_of, lines_done, done_of, bytes_of}
+use Rattle.truncate_backend.specs.Tries.{Try, try_of, answer_of, lines_of, lines_done, done_of, bytes_of, is_port, is_refusal, faults_in, refusals_in}
 use Rattle.truncate_backend.specs.declared.tries.SinkFault.{SinkFault}
 use Rattle.truncate_backend.specs.declared.tries.SinkFault.TheVariants as faults
 use Rattle.truncate_backend.specs.declared.tries.TryAnswer.{TryAnswer}
@@ -38,6 +38,33 @@ done-fewer (t ∷ ts) =
     let a = length-append (lines_done t.note.answer t.lines) (done_of ts) in
     let b = length-append t.lines (lines_of ts) in
     omega arith
+
+-- ---- the tries that ended by a fault or a refusal
+
+pub faults-append : (ts us : List Try) → faults_in (ts ++ us) ≡ faults_in ts + faults_in us
+faults-append [] us = omega arith
+faults-append (t ∷ ts) us = let i = faults-append ts us in omega arith
+
+pub refusals-append : (ts us : List Try) → refusals_in (ts ++ us) ≡ refusals_in ts + refusals_in us
+refusals-append [] us = omega arith
+refusals-append (t ∷ ts) us = let i = refusals-append ts us in omega arith
+
+one_cause : (answer : TryAnswer) (lines rest done : List Line) (faults refusals : ℕ)
+    → (length done < length rest → 0 < faults + refusals) → length (lines_done answer lines ++ done) < length (lines ++ rest)
+    → 0 < (is_port answer + faults) + (is_refusal answer + refusals)
+one_cause answers.Done lines rest done faults refusals h lt =
+    let a = length-append lines done in
+    let b = length-append lines rest in
+    let c = h (omega (arith, a, b, lt)) in
+    omega (arith, c)
+one_cause answers.Port lines rest done faults refusals h lt = omega arith
+one_cause (answers.Refused code) lines rest done faults refusals h lt = omega arith
+one_cause answers.BadAnswer lines rest done faults refusals h lt = omega arith
+
+pub unwritten-cause : (ts : List Try) → length (done_of ts) < length (lines_of ts) → 0 < faults_in ts + refusals_in ts
+unwritten-cause [] lt = absurd (omega (arith, lt))
+unwritten-cause (t ∷ ts) lt =
+    one_cause t.note.answer t.lines (lines_of ts) (done_of ts) (faults_in ts) (refusals_in ts) (unwritten-cause ts) lt
 
 pub none-done : (fault : SinkFault) (lines : List Line) → lines_done (answer_of (Err fault)) lines ≡ []
 none-done faults.Port lines = refl

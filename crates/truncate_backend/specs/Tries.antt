@@ -1,7 +1,7 @@
 -- The tries of a sink.
 use Rattle.std.specs.Prelude.{◌≡◌, ◌≤◌, ◌+◌, ℕ, List, [], ◌∷◌, ◌++◌, length, take, Option, Some, None, Result, Ok, Err, ⊤}
 use Rattle.front_base.specs.Line.{Line}
-use Rattle.truncate_backend.specs.Told.{Joined, JoinedEach, Rises}
+use Rattle.truncate_backend.specs.Told.{Joined, JoinedEach, RisesByOne}
 use Rattle.truncate_backend.specs.declared.tries.SinkFault.{SinkFault}
 use Rattle.truncate_backend.specs.declared.tries.SinkFault.TheVariants as faults
 use Rattle.truncate_backend.specs.declared.tries.TryAnswer.{TryAnswer}
@@ -35,12 +35,12 @@ abbrev pub try_of : List Line → ℕ → TryAnswer → Try
 try_of lines sent answer =
     record { lines = lines; note = record { lines = length lines; sent = sent; answer = answer } }
 
--- which counts an answer raises
+-- which count an answer raises, by one
 abbrev pub Counted : SinkTells → Result ⊤ SinkFault → SinkTells → Type 0
 Counted m (Ok u) n = (n.faults ≡ m.faults) × (n.refusals ≡ m.refusals)
-Counted m (Err faults.Port) n = Rises m.faults n.faults × (n.refusals ≡ m.refusals)
-Counted m (Err (faults.Refused code)) n = (n.faults ≡ m.faults) × Rises m.refusals n.refusals
-Counted m (Err faults.BadAnswer) n = (n.faults ≡ m.faults) × Rises m.refusals n.refusals
+Counted m (Err faults.Port) n = RisesByOne m.faults n.faults × (n.refusals ≡ m.refusals)
+Counted m (Err (faults.Refused code)) n = (n.faults ≡ m.faults) × RisesByOne m.refusals n.refusals
+Counted m (Err faults.BadAnswer) n = (n.faults ≡ m.faults) × RisesByOne m.refusals n.refusals
 
 -- the port was given these bytes after those before
 abbrev pub Sends : Option (Option (List ℕ)) → List ℕ → Option (Option (List ℕ)) → Type 0
@@ -87,6 +87,27 @@ lines_done answers.BadAnswer lines = []
 abbrev pub done_of : List Try → List Line
 done_of [] = []
 done_of (t ∷ ts) = lines_done t.note.answer t.lines ++ done_of ts
+
+-- how many of tries ended by a call that failed, and how many by a refusal or by an answer that isn't HTTP
+abbrev pub is_port : TryAnswer → ℕ
+is_port answers.Done = 0
+is_port answers.Port = 1
+is_port (answers.Refused code) = 0
+is_port answers.BadAnswer = 0
+
+abbrev pub is_refusal : TryAnswer → ℕ
+is_refusal answers.Done = 0
+is_refusal answers.Port = 0
+is_refusal (answers.Refused code) = 1
+is_refusal answers.BadAnswer = 1
+
+abbrev pub faults_in : List Try → ℕ
+faults_in [] = 0
+faults_in (t ∷ ts) = is_port t.note.answer + faults_in ts
+
+abbrev pub refusals_in : List Try → ℕ
+refusals_in [] = 0
+refusals_in (t ∷ ts) = is_refusal t.note.answer + refusals_in ts
 
 -- how many bytes lines have
 abbrev pub bytes_of : List Line → ℕ

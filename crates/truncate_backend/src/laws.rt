@@ -7,7 +7,7 @@ ghost use Rattle.truncate_backend.specs.Fits.{fitted, before_objects, objects, a
 ghost use Rattle.truncate_backend.specs.Lanes.{SinkStays};
 ghost use Rattle.truncate_backend.specs.Told.{Joined, JoinedEach};
 ghost use Rattle.truncate_backend.specs.Tries as tries;
-ghost use Rattle.truncate_backend.specs.Tries.{Try, SinkTells, Tried, KeepsSent, IsNoted, IsSingle, try_of, answer_of, lines_of, done_of, bytes_of};
+ghost use Rattle.truncate_backend.specs.Tries.{Try, SinkTells, Tried, KeepsSent, IsNoted, IsSingle, try_of, answer_of, lines_of, done_of, bytes_of, faults_in, refusals_in};
 ghost use Rattle.truncate_backend.specs.declared.fitted.Fit.TheVariants as fits;
 ghost use Rattle.truncate_backend.specs.declared.tries.SinkFault.{SinkFault};
 ghost use Rattle.truncate_backend.specs.declared.tries.TryAnswer.{TryAnswer};
@@ -37,11 +37,16 @@ pub fn no_objects_no_strip()
     ensures { (event : Event) (max : ℕ) (line : List ℕ) → objects event ≡ [] → fitted event max ≡ fits.Stripped line → ⊥ }
 {}
 
-/// The lines of tries one after another, and those of them that were written.
+/// The lines of tries one after another, those of them that were written, and the tries that ended by a fault or a refusal. Where a
+/// line wasn't written there is such a try.
 pub fn tries_join()
     ensures lines { (these those : List Try) → lines_of (these ++ those) ≡ lines_of these ++ lines_of those }
     ensures done { (these those : List Try) → done_of (these ++ those) ≡ done_of these ++ done_of those }
     ensures fewer { (these : List Try) → length (done_of these) ≤ length (lines_of these) }
+    ensures faults { (these those : List Try) → faults_in (these ++ those) ≡ faults_in these + faults_in those }
+    ensures refusals { (these those : List Try) → refusals_in (these ++ those) ≡ refusals_in these + refusals_in those }
+    ensures cause { (these : List Try) → length (done_of these) < length (lines_of these)
+        → 0 < faults_in these + refusals_in these }
 {}
 
 /// The lines of one try, which are written where its answer is Done, and else none of them.
