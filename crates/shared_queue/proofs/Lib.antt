@@ -4,3 +4,4 @@ pub mod Homes
 pub mod Ends
 pub mod Drains
 pub mod OneLane
+pub mod LaneLemmas

@@ -30,14 +30,15 @@ fn end_lane<R: Wait + Copy + Drop>(
         queue: theirs,
         pass,
         bay: _,
-        fulls,
+        beyond,
+        refusals,
         capacity: _,
         allotment: _,
         count: _,
     } = lane;
     queue.absorb::<LaneBack>(maker, pass);
     drop(theirs);
-    fulls
+    beyond.saturating_add(refusals.count())
 }
 
 // All lanes come back to the maker. How often they were Full, all together.

@@ -2,6 +2,7 @@ ghost use Rattle.std.specs.Prelude.{◌≡◌, ◌<◌, ◌≤◌, ◌+◌, true
 ghost use Rattle.std.specs.Arc.{arc_value};
 ghost use Rattle.crossbeam_queue.specs.Passes.{view, IsPassOf, ruled_capacity};
 
+use crate::refusals::Refusals;
 use crate::rule::{LanePush, LineQueue};
 use crate::views::View;
 use crossbeam_queue::Pass;
@@ -18,7 +19,9 @@ pub struct QueueLane<R: Wait + Copy + Drop> {
     pub(crate) queue: Arc<LineQueue>,
     pub(crate) pass: Pass<Line, View>,
     pub(crate) bay: u16,
-    pub(crate) fulls: u64,
+    // How many offers came after the allotment was spent, up to the last value of the type, and how many pushes the queue refused.
+    pub(crate) beyond: u64,
+    pub(crate) refusals: Refusals,
     pub(crate) capacity: u32,
     pub(crate) allotment: u64,
     // How many lines it accepted.
@@ -29,15 +32,15 @@ pub struct QueueLane<R: Wait + Copy + Drop> {
     ghost capacity_is: { capacity ≡ ruled_capacity (arc_value queue) },
     ghost allotment_is: { get_or (view pass).allotments (view pass).bay 0 ≡ allotment },
     ghost count_is: { (count ≡ length (view pass).accepted) × (count ≤ allotment) },
-    ghost crowded: { 0 < fulls → count < allotment
-        → capacity + allotment ≤ length (view pass).accepted + sum (view pass).allotments },
+    ghost beyond_is: { 0 < beyond → count ≡ allotment },
+    ghost crowded: { 0 < refusals.count → capacity + allotment ≤ length (view pass).accepted + sum (view pass).allotments },
 }
 
 impl<R: Wait + Copy + Drop> QueueLane<R> {
     ghost use Rattle.std.specs.Prelude.{MatchResult};
-    ghost use Rattle.truncate_backend.specs.Told.{Rises};
+    ghost use Rattle.truncate_backend.specs.Told.{RisesByOne};
     ghost use Rattle.shared_queue.specs.Rule.{pushed};
-    ghost use Rattle.shared_queue.specs.Lanes.{SameLane, CanBeFull, lane_accepted, lane_fulls};
+    ghost use Rattle.shared_queue.specs.Lanes.{SameLane, WasFull, lane_beyond, lane_refused};
 
     // A push, where the allotment has room for the line.
     fn push(&mut self, line: Line) -> Result<(), Line>
@@ -45,22 +48,20 @@ impl<R: Wait + Copy + Drop> QueueLane<R> {
         requires room { self.old.count < self.old.allotment }
         ensures same { SameLane self.old self.new }
         ensures result { MatchResult result
-            (λ _. (view self.new.pass ≡ pushed (view self.old.pass) line) × (self.new.fulls ≡ self.old.fulls))
-            (λ x. (x ≡ line) × (view self.new.pass ≡ view self.old.pass) × Rises self.old.fulls self.new.fulls
-            × CanBeFull self.old) }
+            (λ _. (view self.new.pass ≡ pushed (view self.old.pass) line) × (lane_refused self.new ≡ lane_refused self.old))
+            (λ x. (x ≡ line) × (view self.new.pass ≡ view self.old.pass)
+            × RisesByOne (lane_refused self.old) (lane_refused self.new) × WasFull self.old) }
+        ensures beyond { lane_beyond self.new ≡ lane_beyond self.old }
     {
         match self
-            .queue
-            .push_as::<LanePush, R>(&self.rt, &mut self.pass, line)
+            .refusals
+            .push::<LanePush, R>(&self.rt, &self.queue, &mut self.pass, line)
         {
             Ok(()) => {
                 self.count += 1;
                 Ok(())
             }
-            Err(back) => {
-                self.fulls = self.fulls.saturating_add(1);
-                Err(back)
-            }
+            Err(back) => Err(back),
         }
     }
 }
@@ -86,7 +87,7 @@ impl<R: Wait + Copy + Drop> Lane for QueueLane<R> {
         ensures exact { LaneOffered self.old line result self.new }
     {
         if self.count >= self.allotment {
-            self.fulls = self.fulls.saturating_add(1);
+            self.beyond = self.beyond.saturating_add(1);
             return Offer::Full(line);
         }
         match self.push(line) {

@@ -16,6 +16,7 @@ mod laws;
 mod making;
 mod outlet;
 mod queue_end;
+mod refusals;
 mod rule;
 mod views;
 

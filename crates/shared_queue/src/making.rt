@@ -2,10 +2,12 @@ ghost use Rattle.std.specs.Prelude.{◌≡◌, ◌<◌, ◌≤◌, ◌+◌, true
 ghost use Rattle.std.specs.Arc.{arc_value};
 ghost use Rattle.crossbeam_queue.specs.Passes.{view, IsPassOf, ruled_capacity};
 ghost use Rattle.shared_queue.specs.Rule.{opening, with_allotments, maker_at, lane_at};
+ghost use Rattle.shared_queue.specs.Lanes.{lane_fulls};
 ghost use Rattle.shared_queue.specs.Queues.{IsNewQueue};
 
 use crate::lane::QueueLane;
 use crate::outlet::QueueOutlet;
+use crate::refusals::Refusals;
 use crate::rule::{Allotments, LineQueue, NewLane, NewOutlet, SetAllotments};
 use crate::views::View;
 use crossbeam_queue::Pass;
@@ -60,7 +62,7 @@ fn next_lane<R: Wait + Copy + Drop>(
     requires capacity { capacity ≡ ruled_capacity (arc_value queue.now) }
     ensures maker { IfOk result (λ _. IsPassOf (arc_value queue.now) maker.new
         × (maker.new.table_id ≡ maker.old.table_id) × (view maker.new ≡ maker_at allots.now.items (bay + 1))) }
-    ensures lane { IfOk result (λ l. (l.bay ≡ bay) × (l.fulls ≡ 0) × (l.capacity ≡ capacity)
+    ensures lane { IfOk result (λ l. (l.bay ≡ bay) × (lane_fulls l ≡ 0) × (l.capacity ≡ capacity)
         × (l.pass.table_id ≡ maker.old.table_id) × (view l.pass ≡ lane_at allots.now.items bay)) }
 {
     let theirs = Arc::try_clone(queue)?;
@@ -70,7 +72,8 @@ fn next_lane<R: Wait + Copy + Drop>(
         queue: theirs,
         pass,
         bay,
-        fulls: 0,
+        beyond: 0,
+        refusals: Refusals::none(),
         capacity,
         allotment: allots[usize::from(bay)],
         count: 0,
