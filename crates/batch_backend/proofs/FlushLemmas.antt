@@ -1,17 +1,17 @@
 -- Pumps one after another.
 use Rattle.std.proofs.Common.{◌≡◌, ◌+◌, ◌-◌, ◌<◌, ◌^◌, min, ℕ, List, [], ◌∷◌, ◌++◌, length, append-nil, append_assoc, refl, sym, ap, ◌∙◌, subst, arith, true, false, is_some}
-use Rattle.std.proofs.lemmas.List.Elements.{All-cons, All-nil}
+use Rattle.std.proofs.lemmas.List.Elements.{All-append, All-cons, All-nil}
 use Rattle.front_base.specs.Line.{Line}
 use Rattle.truncate_backend.specs.Tries.{Try, SinkTells, IsNoted}
 use Rattle.truncate_backend.specs.Outlets.{OutletTells}
 use Rattle.batch_backend.specs.declared.limits.Limits.{Limits}
 use Rattle.batch_backend.specs.declared.pumped.Pumped.{Pumped}
 use Rattle.batch_backend.specs.Batches.{Drained, WithinLimits, PendsWithin}
-use Rattle.batch_backend.specs.Closes.{FullButLast}
+use Rattle.batch_backend.specs.Closes.{AllButLastEnd, IsPutAt, Times}
 use Rattle.batch_backend.specs.Pumps.{PumpedAs, Put, Moved, PumpMoved, wrote, lost, is_rest}
 use Rattle.batch_backend.specs.Flushes.{Pumps, PutRest, FlushedAs, FlushMoved, PumpedOn, PumpedOut, written_of, lost_of}
 use Rattle.batch_backend.proofs.LossLemmas.{none_counted}
-use Rattle.batch_backend.proofs.CloseLemmas.{but_last, but_last_put, none_full}
+use Rattle.batch_backend.proofs.CloseLemmas.{but_last, but_last_put, put_on, same_ends, since_is, time_of}
 use Rattle.batch_backend.proofs.TryLaws.{TryLaws, JoinLaws}
 use Rattle.batch_backend.proofs.PumpLemmas.{joined-none, moved-put, put_tries, moved-from, moved-then, then_tries, full-then, told-kept, rest-none, less-work}
 use Rattle.batch_backend.proofs.PartLemmas.{pends-on, none-pends}
@@ -93,7 +93,7 @@ unfolding stayed
 full_stayed d e now o n s t f g h =
     rw (f, g, h) (record {
       moved = stayed d d o o s s refl refl refl;
-      full = λ first before h a. (none_full d.limits before d.pending.lines a, h);
+      aged = same_ends d.limits now d.pending;
     })
 
 pub pumps-move : TryLaws → JoinLaws → (answers : List Pumped) (d e : Drained) (now : ℕ) (o n : OutletTells) (s t : SinkTells)
@@ -150,7 +150,10 @@ module _ (d e : Drained) (now : ℕ) (o n : OutletTells) (s t : SinkTells) (w l 
         moved = x.moved;
         written_is = p.written_is;
         lost_is = p.lost_is;
-        full = λ first before h a. but_last d.limits (before ++ x.moved.tries) e.pending.lines (x.full first before h a).0;
+        times = x.aged.times;
+        put = x.aged.put;
+        ends = λ before earlier h.
+            but_last d.limits (before ++ x.moved.tries) (earlier ++ x.aged.times) e.pending.lines (x.aged.ends before earlier h);
       }
 
   pub flush-moved-put : TryLaws → JoinLaws → (f : Drained) (u : SinkTells) (answer : Pumped) (x y : ℕ)
@@ -170,12 +173,18 @@ module _ (d e : Drained) (now : ℕ) (o n : OutletTells) (s t : SinkTells) (w l 
             (wrote answer) (lost answer) z.moved m;
         written_is = omega arith;
         lost_is = omega arith;
-        full = λ first before h' a'.
-            subst (λ (ts : List Try). FullButLast d.limits (before ++ ts))
+        times = z.aged.times ++ time_of now e.pending ∷ [];
+        put = All-append (IsPutAt now d.pending) z.aged.times (time_of now e.pending ∷ []) z.aged.put
+            (put_on now d.pending e.pending z.aged.since (time_of now e.pending ∷ [])
+            (All-cons (IsPutAt now e.pending) (time_of now e.pending) [] (refl, since_is now e.pending) (All-nil (IsPutAt now e.pending))));
+        ends = λ before earlier h'.
+            subst (λ (ts : List Try). AllButLastEnd d.limits (before ++ ts) (earlier ++ (z.aged.times ++ time_of now e.pending ∷ [])))
             (sym (then_tries law joins d e f o n n s t u (written_of (p.last ∷ p.before)) (lost_of (p.last ∷ p.before))
             (wrote answer) (lost answer) z.moved m ∙ ap (λ (ts : List Try). z.moved.tries ++ ts) q.1))
-            (subst (λ (ts : List Try). FullButLast d.limits ts) (append_assoc before z.moved.tries (q.0 ∷ []))
-            (but_last_put d.limits (before ++ z.moved.tries) e.pending.lines q.0 q.2 (z.full first before h' a').0));
+            (subst (λ (w : List Try × List Times). AllButLastEnd d.limits w.0 w.1)
+            (λ i. (append_assoc before z.moved.tries (q.0 ∷ []) i, append_assoc earlier z.aged.times (time_of now e.pending ∷ []) i))
+            (but_last_put d.limits (before ++ z.moved.tries) (earlier ++ z.aged.times) e.pending.lines q.0 (time_of now e.pending) q.2
+            (z.aged.ends before earlier h')));
       }
 
   pub flush-pends : PendsWithin d.limits d.pending.lines → PendsWithin e.limits e.pending.lines

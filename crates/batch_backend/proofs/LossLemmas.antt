@@ -1,32 +1,40 @@
--- What a sink counts where lines are lost.
-use Rattle.std.proofs.Common.{◌≡◌, ◌<◌, ◌+◌, ℕ, zero, suc, Ok, Err, sym, subst, arith}
-use Rattle.batch_backend.specs.Pumps.{CountsLoss}
-use Rattle.truncate_backend.specs.Tries.{Counted, SinkTells}
+-- What a sink counts of tries.
+use Rattle.std.proofs.Common.{◌≡◌, ◌≤◌, ◌+◌, ◌-◌, ◌^◌, min, ℕ, List, [], ◌∷◌, ◌++◌, Result, Ok, Err, ap, subst, arith}
+use Rattle.std.specs.Prelude.{⊤}
+use Rattle.front_base.specs.Line.{Line}
+use Rattle.batch_backend.specs.Pumps.{CountsTries}
+use Rattle.batch_backend.proofs.TryLaws.{TryLaws}
+use Rattle.truncate_backend.specs.Tries.{Counted, SinkTells, Try, answer_of, try_of, faults_in, refusals_in}
 use Rattle.truncate_backend.specs.declared.tries.SinkFault.{SinkFault}
 use Rattle.truncate_backend.specs.declared.tries.SinkFault.TheVariants as faults
 
-pub none_counted : (s t : SinkTells) → t ≡ s → CountsLoss s 0 t
-none_counted s t e = subst (CountsLoss s 0) (sym e) (record { faults = omega arith; refusals = omega arith; cause = λ h. omega (arith, h) })
+pub none_counted : (s t : SinkTells) → t ≡ s → CountsTries s [] t
+none_counted s t e = record {
+  faults = λ small. omega (arith, small, ap (λ (z : SinkTells). z.faults) e);
+  refusals = λ small. omega (arith, small, ap (λ (z : SinkTells). z.refusals) e);
+}
 
-pub done_counted : (s t : SinkTells) → Counted s (Ok tt) t → CountsLoss s 0 t
-done_counted s t c = record { faults = omega (arith, c.0); refusals = omega (arith, c.1); cause = λ h. omega (arith, h) }
-
-pub lost_counted : (s t : SinkTells) (fault : SinkFault) (n : ℕ) → Counted s (Err fault) t → CountsLoss s n t
-lost_counted s t faults.Port n c =
-    record { faults = c.0.later; refusals = omega (arith, c.1); cause = λ h. omega (arith, c.0.rose) }
-lost_counted s t (faults.Refused code) n c =
-    record { faults = omega (arith, c.0); refusals = c.1.later; cause = λ h. omega (arith, c.1.rose) }
-lost_counted s t faults.BadAnswer n c =
-    record { faults = omega (arith, c.0); refusals = c.1.later; cause = λ h. omega (arith, c.1.rose) }
+pub one_counted : (s t : SinkTells) (lines : List Line) (sent : ℕ) (result : Result ⊤ SinkFault) → Counted s result t
+    → CountsTries s (try_of lines sent (answer_of result) ∷ []) t
+one_counted s t lines sent (Ok u) c =
+    record { faults = λ small. omega (arith, small, c.0); refusals = λ small. omega (arith, small, c.1) }
+one_counted s t lines sent (Err faults.Port) c =
+    record { faults = λ small. omega (arith, small, c.0.is); refusals = λ small. omega (arith, small, c.1) }
+one_counted s t lines sent (Err (faults.Refused code)) c =
+    record { faults = λ small. omega (arith, small, c.0); refusals = λ small. omega (arith, small, c.1.is) }
+one_counted s t lines sent (Err faults.BadAnswer) c =
+    record { faults = λ small. omega (arith, small, c.0); refusals = λ small. omega (arith, small, c.1.is) }
 
 -- one after another
-cause_then : (l k a b c d : ℕ) → a + b < c + d + 1 → (0 < l → 0 < a + b) → (0 < k → 0 < c + d) → 0 < l + k → 0 < c + d
-cause_then zero k a b c d e g h n = h (omega (arith, n))
-cause_then (suc l) k a b c d e g h n = let some = g (omega arith) in omega (arith, some, e)
+count_then : (a b c k l n : ℕ) → n ≡ k + l → (a ≤ 2 ^ 64 - 1 → b ≡ min (a + k) (2 ^ 64 - 1)) → (b ≤ 2 ^ 64 - 1 → c ≡ min (b + l) (2 ^ 64 - 1))
+    → a ≤ 2 ^ 64 - 1 → c ≡ min (a + n) (2 ^ 64 - 1)
+count_then a b c k l n e f g small =
+    let is = f small in
+    let next = g (omega (arith, is)) in
+    omega (arith, e, is, next)
 
-pub counted_then : (s t u : SinkTells) (l k : ℕ) → CountsLoss s l t → CountsLoss t k u → CountsLoss s (l + k) u
-counted_then s t u l k a b = record {
-  faults = omega (arith, a.faults, b.faults);
-  refusals = omega (arith, a.refusals, b.refusals);
-  cause = cause_then l k t.faults t.refusals u.faults u.refusals (omega (arith, b.faults, b.refusals)) a.cause b.cause;
+pub counted_then : TryLaws → (s t u : SinkTells) (ts us : List Try) → CountsTries s ts t → CountsTries t us u → CountsTries s (ts ++ us) u
+counted_then law s t u ts us a b = record {
+  faults = count_then s.faults t.faults u.faults (faults_in ts) (faults_in us) (faults_in (ts ++ us)) (law.faults ts us) a.faults b.faults;
+  refusals = count_then s.refusals t.refusals u.refusals (refusals_in ts) (refusals_in us) (refusals_in (ts ++ us)) (law.refusals ts us) a.refusals b.refusals;
 }

@@ -10,11 +10,11 @@ use Rattle.batch_backend.specs.declared.limits.Limits.{Limits}
 use Rattle.batch_backend.specs.declared.pumped.Pumped.{Pumped}
 use Rattle.batch_backend.specs.declared.pumped.Pumped.TheVariants.{Took, Wrote, Lost, Waiting, Idle}
 use Rattle.batch_backend.specs.Batches.{Pending, Move, Drained, WithinLimits, IsBatch, is_over, is_whole, is_any, since_of, after_pop}
-use Rattle.batch_backend.specs.Closes.{AllFull, IsSoon, StaysFull}
-use Rattle.batch_backend.specs.Pumps.{CountsLoss, PumpedAs, Put, PutAfter, Moved, PumpMoved, wrote, lost, is_rest}
+use Rattle.batch_backend.specs.Closes.{IsSince, IsYoung, EndsAt}
+use Rattle.batch_backend.specs.Pumps.{CountsTries, PumpedAs, Put, PutAfter, Moved, PumpMoved, wrote, lost, is_rest}
 use Rattle.batch_backend.specs.Flushes.{work_left}
-use Rattle.batch_backend.proofs.CloseLemmas.{FullTry, FullBy, full_then, none_full, not_due, popped_full}
-use Rattle.batch_backend.proofs.LossLemmas.{counted_then, done_counted, lost_counted, none_counted}
+use Rattle.batch_backend.proofs.CloseLemmas.{EndTry, EndBy, due_ends, ends_then, none_ends, one_ends, popped_ends, popped_young, put_young, same_ends}
+use Rattle.batch_backend.proofs.LossLemmas.{counted_then, none_counted, one_counted}
 use Rattle.batch_backend.proofs.TryLaws.{TryLaws, JoinLaws}
 
 pub joined-none : {T : Type 0} (a : Option (List T)) → Joined a [] a
@@ -47,7 +47,7 @@ module _ (law : TryLaws) where
         noted = All-cons (IsNoted s.text) _ [] (record { lines = refl; sent = p.1.is.whole }) (All-nil (IsNoted s.text));
         were_written = omega arith;
         were_lost = omega arith;
-        counted = done_counted s t p.1.is.counts;
+        counted = one_counted s t put p.1.sent (Ok tt) p.1.is.counts;
       }
   moved-put d e put popped o n s t (Lost k) f w g p j =
       let x = p.1.1 in
@@ -69,7 +69,7 @@ module _ (law : TryLaws) where
         noted = All-cons (IsNoted s.text) _ [] (record { lines = refl; sent = x.is.whole }) (All-nil (IsNoted s.text));
         were_written = omega arith;
         were_lost = omega arith;
-        counted = lost_counted s t fault k x.is.counts;
+        counted = one_counted s t put x.sent (Err fault) x.is.counts;
       }
   moved-put d e put popped o n s t Took f w g p j = absurd p
   moved-put d e put popped o n s t Waiting f w g p j = absurd p
@@ -87,17 +87,17 @@ module _ (law : TryLaws) where
   put_tries d e put popped o n s t Waiting f w g p j = absurd p
   put_tries d e put popped o n s t Idle f w g p j = absurd p
 
-  full_put : (d e : Drained) (now : ℕ) (put popped : List Line) (o n : OutletTells) (s t : SinkTells) (answer : Pumped)
+  ends_put : (d e : Drained) (now : ℕ) (put popped : List Line) (o n : OutletTells) (s t : SinkTells) (answer : Pumped)
       → e.limits ≡ d.limits → WithinLimits d.limits put → put ++ e.pending.lines ≡ d.pending.lines ++ popped
-      → Put s put answer t → Joined o.taken popped n.taken → FullTry d.limits now d.pending put e.pending
+      → Put s put answer t → Joined o.taken popped n.taken → EndTry d.limits now d.pending put e.pending.lines
+      → (is_any e.pending.lines ≡ true → IsSince now d.pending e.pending.since)
       → PumpMoved d now o s (wrote answer) (lost answer) e n t
-  full_put d e now put popped o n s t answer f w g p j full =
+  ends_put d e now put popped o n s t answer f w g p j ends since =
       let one = put_tries d e put popped o n s t answer f w g p j in
       record {
         moved = moved-put d e put popped o n s t answer f w g p j;
-        full = λ first before h a.
-            subst (λ (ts : List Try). AllFull d.limits (before ++ ts) e.pending.lines × IsSoon d.limits first now e.pending)
-            (sym one.1) (full first before one.0 one.2 h a);
+        aged = subst (λ (ts : List Try). EndsAt d.limits now d.pending ts e.pending) (sym one.1)
+            (one_ends d.limits now d.pending e.pending one.0 put one.2 ends since);
       }
 
   -- no line is put
@@ -117,25 +117,25 @@ module _ (law : TryLaws) where
         noted = All-nil (IsNoted s.text);
         were_written = sym w;
         were_lost = omega arith;
-        counted = subst (λ l. CountsLoss s l t) (sym l) (none_counted s t h);
+        counted = none_counted s t h;
       }
 
-  full_rest : (d e : Drained) (now : ℕ) (popped : List Line) (o n : OutletTells) (s t : SinkTells) (answer : Pumped)
+  ends_rest : (d e : Drained) (now : ℕ) (popped : List Line) (o n : OutletTells) (s t : SinkTells) (answer : Pumped)
       → e.limits ≡ d.limits → e.pending.lines ≡ d.pending.lines ++ popped → t ≡ s
-      → wrote answer ≡ 0 → lost answer ≡ 0 → Joined o.taken popped n.taken → StaysFull d.limits now d.pending [] e.pending
+      → wrote answer ≡ 0 → lost answer ≡ 0 → Joined o.taken popped n.taken → EndsAt d.limits now d.pending [] e.pending
       → PumpMoved d now o s (wrote answer) (lost answer) e n t
   unfolding moved_rest
-  full_rest d e now popped o n s t answer f g h w l j full =
-      record { moved = moved_rest d e popped o n s t answer f g h w l j; full = full }
+  ends_rest d e now popped o n s t answer f g h w l j ends =
+      record { moved = moved_rest d e popped o n s t answer f g h w l j; aged = ends }
 
   moved_some : (d e : Drained) (now : ℕ) (x : Line) (put : List Line) (o n : OutletTells) (s t : SinkTells) (answer : Pumped)
       → e.limits ≡ d.limits → IsBatch d.limits put → put ++ e.pending.lines ≡ d.pending.lines ++ x ∷ []
-      → PutAfter d.pending (Some x) s put answer t → Joined o.taken (x ∷ []) n.taken → FullBy d.limits now d.pending put e.pending
+      → PutAfter d.pending (Some x) s put answer t → Joined o.taken (x ∷ []) n.taken → EndBy d.limits now d.pending put e.pending
       → PumpMoved d now o s (wrote answer) (lost answer) e n t
-  moved_some d e now x [] o n s t answer f w g h j full =
-      full_rest d e now (x ∷ []) o n s t answer f g h.1 (ap wrote h.0) (ap lost h.0) j full
-  moved_some d e now x (l ∷ ls) o n s t answer f w g h j full =
-      full_put d e now (l ∷ ls) (x ∷ []) o n s t answer f w g h j full
+  moved_some d e now x [] o n s t answer f w g h j ends =
+      ends_rest d e now (x ∷ []) o n s t answer f g h.1 (ap wrote h.0) (ap lost h.0) j ends
+  moved_some d e now x (l ∷ ls) o n s t answer f w g h j ends =
+      ends_put d e now (l ∷ ls) (x ∷ []) o n s t answer f w g h j ends.0 ends.1
 
   rest_zero : (b : Bool) → (wrote (if b then Waiting else Idle) ≡ 0) × (lost (if b then Waiting else Idle) ≡ 0)
   rest_zero true = (refl, refl)
@@ -162,22 +162,23 @@ module _ (law : TryLaws) where
       → IsBatch d.limits (after_pop d.limits now d.pending line).put → PumpMoved d now o s (wrote answer) (lost answer) e n t
   moved_popped d e now None o n s t answer f l p h w =
       let z = rest_zero (is_any d.pending.lines) in
-      full_rest d e now [] o n s t answer f (ap (λ (k : Pending). k.lines) l ∙ sym (append-nil d.pending.lines)) h.1
+      ends_rest d e now [] o n s t answer f (ap (λ (k : Pending). k.lines) l ∙ sym (append-nil d.pending.lines)) h.1
       (ap wrote h.0 ∙ z.0) (ap lost h.0 ∙ z.1) (taken-same o.taken n.taken p.0)
-      (subst (StaysFull d.limits now d.pending []) (sym l) (λ first before s a. (none_full d.limits before d.pending.lines a, s)))
+      (subst (EndsAt d.limits now d.pending []) (sym l) (same_ends d.limits now d.pending))
   moved_popped d e now (Some x) o n s t answer f l p h w =
       let m : Move = after_pop d.limits now d.pending (Some x) in
       moved_some d e now x m.put o n s t answer f w
       (ap (λ (k : Pending). m.put ++ k.lines) l ∙ parts_of d.limits now d.pending x) h p.0
-      (subst (FullBy d.limits now d.pending m.put) (sym l) (popped_full d.limits now d.pending x))
+      (subst (EndBy d.limits now d.pending m.put) (sym l) (popped_ends d.limits now d.pending x))
 
   pub moved-from : (d e : Drained) (now : ℕ) (o n : OutletTells) (s t : SinkTells) (answer : Pumped)
       → PumpedAs d now o s answer e n t → PumpMoved d now o s (wrote answer) (lost answer) e n t
   moved-from d e now o n s t answer (inl r) =
-      full_put d e now d.pending.lines [] o n s t answer r.limits r.within
+      ends_put d e now d.pending.lines [] o n s t answer r.limits r.within
       (ap (λ (k : Pending). d.pending.lines ++ k.lines) r.left) r.put
       (subst (λ (z : OutletTells). Joined o.taken [] z.taken) (sym r.outlet) (joined-none o.taken))
-      (λ first before one same h a. absurd (not_due d.limits first now d.pending r.due h))
+      (subst (λ (k : Pending). EndTry d.limits now d.pending d.pending.lines k.lines) (sym r.left) (due_ends d.limits now d.pending r.due))
+      (λ h. absurd (let k = ap (λ (z : Pending). is_any z.lines) r.left in cc (sym k ∙ h)))
   moved-from d e now o n s t answer (inr r) =
       moved_popped d e now r.line o n s t answer r.limits r.left r.popped r.put r.within
 
@@ -214,7 +215,7 @@ module _ (law : TryLaws) where
             (subst (λ (text : List Line → List ℕ). All (IsNoted text) y.tries) x.text_is y.noted);
         were_written = omega arith;
         were_lost = omega arith;
-        counted = counted_then s t u l k x.counted y.counted;
+        counted = counted_then law s t u x.tries y.tries x.counted y.counted;
       }
 
   pub then_tries : (joins : JoinLaws) (d e f : Drained) (o n m : OutletTells) (s t u : SinkTells) (w l v k : ℕ)
@@ -229,9 +230,15 @@ module _ (law : TryLaws) where
   full-then joins d e f now o n m s t u w l v k x y =
       record {
         moved = moved-then joins d e f o n m s t u w l v k x.moved y.moved;
-        full = full_then d.limits now d.pending e.pending f.pending x.moved.tries y.moved.tries x.full
-            (subst (λ (z : Limits). StaysFull z now e.pending y.moved.tries f.pending) x.moved.limits y.full);
+        aged = ends_then d.limits now d.pending e.pending f.pending x.moved.tries y.moved.tries x.aged
+            (subst (λ (z : Limits). EndsAt z now e.pending y.moved.tries f.pending) x.moved.limits y.aged);
       }
+
+-- what waits after a pump is young
+pub young-from : (d e : Drained) (now : ℕ) (o n : OutletTells) (s t : SinkTells) (answer : Pumped)
+    → PumpedAs d now o s answer e n t → IsYoung d.limits now e.pending
+young-from d e now o n s t answer (inl r) = subst (IsYoung d.limits now) (sym r.left) (put_young d.limits now d.pending.since)
+young-from d e now o n s t answer (inr r) = subst (IsYoung d.limits now) (sym r.left) (popped_young d.limits now d.pending r.line r.due)
 
 -- ---- how much is left
 

@@ -2,7 +2,7 @@
 use Rattle.std.proofs.Common.{◌≡◌, ◌+◌, ℕ, List, [], ◌∷◌, ◌++◌, Option, Err}
 use Rattle.front_base.specs.Line.{Line}
 use Rattle.truncate_backend.specs.Told.{Joined}
-use Rattle.truncate_backend.specs.Tries.{Try, try_of, answer_of, lines_of, done_of, bytes_of}
+use Rattle.truncate_backend.specs.Tries.{Try, try_of, answer_of, lines_of, done_of, bytes_of, faults_in, refusals_in}
 use Rattle.truncate_backend.specs.declared.tries.SinkFault.{SinkFault}
 use Rattle.truncate_backend.specs.declared.tries.TryAnswer.{TryAnswer}
 use Rattle.truncate_backend.specs.declared.tries.TryAnswer.TheVariants as answers
@@ -10,6 +10,8 @@ use Rattle.truncate_backend.specs.declared.tries.TryAnswer.TheVariants as answer
 pub record TryLaws : Type 0 where
   pub lines : (these those : List Try) → lines_of (these ++ those) ≡ lines_of these ++ lines_of those
   pub done : (these those : List Try) → done_of (these ++ those) ≡ done_of these ++ done_of those
+  pub faults : (these those : List Try) → faults_in (these ++ those) ≡ faults_in these + faults_in those
+  pub refusals : (these those : List Try) → refusals_in (these ++ those) ≡ refusals_in these + refusals_in those
   pub one_lines : (lines : List Line) (sent : ℕ) (answer : TryAnswer) → lines_of (try_of lines sent answer ∷ []) ≡ lines
   pub one_done : (lines : List Line) (sent : ℕ) → done_of (try_of lines sent answers.Done ∷ []) ≡ lines
   pub one_lost : (lines : List Line) (sent : ℕ) (fault : SinkFault) → done_of (try_of lines sent (answer_of (Err fault)) ∷ []) ≡ []

@@ -5,7 +5,7 @@ use Rattle.truncate_backend.specs.Tries.{Try, SinkTells}
 use Rattle.truncate_backend.specs.Outlets.{OutletTells, NoneLeft, count_left}
 use Rattle.batch_backend.specs.declared.pumped.Pumped.{Pumped}
 use Rattle.batch_backend.specs.Batches.{Drained}
-use Rattle.batch_backend.specs.Closes.{AllFull, FullButLast, IsSoon}
+use Rattle.batch_backend.specs.Closes.{Times, AllEnd, AllButLastEnd, IsPutAt}
 use Rattle.batch_backend.specs.Pumps.{Put, PumpedAs, Moved, wrote, lost, is_rest}
 
 -- pumps at one moment, with these answers, of which the last one stands first
@@ -32,16 +32,18 @@ pub record FlushedAs (d : Drained) (now : ℕ) (o : OutletTells) (s : SinkTells)
   pub few : length (last ∷ before) ≤ 2 * count_left o.left + 2
   pub put : PutRest between.pending.lines tells t
 
--- so many lines were written and so many lost, as far as these numbers fit their type. Where no line has waited too long, each
--- try but the last one ended for its number or its bytes
+-- so many lines were written and so many lost, as far as these numbers fit their type. Each try but the last one ended for its
+-- number, its bytes or its age
 pub record FlushMoved (d : Drained) (now : ℕ) (o : OutletTells) (s : SinkTells) (answer : ℕ × ℕ) (e : Drained) (n : OutletTells) (t : SinkTells) : Type 0 where
   pub written : ℕ
   pub lost : ℕ
   pub moved : Moved d o s written lost e n t
   pub written_is : answer.0 ≡ min written (2 ^ 64 - 1)
   pub lost_is : answer.1 ≡ min lost (2 ^ 64 - 1)
-  pub full : (first : ℕ) (before : List Try) → IsSoon d.limits first now d.pending → AllFull d.limits before d.pending.lines
-      → FullButLast d.limits (before ++ moved.tries)
+  pub times : List Times
+  pub put : All (IsPutAt now d.pending) times
+  pub ends : (before : List Try) (earlier : List Times) → AllEnd d.limits before earlier d.pending.lines
+      → AllButLastEnd d.limits (before ++ moved.tries) (earlier ++ times)
 
 -- how many lines these answers say that were written, and lost
 abbrev pub written_of : List Pumped → ℕ

@@ -1,14 +1,14 @@
 -- What one pump does.
 use Rattle.std.specs.Prelude.{◌≡◌, ◌<◌, ◌≤◌, ◌+◌, ℕ, List, [], ◌∷◌, ◌++◌, length, Option, Some, None, IfSome, Ok, Err, ⊤, Bool, true, false, ◌⊎◌, if◌then◌else◌, All}
 use Rattle.front_base.specs.Line.{Line}
-use Rattle.truncate_backend.specs.Told.{Joined}
-use Rattle.truncate_backend.specs.Tries.{Try, SinkTells, Tried, IsNoted, lines_of, done_of}
+use Rattle.truncate_backend.specs.Told.{Joined, CountsBy}
+use Rattle.truncate_backend.specs.Tries.{Try, SinkTells, Tried, IsNoted, lines_of, done_of, faults_in, refusals_in}
 use Rattle.truncate_backend.specs.Outlets.{OutletTells, Popped}
 use Rattle.truncate_backend.specs.declared.tries.SinkFault.{SinkFault}
 use Rattle.batch_backend.specs.declared.pumped.Pumped.{Pumped}
 use Rattle.batch_backend.specs.declared.pumped.Pumped.TheVariants.{Took, Wrote, Lost, Waiting, Idle}
 use Rattle.batch_backend.specs.Batches.{Pending, Drained, is_any, is_due, after_pop, WithinLimits, IsBatch, PendsWithin}
-use Rattle.batch_backend.specs.Closes.{StaysFull}
+use Rattle.batch_backend.specs.Closes.{EndsAt}
 
 -- one put of these lines
 abbrev pub Put : SinkTells → List Line → Pumped → SinkTells → Type 0
@@ -82,11 +82,11 @@ is_rest Idle = true
 
 -- ---- where lines go
 
--- what a sink counted doesn't fall, and where lines were lost it counted a fault or a refusal
-pub record CountsLoss (s : SinkTells) (lost : ℕ) (t : SinkTells) : Type 0 where
-  pub faults : s.faults ≤ t.faults
-  pub refusals : s.refusals ≤ t.refusals
-  pub cause : 0 < lost → 0 < t.faults + t.refusals
+-- a sink counted one fault for each try that ended by a call that failed, and one refusal for each that was refused or had an answer
+-- that isn't HTTP
+pub record CountsTries (s : SinkTells) (tries : List Try) (t : SinkTells) : Type 0 where
+  pub faults : CountsBy s.faults (faults_in tries) t.faults
+  pub refusals : CountsBy s.refusals (refusals_in tries) t.refusals
 
 -- some tries and some pops: the lines of the tries, joined, followed by those that wait now, are those that waited,
 -- followed by those that were popped. So many lines of the tries were written, and so many lost. Each try is noted as it was
@@ -102,12 +102,12 @@ pub record Moved (d : Drained) (o : OutletTells) (s : SinkTells) (written lost :
   pub noted : All (IsNoted s.text) tries
   pub were_written : length (done_of tries) ≡ written
   pub were_lost : length (done_of tries) + lost ≡ length (lines_of tries)
-  pub counted : CountsLoss s lost t
+  pub counted : CountsTries s tries t
 
--- one pump moved these, and says for which reason a batch ends
+-- pumps at one moment moved these, and each batch has a reason to end
 pub record PumpMoved (d : Drained) (now : ℕ) (o : OutletTells) (s : SinkTells) (written lost : ℕ) (e : Drained) (n : OutletTells) (t : SinkTells) : Type 0 where
   pub moved : Moved d o s written lost e n t
-  pub full : StaysFull d.limits now d.pending moved.tries e.pending
+  pub aged : EndsAt d.limits now d.pending moved.tries e.pending
 
 -- the tries' lines joined, followed by what waits, are what was taken, where both are told
 abbrev pub InParts : Option (List Try) → List Line → Option (List Line) → Type 0

@@ -1,6 +1,7 @@
 ghost use Rattle.std.specs.Prelude.{◌≡◌, ◌<◌, ◌≤◌, ◌+◌, ◌^◌, ◌∷◌, [], Some, true, false, IfOk, length, vec_capacity, vec_len, is_some, nat_eq};
 ghost use Rattle.front_base.specs.Line as base;
 ghost use Rattle.batch_backend.specs.Batches as spec;
+ghost use Rattle.batch_backend.specs.Closes.{IsYoung};
 ghost use Rattle.batch_backend.specs.Flushes.{FlushedAs, FlushMoved, PumpedOut};
 ghost use Rattle.batch_backend.specs.Pumps.{Put, Takes, PumpedAs, PumpMoved, BatchParts, wrote, lost};
 ghost use Rattle.truncate_backend.specs.Outlets.{NoneLeft};
@@ -180,6 +181,7 @@ impl Drainer {
             self.new (U.tells outlet.new) (S.tells sink.new) }
         ensures moved { PumpMoved self.old now (U.tells outlet.old) (S.tells sink.old) (wrote result) (lost result)
             self.new (U.tells outlet.new) (S.tells sink.new) }
+        ensures young { IsYoung self.old.limits now self.new.pending }
         ensures sent { KeepsSent (S.tells sink.old) (S.tells sink.new) }
         ensures parts { BatchParts self.old (S.tells sink.old).tries (U.tells outlet.old).taken
             → BatchParts self.new (S.tells sink.new).tries (U.tells outlet.new).taken }

@@ -1,5 +1,5 @@
 use Rattle.batch_backend.proofs.TryLaws.{TryLaws}
-use Rattle.batch_backend.proofs.PumpLemmas.{moved-from}
+use Rattle.batch_backend.proofs.PumpLemmas.{moved-from, young-from}
 use Rattle.batch_backend.proofs.PartLemmas.{parts-moved, pends-on}
 use Rattle.batch_backend.proofs.SentLemmas.{SentLaws, pump_sent}
 use Rattle.batch_backend.proofs.drainer.Drainer.pump.Goals as goal
@@ -9,6 +9,8 @@ returns-clause-moved g c =
     let law : TryLaws = record {
       lines = c.tries_join.ensures.lines;
       done = c.tries_join.ensures.done;
+      faults = c.tries_join.ensures.faults;
+      refusals = c.tries_join.ensures.refusals;
       one_lines = c.one_try.ensures.lines;
       one_done = c.one_try.ensures.done;
       one_lost = c.one_try.ensures.lost;
@@ -21,11 +23,17 @@ returns-clause-moved g c =
     let t = g.S.BatchSink.tells c.pump_once.new.sink in
     moved-from law d e c.args.now o n s t c.pump_once.result c.pump_once.ensures.pumped
 
+pub returns-clause-young : goal.returns-clause-young
+returns-clause-young g c =
+    young-from c.args.self.now c.pump_once.new.self c.args.now _ _ _ _ c.pump_once.result c.pump_once.ensures.pumped
+
 pub returns-clause-parts : goal.returns-clause-parts
 returns-clause-parts g c = λ h.
     let law : TryLaws = record {
       lines = c.tries_join.ensures.lines;
       done = c.tries_join.ensures.done;
+      faults = c.tries_join.ensures.faults;
+      refusals = c.tries_join.ensures.refusals;
       one_lines = c.one_try.ensures.lines;
       one_done = c.one_try.ensures.done;
       one_lost = c.one_try.ensures.lost;
