@@ -2,27 +2,30 @@
 use Rattle.std.proofs.Common.{◌≡◌, ◌<◌, ◌≤◌, ◌+◌, ◌-◌, ◌^◌, min, ℕ, zero, suc, List, [], ◌∷◌, ◌++◌, take, length, length-append, append_assoc, append-nil, Option, Some, None, IfSome, All, refl, sym, ap, ◌∙◌, subst, arith, inl, inr, map, get_or, sum_by}
 use Rattle.std.proofs.lemmas.List.Elements.{All-append, All-nil}
 use Rattle.batch_backend.specs.Batches.{Drained, WithinLimits, is_any}
-use Rattle.batch_backend.specs.Closes.{AllFull, IsSoon}
+use Rattle.batch_backend.specs.Closes.{AllEnd, IsYoung}
 use Rattle.batch_backend.specs.Flushes.{Pumps, FlushMoved}
-use Rattle.batch_backend.specs.Pumps.{CountsLoss, Moved, PumpMoved}
+use Rattle.batch_backend.specs.Pumps.{Moved, PumpMoved}
 use Rattle.batch_backend.specs.declared.limits.Limits.{Limits}
 use Rattle.batch_backend.specs.declared.pumped.Pumped.{Pumped}
 use Rattle.front_base.specs.Line.{Line}
 use Rattle.front_ports.specs.Told.{Grows}
 use Rattle.queue_drain.specs.Drains.{DrainState, Accounts, EndsDrain}
+use Rattle.queue_drain.specs.Turns.{Turned, WaitsInTime}
+use Rattle.queue_drain.proofs.TurnLemmas.{turned_more, waits_more}
 use Rattle.shared_queue.specs.Bays.{of_bay}
 use Rattle.shared_queue.specs.Ends.{TellsParts}
 use Rattle.shared_queue.specs.Lanes.{lane_accepted, lane_fulls}
 use Rattle.shared_queue.specs.declared.lane.QueueLane.{QueueLane}
 use Rattle.truncate_backend.specs.Outlets.{OutletTells, Popped}
 use Rattle.truncate_backend.specs.Told.{Joined}
-use Rattle.truncate_backend.specs.Tries.{Try, SinkTells, IsNoted, lines_of, done_of}
+use Rattle.truncate_backend.specs.Tries.{Try, SinkTells, IsNoted, lines_of, done_of, faults_in, refusals_in}
 
 -- nothing was taken yet
-pub accounts_none : (limits : Limits) (home : List ℕ) (taken waits : List Line) (since began : ℕ) (s : SinkTells)
-    → taken ≡ [] → waits ≡ [] → IfSome s.tries (λ own. own ≡ [])
-    → Accounts (record { limits = limits; home = home; taken = taken; waits = waits; since = since; began = began; last = began; sink = s; written = 0; lost = 0 })
-accounts_none limits home taken waits since began s p q h = record {
+pub accounts_none : (limits : Limits) (home : List ℕ) (taken waits : List Line) (since began clock : ℕ) (given : Option (List ℕ)) (s : SinkTells)
+    → taken ≡ [] → waits ≡ [] → IfSome s.tries (λ own. own ≡ []) → s.faults ≡ 0 → s.refusals ≡ 0 → clock ≡ began
+    → Turned limits began began given (began ∷ []) []
+    → Accounts (record { limits = limits; home = home; taken = taken; waits = waits; since = since; began = began; last = began; given = given; clock = clock; sink = s; written = 0; lost = 0 })
+accounts_none limits home taken waits since began clock given s p q h f r c t = record {
   tries = [];
   told = h;
   all = q ∙ sym p;
@@ -32,9 +35,18 @@ accounts_none limits home taken waits since began s p q h = record {
   each = refl;
   written_is = omega arith;
   lost_is = omega arith;
-  cause = λ h. omega (arith, h);
-  later = omega arith;
-  full = λ soon. (tt, λ any. absurd (cc (ap is_any q ∙ refl, any)));
+  faults_are = omega (arith, f);
+  refusals_are = omega (arith, r);
+  clock_is = c;
+  turns = began ∷ [];
+  times = [];
+  turned = t;
+  ends = tt;
+  waiting = record {
+    taken = λ any. absurd (cc (ap is_any q ∙ refl, any));
+    after = λ any. absurd (cc (ap is_any q ∙ refl, any));
+    young = λ any. absurd (cc (ap is_any q ∙ refl, any));
+  };
 }
 
 told_more : (a b : Option (List Try)) (old more : List Try) → IfSome a (λ own. own ≡ old) → Joined a more b
@@ -62,10 +74,11 @@ record Sums (limits : Limits) (taken waits : List Line) (s : SinkTells) (written
   pub each : length (done_of tries) + unwritten ≡ length (lines_of tries)
   pub written_is : written ≡ min (length (done_of tries)) (2 ^ 64 - 1)
   pub lost_is : lost ≡ min unwritten (2 ^ 64 - 1)
-  pub cause : 0 < unwritten → 0 < s.faults + s.refusals
+  pub faults_are : s.faults ≡ min (faults_in tries) (2 ^ 64 - 1)
+  pub refusals_are : s.refusals ≡ min (refusals_in tries) (2 ^ 64 - 1)
 
-abbrev state_of : Drained → List ℕ → List Line → ℕ → ℕ → SinkTells → ℕ → ℕ → DrainState
-state_of p home taken began last s written lost = record {
+abbrev state_of : Drained → List ℕ → List Line → ℕ → ℕ → Option (List ℕ) → ℕ → SinkTells → ℕ → ℕ → DrainState
+state_of p home taken began last given clock s written lost = record {
   limits = p.limits;
   home = home;
   taken = taken;
@@ -73,6 +86,8 @@ state_of p home taken began last s written lost = record {
   since = p.pending.since;
   began = began;
   last = last;
+  given = given;
+  clock = clock;
   sink = s;
   written = written;
   lost = lost;
@@ -88,19 +103,15 @@ sums_of d a = record {
   each = a.each;
   written_is = a.written_is;
   lost_is = a.lost_is;
-  cause = a.cause;
+  faults_are = a.faults_are;
+  refusals_are = a.refusals_are;
 }
 
--- what a sink counted stays, and what is lost more has its own cause
-cause_more : (u l : ℕ) (s t : SinkTells) → (0 < u → 0 < s.faults + s.refusals) → CountsLoss s l t → 0 < u + l → 0 < t.faults + t.refusals
-cause_more zero l s t h c n = c.cause (omega (arith, n))
-cause_more (suc u) l s t h c n = let some = h (omega arith) in omega (arith, some, c.faults, c.refusals)
-
-soon_before : (last now began wait : ℕ) → last ≤ now → now - began < wait → last - began < wait
-soon_before last now began wait h f = omega arith
-
 module _ (lines : (these those : List Try) → lines_of (these ++ those) ≡ lines_of these ++ lines_of those)
-    (done : (these those : List Try) → done_of (these ++ those) ≡ done_of these ++ done_of those) where
+    (done : (these those : List Try) → done_of (these ++ those) ≡ done_of these ++ done_of those)
+    (faults : (these those : List Try) → faults_in (these ++ those) ≡ faults_in these + faults_in those)
+    (refusals : (these those : List Try) → refusals_in (these ++ those) ≡ refusals_in these + refusals_in those)
+    (cause : (these : List Try) → length (done_of these) < length (lines_of these) → 0 < faults_in these + refusals_in these) where
   -- these tries and pops more
   sums_more : (p q : Drained) (taken more : List Line) (o n : OutletTells) (s t : SinkTells)
       (w l written lost after after_lost : ℕ) (ts : List Try)
@@ -127,25 +138,37 @@ module _ (lines : (these those : List Try) → lines_of (these ++ those) ≡ lin
         each = omega (arith, d, k, a.each, m.were_lost);
         written_is = omega (arith, d, a.written_is, m.were_written, g);
         lost_is = omega (arith, a.lost_is, h);
-        cause = cause_more a.unwritten l s t a.cause m.counted;
+        faults_are =
+            (let c = m.counted.faults (omega (arith, a.faults_are)) in omega (arith, c, a.faults_are, faults ts ms));
+        refusals_are =
+            (let c = m.counted.refusals (omega (arith, a.refusals_are)) in omega (arith, c, a.refusals_are, refusals ts ms));
       }
 
-  -- where little time has passed, what waits was taken since the start
-  soon_at : (p : Drained) (home : List ℕ) (taken : List Line) (began last now : ℕ) (s : SinkTells) (written lost : ℕ) → last ≤ now
-      → (a : Accounts (state_of p home taken began last s written lost)) → now - began < p.limits.wait
-      → AllFull p.limits a.tries p.pending.lines × IsSoon p.limits began now p.pending
-  soon_at p home taken began last now s written lost h a f =
-      let b = a.full (soon_before last now began p.limits.wait h f) in
-      (b.0, record { soon = f; later = (let c = a.later in omega arith); since = b.1 })
+  -- a line stayed unwritten only where a try ended by a fault or a refusal
+  sums_cause : (limits : Limits) (taken waits : List Line) (s : SinkTells) (written lost : ℕ) (ts : List Try)
+      → (a : Sums limits taken waits s written lost ts) → 0 < a.unwritten → 0 < s.faults + s.refusals
+  sums_cause limits taken waits s written lost ts a some =
+      let one = cause ts (omega (arith, a.each, some)) in
+      omega (arith, one, a.faults_are, a.refusals_are)
+
+  -- a clock that is at the last turn gives the next one
+  next_turn : (told last now moment : ℕ) → told ≡ last → told ≤ moment → (last ≤ moment → now ≡ moment) → now ≡ moment
+  next_turn told last now moment e le h = h (omega (arith, e, le))
 
   pub accounts_more : (p q : Drained) (home back : List ℕ) (taken more : List Line) (o n : OutletTells) (s t : SinkTells)
-      (began last now w l written lost after after_lost : ℕ)
-      → PumpMoved p now o s w l q n t → o.taken ≡ Some taken → n.taken ≡ Some more → last ≤ now
+      (began last now moment w l written lost after after_lost : ℕ) (given gives : Option (List ℕ)) (told clock : ℕ)
+      → PumpMoved p now o s w l q n t → IsYoung p.limits now q.pending → o.taken ≡ Some taken → n.taken ≡ Some more → last ≤ now
+      → (last ≤ moment → now ≡ moment) → Grows given gives (moment ∷ []) → told ≤ moment → clock ≡ moment
       → after ≡ min (written + w) (2 ^ 64 - 1) → after_lost ≡ min (lost + l) (2 ^ 64 - 1)
-      → Accounts (state_of p home taken began last s written lost) → Accounts (state_of q back more began now t after after_lost)
-  accounts_more p q home back taken more o n s t began last now w l written lost after after_lost m e f i g h a =
-      let sums = sums_more p q taken more o n s t w l written lost after after_lost a.tries m.moved e f g h
-      (sums_of (state_of p home taken began last s written lost) a) in
+      → Accounts (state_of p home taken began last given told s written lost) → Accounts (state_of q back more began now gives clock t after after_lost)
+  accounts_more p q home back taken more o n s t began last now moment w l written lost after after_lost given gives told clock
+      m young e f le next g tl cl wr ls a =
+      let sums = sums_more p q taken more o n s t w l written lost after after_lost a.tries m.moved e f wr ls
+      (sums_of (state_of p home taken began last given told s written lost) a) in
+      let same : now ≡ moment = next_turn told last now moment a.clock_is tl next in
+      let back_to = sym m.moved.limits in
+      let times = a.times ++ m.aged.times in
+      let turns = a.turns ++ now ∷ [] in
       record {
         tries = a.tries ++ m.moved.tries;
         told = sums.told;
@@ -156,30 +179,38 @@ module _ (lines : (these those : List Try) → lines_of (these ++ those) ≡ lin
         each = sums.each;
         written_is = sums.written_is;
         lost_is = sums.lost_is;
-        cause = sums.cause;
-        later = (let c = a.later in omega arith);
-        full = λ soon.
-            let near : now - began < p.limits.wait = subst (λ (z : Limits). now - began < z.wait) m.moved.limits soon in
-            let b = soon_at p home taken began last now s written lost i a near in
-            let k = m.full began a.tries b.1 b.0 in
-            (subst (λ (z : Limits). AllFull z (a.tries ++ m.moved.tries) q.pending.lines) (sym m.moved.limits) k.0, k.1.since);
+        faults_are = sums.faults_are;
+        refusals_are = sums.refusals_are;
+        clock_is = cl ∙ sym same;
+        turns = turns;
+        times = times;
+        turned = subst (λ (z : Limits). Turned z began now gives turns times) back_to
+            (turned_more p.limits began last now moment given gives a.turns p.pending a.times m.aged.times le g (sym same) a.waiting m.aged.put a.turned);
+        ends = subst (λ (z : Limits). AllEnd z (a.tries ++ m.moved.tries) times q.pending.lines) back_to (m.aged.ends a.tries a.times a.ends);
+        waiting = subst (λ (z : Limits). WaitsInTime z turns now q.pending.lines q.pending.since) back_to
+            (waits_more p.limits a.turns last now p.pending q.pending le a.waiting m.aged.since young);
       }
 
   -- all was taken and put
   pub ends_drain : {R : Type 0} (p q : Drained) (home : List ℕ) (lanes : List (QueueLane R)) (accepted : List (List Line))
-      (taken more : List Line) (o n : OutletTells) (s t : SinkTells) (began last now from ended written lost fulls : ℕ) (answer : ℕ × ℕ)
-      (after after_lost : ℕ)
+      (taken more : List Line) (o n : OutletTells) (s t : SinkTells) (began last now moment from ended written lost fulls : ℕ) (answer : ℕ × ℕ)
+      (after after_lost : ℕ) (given gives : Option (List ℕ)) (told : ℕ)
       → (m : FlushMoved p now o s answer q n t) → o.taken ≡ Some taken → n.taken ≡ Some more → last ≤ now
+      → (last ≤ moment → now ≡ moment) → Grows given gives (moment ∷ []) → told ≤ moment
       → after ≡ min (written + m.written) (2 ^ 64 - 1) → after_lost ≡ min (lost + m.lost) (2 ^ 64 - 1)
-      → Accounts (state_of p home taken began last s written lost) → q.pending.lines ≡ []
+      → Accounts (state_of p home taken began last given told s written lost) → q.pending.lines ≡ []
       → accepted ≡ map lane_accepted lanes → ((bay : ℕ) → get_or accepted bay [] ≡ of_bay bay more)
       → fulls ≡ min (sum_by lane_fulls lanes) (2 ^ 64 - 1) → from ≡ began → ended ≡ now
-      → EndsDrain p.limits lanes t after after_lost fulls from ended
-  ends_drain p q home lanes accepted taken more o n s t began last now from ended written lost fulls answer after after_lost m e f i g h a none all each fs b0 e0 =
-      let sums = sums_more p q taken more o n s t m.written m.lost written lost after after_lost a.tries m.moved e f g h
-      (sums_of (state_of p home taken began last s written lost) a) in
+      → EndsDrain p.limits lanes t after after_lost fulls from ended gives
+  ends_drain p q home lanes accepted taken more o n s t began last now moment from ended written lost fulls answer after after_lost given gives told
+      m e f le next g tl wr ls a none all each fs b0 e0 =
+      let sums = sums_more p q taken more o n s t m.written m.lost written lost after after_lost a.tries m.moved e f wr ls
+      (sums_of (state_of p home taken began last given told s written lost) a) in
       let ts = a.tries ++ m.moved.tries in
       let same : lines_of ts ≡ more = sym (append-nil (lines_of ts)) ∙ (ap (λ z. lines_of ts ++ z) (sym none) ∙ sums.all) in
+      let next_is : now ≡ moment = next_turn told last now moment a.clock_is tl next in
+      let turns = a.turns ++ now ∷ [] in
+      let times = a.times ++ m.times in
       record {
         tries = ts;
         told = sums.told;
@@ -190,13 +221,17 @@ module _ (lines : (these those : List Try) → lines_of (these ++ those) ≡ lin
         each = sums.each;
         written_is = sums.written_is;
         lost_is = sums.lost_is;
-        cause = sums.cause;
+        faults_are = sums.faults_are;
+        refusals_are = sums.refusals_are;
+        cause = sums_cause q.limits more q.pending.lines t after after_lost ts sums;
         fulls_are = fs;
-        full = λ soon.
-            let near : now - began < p.limits.wait =
-            subst (λ (z : ℕ). now - z < p.limits.wait) b0 (subst (λ (z : ℕ). z - from < p.limits.wait) e0 soon) in
-            let b = soon_at p home taken began last now s written lost i a near in
-            m.full began a.tries b.1 b.0;
+        in_time = record {
+          turns = turns;
+          times = times;
+          turned = subst (λ (z : ℕ × ℕ). Turned p.limits z.0 z.1 gives turns times) (λ i. (sym b0 i, sym e0 i))
+              (turned_more p.limits began last now moment given gives a.turns p.pending a.times m.times le g (sym next_is) a.waiting m.put a.turned);
+          ends = m.ends a.tries a.times a.ends;
+        };
       }
 
 -- pumps keep the account of an outlet that tells what is left
@@ -212,20 +247,11 @@ pumps_keep pop accepted capacity (answer ∷ before) d e now o n s t (f, (m, (u,
 
 -- ---- moments
 
--- one moment more, after the first
-pub still_first : (a b : Option (List ℕ)) (now began : ℕ) → Grows a b (now ∷ []) → IfSome a (λ moments. take 1 moments ≡ began ∷ [])
-    → IfSome b (λ moments. take 1 moments ≡ began ∷ [])
-still_first a None now began g h = tt
-still_first None (Some ys) now began g h = absurd (cc g)
-still_first (Some []) (Some ys) now began g h = absurd (cc h)
-still_first (Some (x ∷ xs)) (Some ys) now began g h = ap (take 1) g ∙ h
-
--- the first moment
-pub first_one : (a b : Option (List ℕ)) (now : ℕ) → Grows a b (now ∷ []) → IfSome a (λ moments. moments ≡ [])
-    → IfSome b (λ moments. take 1 moments ≡ now ∷ [])
-first_one a None now g h = tt
-first_one None (Some ys) now g h = absurd (cc g)
-first_one (Some xs) (Some ys) now g h = ap (take 1) (g ∙ ap (λ l. l ++ now ∷ []) h)
+-- the first of the moments that a clock gave
+pub first_given : (given : Option (List ℕ)) (turns : List ℕ) (began : ℕ) → IfSome given (λ moments. moments ≡ turns) → take 1 turns ≡ began ∷ []
+    → IfSome given (λ moments. take 1 moments ≡ began ∷ [])
+first_given None turns began h f = tt
+first_given (Some moments) turns began h f = ap (take 1) h ∙ f
 
 pub one_later : (told last now : ℕ) → told ≡ last → told ≤ now → last ≤ now
 one_later told last now e h = omega arith

@@ -1,7 +1,7 @@
 ghost use Rattle.std.specs.Prelude.{◌≡◌, ◌<◌, ◌≤◌, [], IfOk, IfSome};
 ghost use Rattle.batch_backend.specs.Pumps.{is_rest};
 ghost use Rattle.shared_queue.specs.Queues.{AreOneQueue, outlet_tells, outlet_home};
-ghost use Rattle.queue_drain.specs.Drains.{Accounts, RanDrain, EndsDrain, EndsTimed, IsTimed, drain_state, drain_outlet};
+ghost use Rattle.queue_drain.specs.Drains.{Accounts, RanDrain, EndsDrain, EndsTimed, drain_state, drain_outlet};
 ghost use Rattle.truncate_backend.specs.Tries.{KeepsSent};
 
 use crate::drain_end::DrainEnd;
@@ -52,13 +52,13 @@ impl<S: BatchSink, R: Wait + Copy + Drop, K: Clock> QueueDrain<S, R, K> {
         K: Drop,
         requires limits { 0 < limits.lines }
         requires outlet { (outlet_tells outlet).taken ≡ Some [] }
-        requires sink { IfSome (S.tells sink).tries (λ tries. tries ≡ []) }
+        requires sink { IfSome (S.tells sink).tries (λ tries. tries ≡ [])
+            × ((S.tells sink).faults ≡ 0) × ((S.tells sink).refusals ≡ 0) }
         requires clock { IfSome (K.given clock) (λ moments. moments ≡ []) }
-        ensures home { IfOk result (λ drain. (drain_state S.BatchSink drain).home ≡ outlet_home outlet) }
-        ensures limits { IfOk result (λ drain. (drain_state S.BatchSink drain).limits ≡ limits) }
-        ensures sink { IfOk result (λ drain. (drain_state S.BatchSink drain).sink ≡ S.tells sink) }
-        ensures accounts { IfOk result (λ drain. Accounts (drain_state S.BatchSink drain)) }
-        ensures timed { IfOk result (IsTimed K.Clock) }
+        ensures home { IfOk result (λ drain. (drain_state S.BatchSink K.Clock drain).home ≡ outlet_home outlet) }
+        ensures limits { IfOk result (λ drain. (drain_state S.BatchSink K.Clock drain).limits ≡ limits) }
+        ensures sink { IfOk result (λ drain. (drain_state S.BatchSink K.Clock drain).sink ≡ S.tells sink) }
+        ensures accounts { IfOk result (λ drain. Accounts (drain_state S.BatchSink K.Clock drain)) }
     {
         let drainer = Drainer::start(alloc, limits)?;
         let began = clock.now();
@@ -90,11 +90,11 @@ impl<S: BatchSink, R: Wait + Copy + Drop, K: Clock> QueueDrain<S, R, K> {
     /// Takes all lanes of the queue back, and puts what is left.
     pub fn finish(self, lanes: Vec<QueueLane<R>>) -> DrainEnd<S, K>
         requires queue { AreOneQueue lanes.items (drain_outlet self) }
-        requires accounts { Accounts (drain_state S.BatchSink self) }
-        ensures ends { EndsDrain (drain_state S.BatchSink self).limits lanes.items (S.tells result.sink) result.written result.lost
-            result.fulls result.began result.ended }
-        ensures sent { KeepsSent (drain_state S.BatchSink self).sink (S.tells result.sink) }
-        ensures timed { IsTimed K.Clock self → EndsTimed K.Clock result }
+        requires accounts { Accounts (drain_state S.BatchSink K.Clock self) }
+        ensures ends { EndsDrain (drain_state S.BatchSink K.Clock self).limits lanes.items (S.tells result.sink) result.written result.lost
+            result.fulls result.began result.ended (K.given result.clock) }
+        ensures sent { KeepsSent (drain_state S.BatchSink K.Clock self).sink (S.tells result.sink) }
+        ensures timed { EndsTimed K.Clock result }
     {
         tries_join();
         pops_keep_the_parts();

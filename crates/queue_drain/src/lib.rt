@@ -3,9 +3,10 @@
 //!
 //! The main contract is that of `QueueDrain::finish`. Whatever ran before, each line that a lane accepted stands in the tries
 //! of the sink once, in its bay's order, and no other line does; each try is within the limits; and the counts of written
-//! and of lost lines are those of the tries.
+//! and of lost lines are those of the tries. Each try but the last one ended for its number, its bytes or its age. It was put at
+//! the first turn of the drainer at which its first line had waited as long as a line may, or before.
 //!
-//! Nothing is promised of time: how long a line waits, or whether a drainer keeps up with the bays.
+//! Nothing is promised of how far the turns lie apart, or whether a drainer keeps up with the bays.
 #![tactic(auto)]
 
 mod drain;

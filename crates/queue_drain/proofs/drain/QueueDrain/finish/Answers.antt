@@ -1,6 +1,6 @@
-use Rattle.std.proofs.Common.{◌≡◌, ℕ, IfSome, take, refl, ap, sym, subst, ◌∙◌, arith, Some, [], ◌∷◌}
+use Rattle.std.proofs.Common.{refl, ap, sym, ◌∙◌, arith, Some, ◌∷◌}
 use Rattle.shared_queue.specs.Queues.{end_accepted, end_capacity, end_tells}
-use Rattle.queue_drain.proofs.AccountLemmas.{pumps_keep, ends_drain, one_later, still_first}
+use Rattle.queue_drain.proofs.AccountLemmas.{pumps_keep, ends_drain, first_given, one_later}
 use Rattle.queue_drain.proofs.drain.QueueDrain.finish.Goals as goal
 
 pub returns-clause-ends : goal.returns-clause-ends
@@ -20,14 +20,18 @@ returns-clause-ends g c =
     let kept = pumps_keep parts.pop (end_accepted end) (end_capacity end) (flushed.last ∷ flushed.before) c.args.self.drainer
     flushed.between c.later-now.result (end_tells end) (end_tells after.outlet) (tells c.args.self.sink) flushed.tells
     flushed.pumps is.parts in
-    ends_drain laws.lines laws.done c.args.self.drainer after.self _ c.args.lanes.items (end_accepted end) _ _ (end_tells end)
-    (end_tells after.outlet) (tells c.args.self.sink) (tells after.sink) c.args.self.began _ c.later-now.result _ _ _ _ _ _ _ _
-    says.moved (ap (λ z. Some z) is.end.taken) refl c.later-now.ensures.least.0 (omega arith) (omega arith) c.requires.accounts says.pending
+    ends_drain laws.lines laws.done laws.faults laws.refusals laws.cause c.args.self.drainer after.self _ c.args.lanes.items (end_accepted end) _ _
+    (end_tells end) (end_tells after.outlet) (tells c.args.self.sink) (tells after.sink) c.args.self.began _ c.later-now.result
+    _ _ _ _ _ _ _ _ _ _ _ _
+    says.moved (ap (λ z. Some z) is.end.taken) refl c.later-now.ensures.least.0 c.later-now.ensures.last c.now.ensures.given c.now.ensures.later
+    (omega arith) (omega arith) c.requires.accounts says.pending
     is.end.accepted (parts.drained _ _ _ (end_capacity end) kept says.left.1) (c.fulls-fulls.ensures ∙ is.end.fulls) c.micros.ensures.value c.micros-2.ensures.value
 
 pub returns-clause-timed : goal.returns-clause-timed
-returns-clause-timed g c = λ t. record {
-  first = subst (λ (n : ℕ). IfSome (g.K.Clock.given c.now.new.self) (λ moments. take 1 moments ≡ n ∷ [])) (sym c.micros.ensures.value)
-      (still_first _ _ _ _ c.now.ensures.given t.first);
-  last = c.now.ensures.last ∙ sym (c.micros-2.ensures.value ∙ c.later-now.ensures.last (one_later _ _ _ t.last c.now.ensures.later));
-}
+returns-clause-timed g c =
+    let ends = (returns-clause-ends g c).in_time.turned in
+    record {
+      first = first_given _ _ _ ends.given_are ends.first;
+      last = c.now.ensures.last
+          ∙ sym (c.micros-2.ensures.value ∙ c.later-now.ensures.last (one_later _ _ _ c.requires.accounts.clock_is c.now.ensures.later));
+    }

@@ -1,5 +1,5 @@
-use Rattle.std.proofs.Common.{refl, sym, ◌∙◌, arith}
-use Rattle.queue_drain.proofs.AccountLemmas.{accounts_more, one_later, still_first}
+use Rattle.std.proofs.Common.{refl, arith}
+use Rattle.queue_drain.proofs.AccountLemmas.{accounts_more}
 use Rattle.queue_drain.proofs.drain.QueueDrain.step.Goals as goal
 
 pub returns : goal.returns
@@ -9,15 +9,13 @@ returns g c =
     let lost = c.lost.ensures in
     let x = c.saturating_add-self.ensures in
     let y = c.saturating_add-self-2.ensures in
-    let moved = c.pump-answer.ensures.moved in
+    let pumped = c.pump-answer.ensures in
     record {
-      same = record { limits = moved.moved.limits; home = c.pump-answer.ensures.home };
+      same = record { limits = pumped.moved.moved.limits; home = pumped.home };
       accounts = λ a.
-          accounts_more laws.lines laws.done c.args.self.now.drainer c.pump-answer.new.self _ _ _ _ _ _ _ _ _ _ _ _ _ _ _ _ _
-          moved refl refl c.later-now.ensures.least.0 (omega arith) (omega arith) a;
-      sent = c.pump-answer.ensures.sent;
-      timed = λ t. record {
-        first = still_first _ _ _ _ c.now.ensures.given t.first;
-        last = c.now.ensures.last ∙ sym (c.later-now.ensures.last (one_later _ _ _ t.last c.now.ensures.later));
-      };
+          accounts_more laws.lines laws.done laws.faults laws.refusals laws.cause c.args.self.now.drainer c.pump-answer.new.self
+          _ _ _ _ _ _ _ _ _ _ _ _ _ _ _ _ _ _ _ _ _ _
+          pumped.moved pumped.young refl refl c.later-now.ensures.least.0 c.later-now.ensures.last c.now.ensures.given c.now.ensures.later
+          c.now.ensures.last (omega arith) (omega arith) a;
+      sent = pumped.sent;
     }
