@@ -6,7 +6,7 @@ use Rattle.front_base.specs.Line.{Line}
 use Rattle.shared_queue.specs.Lanes.{SameLane, LaneOffered, lane_tells, lane_bay, lane_home}
 use Rattle.truncate_backend.specs.Lanes.{LaneTells, Offered}
 use Rattle.truncate_backend.specs.Owns.{own_tells}
-use Rattle.truncate_backend.specs.Told.{Rises}
+use Rattle.truncate_backend.specs.Told.{RisesByOne}
 use Rattle.truncate_backend.specs.declared.lane.Lane as lanes
 use Rattle.truncate_backend.specs.declared.lane.Offer.{Offer}
 use Rattle.truncate_backend.specs.declared.lane.Offer.TheVariants.{Failed}
@@ -41,9 +41,9 @@ module _ {S R : Type 0} where
   abbrev pub any_lane : sinks.Ghosts S → lanes.Ghosts (AnyLane S R)
   any_lane s = record { tells = any_tells s; bay = any_bay; home = any_home; queued = any_queued }
 
-  -- A sink that is off hands the line back, and counts it. The others stay what they are, and do what each does with a line
+  -- A sink that is off hands the line back, and counts one more. The others stay what they are, and do what each does with a line
   abbrev pub OfferedAny : sinks.Ghosts S → AnyLane S R → Line → Offer → AnyLane S R → Type 0
-  OfferedAny s (Off failed) x answer (Off more) = (answer ≡ Failed x) × Rises failed more
+  OfferedAny s (Off failed) x answer (Off more) = (answer ≡ Failed x) × RisesByOne failed more
   OfferedAny s (Queue lane) x answer (Queue after) = SameLane lane after × LaneOffered lane x answer after
   OfferedAny s (Own lane) x answer (Own after) =
       Offered (own_tells (s.tells lane.sink)) x false answer (own_tells (s.tells after.sink))

@@ -7,7 +7,7 @@ use Rattle.front_ports.specs.declared.clock.Clock as clocks
 use Rattle.queue_drain.specs.Drains.{RanDrain, drain_outlet, drain_state}
 use Rattle.queue_drain.specs.declared.drain.QueueDrain.{QueueDrain}
 use Rattle.role_threads.specs.Lists.{AllPairs, IfBoth}
-use Rattle.shared_queue.specs.Lanes.{LaneParts, CanBeFull, lane_accepted, lane_allotment, lane_allotments, lane_bay, lane_capacity, lane_fulls, lane_home}
+use Rattle.shared_queue.specs.Lanes.{LaneParts, CanBeFull, lane_accepted, lane_allotment, lane_allotments, lane_bay, lane_capacity, lane_home}
 use Rattle.shared_queue.specs.Queues.{AreOneQueue, IsNewLane, IsNewQueue, OneHome, outlet_allotments, outlet_capacity, outlet_home}
 use Rattle.shared_queue.specs.declared.lane.QueueLane.{QueueLane}
 use Rattle.shared_queue.specs.declared.outlet.QueueOutlet.{QueueOutlet}
@@ -74,19 +74,35 @@ module _ {S R : Type 0} (s : sinks.Ghosts S) (one : OneHome R) (parts : (l : Que
   abbrev AtPlace : ℕ → QueueLane R → Type 0
   AtPlace bay l = (lane_bay l ≡ bay) × (lane_home l ≡ outlet_home outlet)
 
-  told_full : (l : QueueLane R) (bay : ℕ) → AtPlace bay l → (length (lane_accepted l) ≡ lane_allotment l) ⊎ CanBeFull l
-      → (length (lane_accepted l) ≡ get_or allots bay 0) ⊎ (capacity + get_or allots bay 0 ≤ length (lane_accepted l) + sum allots)
-  told_full l bay h f =
+  told_allotment : (l : QueueLane R) (bay : ℕ) → AtPlace bay l → lane_allotment l ≡ get_or allots bay 0
+  told_allotment l bay h =
+      let lots : lane_allotments l ≡ allots = (one.outlet l outlet h.1).1 ∙ allots_are in
+      (parts l).allotted ∙ (ap (λ z. get_or z (lane_bay l) 0) lots ∙ ap (λ z. get_or allots z 0) h.0)
+
+  told_crowd : (l : QueueLane R) (bay : ℕ) → AtPlace bay l → CanBeFull l
+      → capacity + get_or allots bay 0 ≤ length (lane_accepted l) + sum allots
+  told_crowd l bay h c =
       let same = one.outlet l outlet h.1 in
       let lots : lane_allotments l ≡ allots = same.1 ∙ allots_are in
       let most : lane_capacity l ≡ capacity = same.0 ∙ capacity_is in
-      let own : lane_allotment l ≡ get_or allots bay 0 =
-      (parts l).allotted ∙ (ap (λ z. get_or z (lane_bay l) 0) lots ∙ ap (λ z. get_or allots z 0) h.0) in
+      let own = told_allotment l bay h in
       let all : sum (lane_allotments l) ≡ sum allots = ap sum lots in
-      elim f [ inl e ↦ inl (e ∙ own) | inr c ↦ inr (omega (arith, c, most, own, all)) ]
+      omega (arith, c, most, own, all)
+
+  told_full : (l : QueueLane R) (bay : ℕ) → AtPlace bay l → (length (lane_accepted l) ≡ lane_allotment l) ⊎ CanBeFull l
+      → (length (lane_accepted l) ≡ get_or allots bay 0) ⊎ (capacity + get_or allots bay 0 ≤ length (lane_accepted l) + sum allots)
+  told_full l bay h f = elim f [ inl e ↦ inl (e ∙ told_allotment l bay h) | inr c ↦ inr (told_crowd l bay h c) ]
 
   one_told : (l : QueueLane R) (bay : ℕ) → AtPlace bay l → ToldQueued s capacity allots bay (lane_accepted l) (queue_lane l)
-  one_told l bay h = record { accepted_is = refl; full = λ lt. told_full l bay h ((parts l).full lt) }
+  one_told l bay h = record {
+    accepted_is = refl;
+    own = l;
+    lane_is = refl;
+    fulls_are = refl;
+    beyond = λ lt. (parts l).beyond lt ∙ told_allotment l bay h;
+    refused = λ lt. told_crowd l bay h ((parts l).refused lt);
+    full = λ lt. told_full l bay h ((parts l).full lt);
+  }
 
   told_each : (ls : List (QueueLane R)) (i bay : ℕ) → IfSome (slice_get ls i) (AtPlace bay)
       → IfSome (slice_get (map queue_lane ls) i) (ToldQueued s capacity allots bay (get_or (map lane_accepted ls) i []))
@@ -118,8 +134,7 @@ module _ {S R K : Type 0} (s : sinks.Ghosts S) (clock : clocks.Ghosts K) (one : 
       record {
         can_end = (subst (λ z. AreOneQueue z (drain_outlet d)) (sym same) queue, r.accounts made.accounts);
         limits_are = r.same.limits ∙ made.limits_are;
-        sent = subst (λ (z : SinkTells). KeepsSent z (drain_state s d).sink) made.sink_is r.sent;
-        timed = r.timed made.timed;
+        sent = subst (λ (z : SinkTells). KeepsSent z (drain_state s clock d).sink) made.sink_is r.sent;
         told = λ bay.
             subst (λ z. IfSome (slice_get after bay) (ToldQueued s capacity allots bay (get_or (map lane_accepted z) bay []))) (sym same)
             (subst (λ z. IfSome (slice_get z bay) (ToldQueued s capacity allots bay (get_or (map lane_accepted ls) bay []))) (sym q.1)

@@ -3,7 +3,7 @@ use Rattle.std.specs.Prelude.{List, [], ◌∷◌, Option, Some, None, ⊤}
 use Rattle.any_lane.specs.declared.lane.AnyLane.{AnyLane}
 use Rattle.any_lane.specs.declared.lane.AnyLane.TheVariants.{Off, Queue, Own}
 use Rattle.front_ports.specs.declared.clock.Clock as clocks
-use Rattle.queue_drain.specs.Drains.{Accounts, EndsDrain, EndsTimed, IsTimed, drain_outlet, drain_state}
+use Rattle.queue_drain.specs.Drains.{Accounts, EndsDrain, EndsTimed, drain_outlet, drain_state}
 use Rattle.queue_drain.specs.declared.drain.QueueDrain.{QueueDrain}
 use Rattle.queue_drain.specs.declared.drain_end.DrainEnd.{DrainEnd}
 use Rattle.shared_queue.specs.Queues.{AreOneQueue}
@@ -39,9 +39,9 @@ module _ {S R : Type 0} where
 
 module _ {S R K : Type 0} where
   -- where there is a drainer, these are all lanes of its queue, and it accounts for what it took
-  abbrev pub CanEnd : sinks.Ghosts S → List (QueueLane R) → Option (QueueDrain S R K) → Type 0
-  CanEnd s queue None = ⊤
-  CanEnd s queue (Some d) = AreOneQueue queue (drain_outlet d) × Accounts (drain_state s d)
+  abbrev pub CanEnd : sinks.Ghosts S → clocks.Ghosts K → List (QueueLane R) → Option (QueueDrain S R K) → Type 0
+  CanEnd s k queue None = ⊤
+  CanEnd s k queue (Some d) = AreOneQueue queue (drain_outlet d) × Accounts (drain_state s k d)
 
   -- and then it has put all that they accepted, and its sink sent what its tries say
   abbrev pub Ends : sinks.Ghosts S → clocks.Ghosts K → List (QueueLane R) → Option (QueueDrain S R K) → Option (DrainEnd S K) → Type 0
@@ -49,5 +49,5 @@ module _ {S R K : Type 0} where
   Ends s k queue None (Some e) = ⊥
   Ends s k queue (Some d) None = ⊥
   Ends s k queue (Some d) (Some e) =
-      EndsDrain (drain_state s d).limits queue (s.tells e.sink) e.written e.lost e.fulls e.began e.ended
-      × KeepsSent (drain_state s d).sink (s.tells e.sink) × (IsTimed k d → EndsTimed k e)
+      EndsDrain (drain_state s k d).limits queue (s.tells e.sink) e.written e.lost e.fulls e.began e.ended (k.given e.clock)
+      × KeepsSent (drain_state s k d).sink (s.tells e.sink) × EndsTimed k e

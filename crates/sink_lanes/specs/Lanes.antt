@@ -4,7 +4,7 @@ use Rattle.any_lane.specs.declared.lane.AnyLane.{AnyLane}
 use Rattle.any_lane.specs.declared.lane.AnyLane.TheVariants.{Off, Queue, Own}
 use Rattle.batch_backend.specs.declared.limits.Limits.{Limits}
 use Rattle.front_ports.specs.declared.clock.Clock as clocks
-use Rattle.queue_drain.specs.Drains.{Accounts, IsTimed, drain_state}
+use Rattle.queue_drain.specs.Drains.{Accounts, drain_state}
 use Rattle.queue_drain.specs.declared.drain.QueueDrain.{QueueDrain}
 use Rattle.shared_queue.specs.Queues.{IsNewQueue, outlet_home}
 use Rattle.shared_queue.specs.declared.lane.QueueLane.{QueueLane}
@@ -40,8 +40,7 @@ pub record AreQueued {S R K : Type 0} (s : sinks.Ghosts S) (k : clocks.Ghosts K)
   pub new : IsNewQueue capacity allots queue outlet
   pub lanes_are : lanes ≡ map queue_lane queue
   pub drain_is : drain ≡ Some drained
-  pub home : (drain_state s drained).home ≡ outlet_home outlet
-  pub limits_are : (drain_state s drained).limits ≡ limits
-  pub sink_is : (drain_state s drained).sink ≡ sink
-  pub accounts : Accounts (drain_state s drained)
-  pub timed : IsTimed k drained
+  pub home : (drain_state s k drained).home ≡ outlet_home outlet
+  pub limits_are : (drain_state s k drained).limits ≡ limits
+  pub sink_is : (drain_state s k drained).sink ≡ sink
+  pub accounts : Accounts (drain_state s k drained)

@@ -72,7 +72,7 @@ pub fn end_lanes<S: BatchSink + Drop, R: Wait + Copy + Drop, K: Clock + Drop>(
     drain: Option<QueueDrain<S, R, K>>,
 ) -> SinkEnd<S, K>
     requires room { length lanes.items ≤ room_for room }
-    requires queue { spec.CanEnd S.BatchSink (spec.queued_parts lanes.items) drain }
+    requires queue { spec.CanEnd S.BatchSink K.Clock (spec.queued_parts lanes.items) drain }
     ensures own { result.own.items ≡ spec.own_parts lanes.items }
     ensures queue { spec.Ends S.BatchSink K.Clock (spec.queued_parts lanes.items) drain result.drain }
 {

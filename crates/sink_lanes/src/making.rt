@@ -77,7 +77,8 @@ pub fn queued_lanes<S: BatchSink + Drop, R: Wait + Copy + Drop, K: Clock + Drop>
     requires lanes { (0 < length allots.items) × (length allots.items ≤ MOST_LANES) }
     requires allotted { All (λ n. n ≤ MOST_ALLOTTED) allots.items }
     requires limits { 0 < limits.lines }
-    requires sink { IfSome (S.tells sink).tries (λ tries. tries ≡ []) }
+    requires sink { IfSome (S.tells sink).tries (λ tries. tries ≡ [])
+        × ((S.tells sink).faults ≡ 0) × ((S.tells sink).refusals ≡ 0) }
     requires clock { IfSome (K.given clock) (λ moments. moments ≡ []) }
     ensures { IfOk result (λ made. spec.AreQueued S.BatchSink K.Clock capacity allots.items limits (S.tells sink) made.lanes.items made.drain) }
 {
