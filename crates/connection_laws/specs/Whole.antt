@@ -1,5 +1,5 @@
 -- What the requests of a connection do together (Kubernetes, "Auditing").
-use Rattle.std.specs.Prelude.{◌≡◌, ℕ, ◌+◌, ◌-◌, ◌^◌, ◌≤◌, min, ◌&&◌, Bool, true, false, List, [], ◌∷◌, ◌++◌, length, map, take, ⊤}
+use Rattle.std.specs.Prelude.{◌≡◌, ℕ, ◌+◌, ◌&&◌, Bool, true, false, List, [], ◌∷◌, ◌++◌, length, map, take, ⊤}
 use Rattle.audit_core.specs.Offers.{Due, offers_due}
 use Rattle.audit_core.specs.Owed.{owed}
 use Rattle.audit_core.specs.declared.offers.OfferNote.{OfferNote}
@@ -96,7 +96,3 @@ one_if false = 0
 abbrev pub count_of : (Outcome → Bool) → Sink → List OfferNote → ℕ
 count_of such sink [] = 0
 count_of such sink (note ∷ notes) = one_if (is_for sink note.sink && such note.outcome) + count_of such sink notes
-
--- a count grew by so many at least, or stands at the last value of its type
-abbrev pub Counts : ℕ → ℕ → ℕ → Type 0
-Counts before more after = min (before + more) (2 ^ 64 - 1) ≤ after

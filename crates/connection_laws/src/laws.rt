@@ -3,7 +3,7 @@ ghost use Rattle.audit_core.specs.Offers.{Due};
 ghost use Rattle.audit_core.specs.declared.offers.OfferNote.{OfferNote};
 ghost use Rattle.audit_core.specs.declared.settings.Settings.{Settings};
 ghost use Rattle.audit_core.specs.declared.sinks.Sink.{Sink};
-ghost use Rattle.connection_laws.specs.Whole.{Tells, CanLeave, Counts, count_of, is_full, is_failure, requests_in};
+ghost use Rattle.connection_laws.specs.Whole.{Tells, CanLeave, count_of, is_full, is_failure, requests_in};
 ghost use Rattle.event_offers.specs.Lanes.{LanesState};
 ghost use Rattle.event_offers.specs.Offering.{OffersAll};
 ghost use Rattle.event_offers.specs.Taken.{lane_of};
@@ -14,6 +14,7 @@ ghost use Rattle.session_core.specs.Connection.{ConnState, Serves};
 ghost use Rattle.session_core.specs.declared.conn_end.ConnEnd.{ConnEnd};
 ghost use Rattle.session_core.specs.declared.conn_end.ConnEnd.TheVariants.{Stopped};
 ghost use Rattle.session_core.specs.declared.exchange.Exchange.{Exchange};
+ghost use Rattle.truncate_backend.specs.Told.{CountsBy};
 
 use event_offers::offers_join;
 
@@ -35,13 +36,13 @@ pub fn a_content_connection_has_all_requests_served()
         → IfSome c.left (λ input. IsRequests input (requests_in xs) end) }
 {}
 
-/// Of the offers to a sink at most as many are noted as Full, and as Failed, as the counts of its lane grew by, unless
-/// that count stands at its last value.
+/// Of the offers to a sink as many are noted as Full, and as Failed, as the counts of its lane grew by, as far as these counts go:
+/// each stays at the last value of its type.
 pub fn refusals_are_counted()
     ensures full { (sink : Sink) (dues : List Due) (m n : LanesState) (notes : List OfferNote)
         → OffersAll dues m notes n
-        → Counts (lane_of sink m).tells.fulls (count_of is_full sink notes) (lane_of sink n).tells.fulls }
+        → CountsBy (lane_of sink m).tells.fulls (count_of is_full sink notes) (lane_of sink n).tells.fulls }
     ensures failed { (sink : Sink) (dues : List Due) (m n : LanesState) (notes : List OfferNote)
         → OffersAll dues m notes n
-        → Counts (lane_of sink m).tells.faults (count_of is_failure sink notes) (lane_of sink n).tells.faults }
+        → CountsBy (lane_of sink m).tells.faults (count_of is_failure sink notes) (lane_of sink n).tells.faults }
 {}

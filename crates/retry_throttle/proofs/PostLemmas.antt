@@ -3,7 +3,7 @@ use Rattle.std.proofs.Common.{◌≡◌, ◌≢◌, ◌<◌, ◌≤◌, ◌+◌,
 use Rattle.std.specs.Prelude.{⊤}
 use Rattle.std.proofs.lemmas.List.Elements.{All-append, All-cons, All-nil}
 use Rattle.front_base.specs.Line.{Line}
-use Rattle.truncate_backend.specs.Told.{Joined, Rises}
+use Rattle.truncate_backend.specs.Told.{Joined, Rises, RisesByOne}
 use Rattle.truncate_backend.specs.Tries.{SinkTells, Tried, Counted, IsNoted, answer_of, try_of}
 use Rattle.truncate_backend.specs.declared.tries.SinkFault.{SinkFault}
 use Rattle.truncate_backend.specs.declared.tries.SinkFault.TheVariants as faults
@@ -60,12 +60,15 @@ rises_on a b c d h r k = record {
   rose = let l : min (b + 1) (2 ^ 64 - 1) ≤ c = r.rose in omega (arith, h, k, l);
 }
 
+one_rise : (a b : ℕ) → RisesByOne a b → Rises a b
+one_rise a b r = record { later = r.later; rose = let e = r.is in omega (arith, e) }
+
 counted_rose : (s t u : SinkTells) (r : Result ⊤ SinkFault) → s.faults ≤ t.faults → s.refusals ≤ t.refusals → Counted t r u
     → RoseFor s u (answer_of r)
 counted_rose s t u (Ok x) f g c = tt
-counted_rose s t u (Err faults.Port) f g c = rises_on s.faults t.faults u.faults u.faults f c.0 (omega arith)
-counted_rose s t u (Err (faults.Refused code)) f g c = rises_on s.refusals t.refusals u.refusals u.refusals g c.1 (omega arith)
-counted_rose s t u (Err faults.BadAnswer) f g c = rises_on s.refusals t.refusals u.refusals u.refusals g c.1 (omega arith)
+counted_rose s t u (Err faults.Port) f g c = rises_on s.faults t.faults u.faults u.faults f (one_rise t.faults u.faults c.0) (omega arith)
+counted_rose s t u (Err (faults.Refused code)) f g c = rises_on s.refusals t.refusals u.refusals u.refusals g (one_rise t.refusals u.refusals c.1) (omega arith)
+counted_rose s t u (Err faults.BadAnswer) f g c = rises_on s.refusals t.refusals u.refusals u.refusals g (one_rise t.refusals u.refusals c.1) (omega arith)
 
 rose_later : (s t u : SinkTells) (a : TryAnswer) → RoseFor s t a → t.faults ≤ u.faults → t.refusals ≤ u.refusals → RoseFor s u a
 rose_later s t u answers.Done r f g = tt
