@@ -68,10 +68,10 @@ module _ {R L N W H T K Y D C : Type 0} (h : BayHandles R L N W H K Y D C) (set 
         told = bay_told h set log_new hook_new boot due tables logs hooks k end b;
         offered = sym (ap (λ n. n.lanes.log.lines) b.ends)
             ∙ lane_offered Log dues b.m.lanes b.n.lanes notes k t.offered b.opens.bay_is b.opens.lines.0;
-        account = account Log dues b.m.lanes b.n.lanes notes k t.offered b.opens.bay_is b.opens.lines.0 accepts fills put none is queued;
-        none_full = room_for_all Log dues b.m.lanes b.n.lanes notes k t.offered b.opens.bay_is b.opens.lines.0 accepts fills put none is queued
+        account = account Log dues b.m.lanes b.n.lanes notes k t.offered b.opens.bay_is b.opens.lines.0 accepts fills put none b.opens.lanes.0.no_full is queued;
+        none_full = room_for_all Log dues b.m.lanes b.n.lanes notes k t.offered b.opens.bay_is b.opens.lines.0 accepts fills put none b.opens.lanes.0.no_full is queued
             capacity allots (λ some. q.full (subst (λ x. 0 < x) (ap (λ n. n.lanes.log.tells.fulls) b.ends) some));
-        keeps = keeps_put Log dues b.m.lanes b.n.lanes notes k t.offered b.opens.bay_is b.opens.lines.0 accepts fills put none is queued;
+        keeps = keeps_put Log dues b.m.lanes b.n.lanes notes k t.offered b.opens.bay_is b.opens.lines.0 accepts fills put none b.opens.lanes.0.no_full is queued;
       }
 
   hook_keeps : (accepts : Accepts) (fills : Fills) (capacity : ℕ) (allots : List ℕ) (put : List Line) (k : ℕ) (end : BayEnd R L K Y D)
@@ -88,10 +88,10 @@ module _ {R L N W H T K Y D C : Type 0} (h : BayHandles R L N W H K Y D C) (set 
         told = bay_told h set log_new hook_new boot due tables logs hooks k end b;
         offered = sym (ap (λ n. n.lanes.hook.lines) b.ends)
             ∙ lane_offered Webhook dues b.m.lanes b.n.lanes notes k t.offered b.opens.bay_is b.opens.lines.1;
-        account = account Webhook dues b.m.lanes b.n.lanes notes k t.offered b.opens.bay_is b.opens.lines.1 accepts fills put none is queued;
-        none_full = room_for_all Webhook dues b.m.lanes b.n.lanes notes k t.offered b.opens.bay_is b.opens.lines.1 accepts fills put none is queued
+        account = account Webhook dues b.m.lanes b.n.lanes notes k t.offered b.opens.bay_is b.opens.lines.1 accepts fills put none b.opens.lanes.1.no_full is queued;
+        none_full = room_for_all Webhook dues b.m.lanes b.n.lanes notes k t.offered b.opens.bay_is b.opens.lines.1 accepts fills put none b.opens.lanes.1.no_full is queued
             capacity allots (λ some. q.full (subst (λ x. 0 < x) (ap (λ n. n.lanes.hook.tells.fulls) b.ends) some));
-        keeps = keeps_put Webhook dues b.m.lanes b.n.lanes notes k t.offered b.opens.bay_is b.opens.lines.1 accepts fills put none is queued;
+        keeps = keeps_put Webhook dues b.m.lanes b.n.lanes notes k t.offered b.opens.bay_is b.opens.lines.1 accepts fills put none b.opens.lanes.1.no_full is queued;
       }
 
   pub log_batches : (accepts : Accepts) (fills : Fills) (options : RunOptions) (allots : List ℕ) (bays : List (BayEnd R L K Y D)) (end : SinkEnd W K)
@@ -133,9 +133,9 @@ module _ {R L N W H T K Y D C : Type 0} (h : BayHandles R L N W H K Y D C) (set 
         offered = sym (ap (λ n. n.lanes.log.lines) b.ends)
             ∙ lane_offered Log dues b.m.lanes b.n.lanes notes k t.offered b.opens.bay_is b.opens.lines.0;
         written = own_written Log dues b.m.lanes b.n.lanes notes k t.offered b.opens.bay_is b.opens.lines.0 accepts tries fills fails
-            (h.log.tells mine.0) b.opens.lanes.0.none_accepted b.opens.lanes.0.none_tried tells;
+            (h.log.tells mine.0) b.opens.lanes.0.none_accepted b.opens.lanes.0.none_tried b.opens.lanes.0.no_full b.opens.lanes.0.no_fault tells;
         taken = own_taken Log dues b.m.lanes b.n.lanes notes k t.offered b.opens.bay_is b.opens.lines.0 accepts tries fills fails
-            (h.log.tells mine.0) b.opens.lanes.0.none_accepted b.opens.lanes.0.none_tried tells;
+            (h.log.tells mine.0) b.opens.lanes.0.none_accepted b.opens.lanes.0.none_tried b.opens.lanes.0.no_full b.opens.lanes.0.no_fault tells;
       }
 
   hook_own : (accepts : Accepts) (tries : Tries) (fills : Fills) (fails : Fails) (own : List H) (k : ℕ) (end : BayEnd R L K Y D)
@@ -153,9 +153,9 @@ module _ {R L N W H T K Y D C : Type 0} (h : BayHandles R L N W H K Y D C) (set 
         offered = sym (ap (λ n. n.lanes.hook.lines) b.ends)
             ∙ lane_offered Webhook dues b.m.lanes b.n.lanes notes k t.offered b.opens.bay_is b.opens.lines.1;
         written = own_written Webhook dues b.m.lanes b.n.lanes notes k t.offered b.opens.bay_is b.opens.lines.1 accepts tries fills fails
-            (h.hook.tells mine.0) b.opens.lanes.1.none_accepted b.opens.lanes.1.none_tried tells;
+            (h.hook.tells mine.0) b.opens.lanes.1.none_accepted b.opens.lanes.1.none_tried b.opens.lanes.1.no_full b.opens.lanes.1.no_fault tells;
         taken = own_taken Webhook dues b.m.lanes b.n.lanes notes k t.offered b.opens.bay_is b.opens.lines.1 accepts tries fills fails
-            (h.hook.tells mine.0) b.opens.lanes.1.none_accepted b.opens.lanes.1.none_tried tells;
+            (h.hook.tells mine.0) b.opens.lanes.1.none_accepted b.opens.lanes.1.none_tried b.opens.lanes.1.no_full b.opens.lanes.1.no_fault tells;
       }
 
   pub log_tries : (accepts : Accepts) (tries : Tries) (fills : Fills) (fails : Fails) (count : ℕ) (bays : List (BayEnd R L K Y D)) (end : SinkEnd W K)

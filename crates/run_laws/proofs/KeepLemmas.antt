@@ -14,6 +14,7 @@ use Rattle.event_offers.specs.Taken.{lane_of, is_taken, is_for, kept_line, line_
 use Rattle.front_base.specs.Line.{Line}
 use Rattle.run_laws.specs.Kept.{AllFit, AllTaken, has_line, line_due, lines_due}
 use Rattle.truncate_backend.specs.Lanes.{LaneTells, Offered}
+use Rattle.truncate_backend.specs.Told.{CountsBy}
 use Rattle.truncate_backend.specs.declared.fitted.Fit.{Fit}
 use Rattle.truncate_backend.specs.declared.fitted.Fit.TheVariants as fit
 use Rattle.truncate_backend.specs.declared.lane.Offer.{Offer}
@@ -201,8 +202,8 @@ none_failed sink (due ∷ dues) m n notes h q =
 
 -- ---- a count that stayed
 
-pub none_counted : (before more after : ℕ) → min (before + more) (2 ^ 64 - 1) ≤ after → after ≡ 0 → more ≡ 0
-none_counted before more after c e = omega (arith, c, e)
+pub none_counted : (before more after : ℕ) → CountsBy before more after → before ≡ 0 → after ≡ 0 → more ≡ 0
+none_counted before more after c new e = let is = c (omega (arith, new)) in omega (arith, is, new, e)
 
 -- ---- how many lines were offered
 

@@ -5,7 +5,7 @@ use Rattle.audit_core.specs.Offers.{Due}
 use Rattle.audit_core.specs.declared.offers.OfferNote.{OfferNote}
 use Rattle.audit_core.specs.declared.offers.Outcome.{Outcome}
 use Rattle.audit_core.specs.declared.sinks.Sink.{Sink}
-use Rattle.connection_laws.specs.Whole.{Counts, count_of, is_full, is_failure}
+use Rattle.connection_laws.specs.Whole.{count_of, is_full, is_failure}
 use Rattle.event_offers.specs.Lanes.{LanesState}
 use Rattle.event_offers.specs.Offering.{OffersAll}
 use Rattle.event_offers.specs.Taken.{is_taken, is_tried, lane_of, lines_for}
@@ -15,7 +15,7 @@ use Rattle.run_laws.specs.Kept.{AllFit, AllTaken, Kept, lines_due}
 use Rattle.run_laws.proofs.KeepLemmas.{all_counted, all_kept, all_offered, all_taken, never_full, none_counted, none_failed}
 use Rattle.truncate_backend.specs.Lanes.{LaneTells}
 use Rattle.truncate_backend.specs.Owns.{own_tells}
-use Rattle.truncate_backend.specs.Told.{Joined}
+use Rattle.truncate_backend.specs.Told.{CountsBy, Joined}
 use Rattle.truncate_backend.specs.Tries.{SinkTells, Try, done_of, lines_of}
 
 -- the laws that are called
@@ -32,12 +32,12 @@ Tries = (sink : Sink) (dues : List Due) (m n : LanesState) (notes : List OfferNo
 abbrev pub Fills : Type 0
 Fills = (sink : Sink) (dues : List Due) (m n : LanesState) (notes : List OfferNote)
     → OffersAll dues m notes n
-    → Counts (lane_of sink m).tells.fulls (count_of is_full sink notes) (lane_of sink n).tells.fulls
+    → CountsBy (lane_of sink m).tells.fulls (count_of is_full sink notes) (lane_of sink n).tells.fulls
 
 abbrev pub Fails : Type 0
 Fails = (sink : Sink) (dues : List Due) (m n : LanesState) (notes : List OfferNote)
     → OffersAll dues m notes n
-    → Counts (lane_of sink m).tells.faults (count_of is_failure sink notes) (lane_of sink n).tells.faults
+    → CountsBy (lane_of sink m).tells.faults (count_of is_failure sink notes) (lane_of sink n).tells.faults
 
 -- a list that was empty
 grows_all : {T : Type 0} (a b : Option (List T)) (more : List T) → IfSome a (λ xs. xs ≡ []) → Grows a b more → IfSome b (λ xs. xs ≡ more)
@@ -54,8 +54,8 @@ lines_from : (keeps : Outcome → Bool) (sink : Sink) (bay k before : ℕ) (dues
 lines_from keeps sink bay k before dues notes e f =
     ap (λ x. lines_for keeps sink x before dues notes) e ∙ ap (λ x. lines_for keeps sink k x dues notes) f
 
-counted_one : (before more after : ℕ) → Counts before more after → 0 < more → 0 < after
-counted_one before more after c p = omega (arith, c, p)
+counted_one : (before more after : ℕ) → CountsBy before more after → before ≡ 0 → 0 < more → 0 < after
+counted_one before more after c new p = let e = c (omega (arith, new)) in omega (arith, e, new, p)
 
 -- a new lane of that bay, to which all of this was offered
 module _ (sink : Sink) (dues : List Due) (m n : LanesState) (notes : List OfferNote) (k : ℕ) (all : OffersAll dues m notes n) (bay_is : m.bay ≡ k)
@@ -66,7 +66,7 @@ module _ (sink : Sink) (dues : List Due) (m n : LanesState) (notes : List OfferN
   -- ---- a queue
 
   module _ (accepts : Accepts) (fills : Fills) (put : List Line) (none : IfSome (lane_of sink m).tells.accepted (λ xs. xs ≡ []))
-      (told : (lane_of sink n).tells.accepted ≡ Some put) (queued : (lane_of sink m).queued ≡ true) where
+      (new : (lane_of sink m).tells.fulls ≡ 0) (told : (lane_of sink n).tells.accepted ≡ Some put) (queued : (lane_of sink m).queued ≡ true) where
     queue_failed : count_of is_failure sink notes ≡ 0
     queue_failed = none_failed sink dues m n notes all queued
 
@@ -91,7 +91,7 @@ module _ (sink : Sink) (dues : List Due) (m n : LanesState) (notes : List OfferN
         never_full capacity (sum allots) (get_or allots k 0) (length (lines_due sink k 0 dues)) (length put) (count_of is_full sink notes)
         (count_of is_failure sink notes) each_counted room few
         (λ some. why (counted_one (lane_of sink m).tells.fulls (count_of is_full sink notes) (lane_of sink n).tells.fulls
-        (fills sink dues m n notes all) some))
+        (fills sink dues m n notes all) new some))
 
     pub keeps_put : count_of is_full sink notes ≡ 0 → Kept sink k dues notes put
     keeps_put full = record {
@@ -114,15 +114,15 @@ module _ (sink : Sink) (dues : List Due) (m n : LanesState) (notes : List OfferN
 
   module _ (accepts : Accepts) (tries : Tries) (fills : Fills) (fails : Fails) (to : SinkTells)
       (none : IfSome (lane_of sink m).tells.accepted (λ xs. xs ≡ [])) (untried : IfSome (lane_of sink m).tells.tried (λ xs. xs ≡ []))
-      (told : (lane_of sink n).tells ≡ own_tells to) where
+      (new : (lane_of sink m).tells.fulls ≡ 0) (unfailed : (lane_of sink m).tells.faults ≡ 0) (told : (lane_of sink n).tells ≡ own_tells to) where
     own_full : count_of is_full sink notes ≡ 0
     own_full =
-        none_counted (lane_of sink m).tells.fulls (count_of is_full sink notes) (lane_of sink n).tells.fulls (fills sink dues m n notes all)
+        none_counted (lane_of sink m).tells.fulls (count_of is_full sink notes) (lane_of sink n).tells.fulls (fills sink dues m n notes all) new
         (ap (λ (t : LaneTells). t.fulls) told)
 
     own_failed : to.faults ≡ 0 → to.refusals ≡ 0 → count_of is_failure sink notes ≡ 0
     own_failed f g =
-        none_counted (lane_of sink m).tells.faults (count_of is_failure sink notes) (lane_of sink n).tells.faults (fails sink dues m n notes all)
+        none_counted (lane_of sink m).tells.faults (count_of is_failure sink notes) (lane_of sink n).tells.faults (fails sink dues m n notes all) unfailed
         (ap (λ (t : LaneTells). t.faults) told ∙ no_faults to.faults to.refusals f g)
 
     pub own_written : to.faults ≡ 0 → to.refusals ≡ 0

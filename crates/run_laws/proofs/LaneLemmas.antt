@@ -1,5 +1,5 @@
 -- What the lanes of bays tell.
-use Rattle.std.proofs.Common.{◌≡◌, ◌+◌, ◌<◌, ◌⊎◌, inl, inr, ℕ, zero, suc, List, [], ◌∷◌, ◌++◌, map, slice_get, Option, Some, None, IfSome, Bool, refl, sym, ap, ◌∙◌, subst, arith}
+use Rattle.std.proofs.Common.{◌≡◌, ◌+◌, ◌-◌, ◌^◌, ◌≤◌, ◌<◌, min, ◌⊎◌, inl, inr, ℕ, zero, suc, List, [], ◌∷◌, ◌++◌, length, map, slice_get, Option, Some, None, IfSome, Bool, refl, sym, ap, ◌∙◌, subst, arith}
 use Rattle.std.specs.Prelude.{option_map}
 use Rattle.any_lane.specs.Lanes.{any_tells}
 use Rattle.any_lane.specs.declared.lane.AnyLane.{AnyLane}
@@ -12,7 +12,7 @@ use Rattle.audit_core.specs.declared.sinks.Sink.TheVariants.{Log, Webhook}
 use Rattle.audit_core.specs.declared.sinks.SinkMode.{SinkMode}
 use Rattle.audit_core.specs.declared.sinks.SinkMode.TheVariants.{Blocking, Strict}
 use Rattle.bay_runs.specs.Runs.{exchanges_of}
-use Rattle.connection_laws.specs.Whole.{Counts, count_of, is_full, offered_in, offers_in}
+use Rattle.connection_laws.specs.Whole.{count_of, is_full, offered_in, offers_in}
 use Rattle.event_offers.specs.Lanes.{LanesState}
 use Rattle.event_offers.specs.Offering.{OffersAll}
 use Rattle.event_offers.specs.Taken.{is_taken, is_tried, lane_of, lines_for}
@@ -23,6 +23,7 @@ use Rattle.front_ports.specs.declared.clock.Clock as clocks
 use Rattle.serve_bays.specs.Served.{IsDrained, IsOwn, SinkServed}
 use Rattle.serve_bays.specs.declared.options.RunOptions.{RunOptions}
 use Rattle.run_laws.specs.Told.{BatchedLines, BatchesTell, TriedLines, TriesTell}
+use Rattle.run_laws.proofs.FullLemmas.{all_fulls, both_none}
 use Rattle.run_laws.proofs.SinkLemmas.{NewSends, Stays, all_stays, own_sent, own_single}
 use Rattle.run_laws.proofs.TellLemmas.{bay_told}
 use Rattle.serve_roles.specs.Doors.{BayHandles}
@@ -33,7 +34,7 @@ use Rattle.shared_queue.specs.Bays.{of_bay}
 use Rattle.sink_lanes.specs.Lanes.{own_lane}
 use Rattle.sink_lanes.specs.Together.{ToldQueued}
 use Rattle.sink_lanes.specs.declared.ending.SinkEnd.{SinkEnd}
-use Rattle.truncate_backend.specs.Told.{Joined}
+use Rattle.truncate_backend.specs.Told.{CountsBy, Joined}
 use Rattle.truncate_backend.specs.Tries.{Try, lines_of}
 use Rattle.truncate_backend.specs.declared.sink.BatchSink as sinks
 
@@ -51,8 +52,11 @@ told_is a xs ys f e = subst (λ z. IfSome z (λ w. w ≡ ys)) e f
 some_at : {A : Type 0} (P : A → Type 0) (o : Option A) (x : A) → IfSome o P → o ≡ Some x → P x
 some_at P o x f e = subst (λ z. IfSome z P) e f
 
-counted_one : (before more after : ℕ) → Counts before more after → 0 < more → 0 < after
-counted_one before more after c p = omega (arith, c, p)
+counted_one : (before more after : ℕ) → CountsBy before more after → before ≡ 0 → 0 < more → 0 < after
+counted_one before more after c new p = let e = c (omega (arith, new)) in omega (arith, e, new, p)
+
+counted_all : (before more after last : ℕ) → CountsBy before more after → before ≡ 0 → after ≡ last → last ≡ min more (2 ^ 64 - 1)
+counted_all before more after last c new e = let n = c (omega (arith, new)) in omega (arith, n, new, e)
 
 -- the laws that are called
 abbrev Accepts : Type 0
@@ -68,7 +72,7 @@ Tries = (sink : Sink) (dues : List Due) (m n : LanesState) (notes : List OfferNo
 abbrev Fills : Type 0
 Fills = (sink : Sink) (dues : List Due) (m n : LanesState) (notes : List OfferNote)
     → OffersAll dues m notes n
-    → Counts (lane_of sink m).tells.fulls (count_of is_full sink notes) (lane_of sink n).tells.fulls
+    → CountsBy (lane_of sink m).tells.fulls (count_of is_full sink notes) (lane_of sink n).tells.fulls
 
 -- the lines of a bay's offers, by its number, from its first line on
 lines_from : (keeps : Outcome → Bool) (sink : Sink) (bay k before : ℕ) (dues : List Due) (notes : List OfferNote) → bay ≡ k → before ≡ 0
@@ -101,7 +105,7 @@ module _ {R L N W H T K Y D C : Type 0} (h : BayHandles R L N W H K Y D C) (set 
         lines = told_is b.n.lanes.log.tells.accepted put _ all (ap (λ n. n.lanes.log.tells.accepted) b.ends ∙ q.accepted_is)
             ∙ lines_from is_taken Log b.m.lanes.bay k b.m.lanes.log.lines dues notes b.opens.bay_is b.opens.lines.0;
         full = λ some. q.full (subst (λ x. 0 < x) (ap (λ n. n.lanes.log.tells.fulls) b.ends)
-            (counted_one b.m.lanes.log.tells.fulls _ b.n.lanes.log.tells.fulls (fills Log dues b.m.lanes b.n.lanes notes t.offered) some));
+            (counted_one b.m.lanes.log.tells.fulls _ b.n.lanes.log.tells.fulls (fills Log dues b.m.lanes b.n.lanes notes t.offered) b.opens.lanes.0.no_full some));
       }
 
   hook_batched : (accepts : Accepts) (fills : Fills) (capacity : ℕ) (allots : List ℕ) (put : List Line) (k : ℕ) (end : BayEnd R L K Y D)
@@ -118,7 +122,7 @@ module _ {R L N W H T K Y D C : Type 0} (h : BayHandles R L N W H K Y D C) (set 
         lines = told_is b.n.lanes.hook.tells.accepted put _ all (ap (λ n. n.lanes.hook.tells.accepted) b.ends ∙ q.accepted_is)
             ∙ lines_from is_taken Webhook b.m.lanes.bay k b.m.lanes.hook.lines dues notes b.opens.bay_is b.opens.lines.1;
         full = λ some. q.full (subst (λ x. 0 < x) (ap (λ n. n.lanes.hook.tells.fulls) b.ends)
-            (counted_one b.m.lanes.hook.tells.fulls _ b.n.lanes.hook.tells.fulls (fills Webhook dues b.m.lanes b.n.lanes notes t.offered) some));
+            (counted_one b.m.lanes.hook.tells.fulls _ b.n.lanes.hook.tells.fulls (fills Webhook dues b.m.lanes b.n.lanes notes t.offered) b.opens.lanes.1.no_full some));
       }
 
   -- of a bay, by its exchanges
@@ -143,11 +147,39 @@ module _ {R L N W H T K Y D C : Type 0} (h : BayHandles R L N W H K Y D C) (set 
       (k : ℕ) → slice_get bays k ≡ None → exchanges_by bays served k ≡ []
   none_left bays served k e = none_at k (slice_get bays k) (served k) e
 
+  -- ---- how often lanes were Full
+
+  log_fulls : (fills : Fills) (k : ℕ) (o : Option (BayEnd R L K Y D)) (s : IfSome o (BayServed h set log_new hook_new boot due tables logs hooks k))
+      → (o ≡ None → slice_get logs k ≡ None)
+      → IfSome (slice_get logs k) (λ l. (any_tells h.log l).fulls
+      ≡ min (count_of is_full Log (offers_in (exchanges_if h set log_new hook_new boot due tables logs hooks k o s))) (2 ^ 64 - 1))
+  log_fulls fills k None s none =
+      subst (λ z. IfSome z (λ l. (any_tells h.log l).fulls ≡ min (count_of is_full Log (offers_in [])) (2 ^ 64 - 1))) (sym (none refl)) tt
+  log_fulls fills k (Some x) b none =
+      let notes = offers_in (exchanges_of b.runs.all) in
+      subst (λ z. IfSome z (λ l. (any_tells h.log l).fulls ≡ min (count_of is_full Log notes) (2 ^ 64 - 1))) (sym b.log_is)
+      (counted_all b.m.lanes.log.tells.fulls _ b.n.lanes.log.tells.fulls _
+      (fills Log (offered_in set (exchanges_of b.runs.all)) b.m.lanes b.n.lanes notes b.told.offered) b.opens.lanes.0.no_full
+      (ap (λ n. n.lanes.log.tells.fulls) b.ends))
+
+  hook_fulls : (fills : Fills) (k : ℕ) (o : Option (BayEnd R L K Y D)) (s : IfSome o (BayServed h set log_new hook_new boot due tables logs hooks k))
+      → (o ≡ None → slice_get hooks k ≡ None)
+      → IfSome (slice_get hooks k) (λ l. (any_tells h.hook l).fulls
+      ≡ min (count_of is_full Webhook (offers_in (exchanges_if h set log_new hook_new boot due tables logs hooks k o s))) (2 ^ 64 - 1))
+  hook_fulls fills k None s none =
+      subst (λ z. IfSome z (λ l. (any_tells h.hook l).fulls ≡ min (count_of is_full Webhook (offers_in [])) (2 ^ 64 - 1))) (sym (none refl)) tt
+  hook_fulls fills k (Some x) b none =
+      let notes = offers_in (exchanges_of b.runs.all) in
+      subst (λ z. IfSome z (λ l. (any_tells h.hook l).fulls ≡ min (count_of is_full Webhook notes) (2 ^ 64 - 1))) (sym b.hook_is)
+      (counted_all b.m.lanes.hook.tells.fulls _ b.n.lanes.hook.tells.fulls _
+      (fills Webhook (offered_in set (exchanges_of b.runs.all)) b.m.lanes b.n.lanes notes b.told.offered) b.opens.lanes.1.no_full
+      (ap (λ n. n.lanes.hook.tells.fulls) b.ends))
+
   pub log_batches : (accepts : Accepts) (fills : Fills) (options : RunOptions) (allots : List ℕ) (bays : List (BayEnd R L K Y D)) (end : SinkEnd W K)
-      (served : (k : ℕ) → IfSome (slice_get bays k) (BayServed h set log_new hook_new boot due tables logs hooks k))
+      → length bays ≡ options.bays → (served : (k : ℕ) → IfSome (slice_get bays k) (BayServed h set log_new hook_new boot due tables logs hooks k))
       → IsDrained h.log h.clock log_new options.bays options.buffer allots options.limits logs end
       → BatchesTell h h.log log_new set Log options allots (exchanges_by bays served) bays end
-  log_batches accepts fills options allots bays end served d = record {
+  log_batches accepts fills options allots bays end count served d = record {
     allotted = d.allotted;
     drain = d.drain;
     drain_is = d.drain_is;
@@ -160,15 +192,17 @@ module _ {R L N W H T K Y D C : Type 0} (h : BayHandles R L N W H K Y D C) (set 
         (some_at (ToldQueued h.log options.buffer allots k (of_bay k (lines_of d.tries))) (slice_get logs k) b.log (d.accepted k) b.log_is));
     others = d.others;
     sent = d.sent;
-    full = d.full;
+    in_time = d.in_time;
+    fulls_are = all_fulls h.log Log (exchanges_by bays served) logs d.drain.fulls options.bays d.fulls_are d.count
+        (λ k. log_fulls fills k (slice_get bays k) (served k) (both_none bays logs k (d.count ∙ sym count)));
     timed = d.timed;
   }
 
   pub hook_batches : (accepts : Accepts) (fills : Fills) (options : RunOptions) (allots : List ℕ) (bays : List (BayEnd R L K Y D)) (end : SinkEnd H K)
-      (served : (k : ℕ) → IfSome (slice_get bays k) (BayServed h set log_new hook_new boot due tables logs hooks k))
+      → length bays ≡ options.bays → (served : (k : ℕ) → IfSome (slice_get bays k) (BayServed h set log_new hook_new boot due tables logs hooks k))
       → IsDrained h.hook h.clock hook_new options.bays options.buffer allots options.limits hooks end
       → BatchesTell h h.hook hook_new set Webhook options allots (exchanges_by bays served) bays end
-  hook_batches accepts fills options allots bays end served d = record {
+  hook_batches accepts fills options allots bays end count served d = record {
     allotted = d.allotted;
     drain = d.drain;
     drain_is = d.drain_is;
@@ -181,7 +215,9 @@ module _ {R L N W H T K Y D C : Type 0} (h : BayHandles R L N W H K Y D C) (set 
         (some_at (ToldQueued h.hook options.buffer allots k (of_bay k (lines_of d.tries))) (slice_get hooks k) b.hook (d.accepted k) b.hook_is));
     others = d.others;
     sent = d.sent;
-    full = d.full;
+    in_time = d.in_time;
+    fulls_are = all_fulls h.hook Webhook (exchanges_by bays served) hooks d.drain.fulls options.bays d.fulls_are d.count
+        (λ k. hook_fulls fills k (slice_get bays k) (served k) (both_none bays hooks k (d.count ∙ sym count)));
     timed = d.timed;
   }
 

@@ -3,6 +3,7 @@ mod DrainLemmas
 mod KeepLemmas
 mod KeptLaneLemmas
 mod KeptTellLemmas
+mod FullLemmas
 mod LaneLemmas
 mod LinkLemmas
 mod NumberLemmas

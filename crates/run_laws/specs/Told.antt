@@ -1,5 +1,5 @@
 -- What a whole run tells of its audit lines (Kubernetes, "Auditing": audit backends).
-use Rattle.std.specs.Prelude.{◌≡◌, ◌<◌, ◌≤◌, ◌+◌, ◌-◌, ◌⊎◌, ℕ, Bool, List, [], length, sum, get_or, slice_get, Some, IfSome, All}
+use Rattle.std.specs.Prelude.{◌≡◌, ◌<◌, ◌≤◌, ◌+◌, ◌-◌, ◌^◌, ◌⊎◌, min, ℕ, zero, suc, Bool, List, [], length, sum, get_or, slice_get, Some, IfSome, All}
 use Rattle.audit_core.specs.declared.offers.Outcome.{Outcome}
 use Rattle.audit_core.specs.declared.settings.Settings.{Settings}
 use Rattle.audit_core.specs.declared.sinks.Sink.{Sink}
@@ -7,11 +7,11 @@ use Rattle.batch_backend.specs.Batches.{WithinLimits}
 use Rattle.connection_laws.specs.Whole.{due_in, offered_in, offers_in, count_of, is_full}
 use Rattle.event_offers.specs.Taken.{is_taken, is_tried, lines_for}
 use Rattle.front_base.specs.Line.{Line}
-use Rattle.batch_backend.specs.Closes.{FullButLast}
 use Rattle.front_plants.specs.Fresh.{SinkOpens, SentAll}
 use Rattle.serve_bays.specs.Lanes.{AreAllotted}
 use Rattle.serve_bays.specs.declared.options.RunOptions.{RunOptions}
 use Rattle.queue_drain.specs.Drains.{EndsTimed}
+use Rattle.queue_drain.specs.Turns.{EndsInTime}
 use Rattle.queue_drain.specs.declared.drain_end.DrainEnd.{DrainEnd}
 use Rattle.serve_roles.specs.Doors.{BayHandles}
 use Rattle.serve_roles.specs.declared.bay_end.BayEnd.{BayEnd}
@@ -43,10 +43,15 @@ pub record BatchedLines {R L N W H K Y D C : Type 0} (h : BayHandles R L N W H K
   pub full : 0 < count_of is_full sink (offers_in xs)
       → (length put ≡ get_or allots bay 0) ⊎ (capacity + get_or allots bay 0 ≤ length put + sum allots)
 
+-- how many offers of so many bays to the sink were Full, from this bay on
+abbrev pub fulls_from : Sink → (ℕ → List Exchange) → ℕ → ℕ → ℕ
+fulls_from sink xs bay zero = 0
+fulls_from sink xs bay (suc n) = count_of is_full sink (offers_in (xs bay)) + fulls_from sink xs (suc bay) n
+
 -- The bays of its queue have these allotments, and had these exchanges. Its one drainer made these tries, each within the limits. Their
 -- lines, joined, have of each bay what was accepted of it, once and in order, and no line of anybody else. What the sink's port was given
--- are the bytes that the tries sent, and each try sent all of its text, unless its port failed. Where less time than a line may wait lies
--- between the first and the last moment of the drainer, each try but the last one ended for its number or its bytes
+-- are the bytes that the tries sent, and each try sent all of its text, unless its port failed. Each try but the last one ended for its
+-- number, its bytes or its age, and was put in time. The drainer counts as many lines that weren't taken as offers of all bays were Full
 pub record BatchesTell {R L N W H K Y D C S : Type 0} (h : BayHandles R L N W H K Y D C) (s : sinks.Ghosts S) (opens : SinkOpens) (set : Settings) (sink : Sink)
     (options : RunOptions) (allots : List ℕ) (xs : ℕ → List Exchange) (bays : List (BayEnd R L K Y D)) (end : SinkEnd S K) : Type 0 where
   pub allotted : AreAllotted opens.allots options.bays allots
@@ -60,7 +65,8 @@ pub record BatchesTell {R L N W H K Y D C S : Type 0} (h : BayHandles R L N W H 
       (BatchedLines h set sink options.buffer allots (of_bay bay (lines_of tries)) (xs bay) bay)
   pub others : (bay : ℕ) → options.bays ≤ bay → of_bay bay (lines_of tries) ≡ []
   pub sent : SentAll opens (s.tells drain.sink)
-  pub full : drain.ended - drain.began < options.limits.wait → FullButLast options.limits tries
+  pub in_time : EndsInTime options.limits drain.began drain.ended (h.clock.given drain.clock) tries
+  pub fulls_are : drain.fulls ≡ min (fulls_from sink xs 0 options.bays) (2 ^ 64 - 1)
   pub timed : EndsTimed h.clock drain
 
 -- ---- a sink that is written to at once

@@ -6,7 +6,6 @@ use Rattle.any_lane.specs.declared.lane.AnyLane.{AnyLane}
 use Rattle.any_lane.specs.declared.lane.AnyLane.TheVariants as lane
 use Rattle.audit_core.specs.declared.sinks.SinkMode.TheVariants.{Off, Batch, Blocking, Strict}
 use Rattle.batch_backend.specs.Batches.{WithinLimits}
-use Rattle.batch_backend.specs.Closes.{FullButLast}
 use Rattle.batch_backend.specs.declared.limits.Limits.{Limits}
 use Rattle.front_base.specs.Line.{Line}
 use Rattle.front_plants.specs.Fresh.{Openings, SinkOpens, IsNewSink, SentAll, SentTexts, log_opens}
@@ -16,6 +15,7 @@ use Rattle.serve_bays.specs.Served.{IsDrained, IsOwn, CanAllEnd, AreAllServed}
 use Rattle.serve_bays.proofs.Walks.{image_count}
 use Rattle.front_ports.specs.declared.clock.Clock as clocks
 use Rattle.queue_drain.specs.Drains.{RanDrain, drain_state}
+use Rattle.queue_drain.specs.Turns.{EndsInTime}
 use Rattle.queue_drain.specs.declared.drain.QueueDrain.{QueueDrain}
 use Rattle.queue_drain.specs.declared.drain_end.DrainEnd.{DrainEnd}
 use Rattle.role_threads.specs.Lists.{AllPairs, IfBoth}
@@ -155,8 +155,8 @@ module _ {S R K : Type 0} (s : sinks.Ghosts S) (clock : clocks.Ghosts K) (opens 
   none_left queue None (Some d) e x = absurd x
   none_left queue (Some d) o e x = absurd cc
 
-  none_ends : (queue : List (QueueLane R)) (ran : Option (QueueDrain S R K)) → ran ≡ None → CanEnd s queue ran
-  none_ends queue ran e = subst (CanEnd s queue) (sym e) tt
+  none_ends : (queue : List (QueueLane R)) (ran : Option (QueueDrain S R K)) → ran ≡ None → CanEnd s clock queue ran
+  none_ends queue ran e = subst (CanEnd s clock queue) (sym e) tt
 
   own_served : (bays : ℕ) (before after : List (AnyLane S R)) (drain ran : Option (QueueDrain S R K)) (end : SinkEnd S K)
       → AreOwn s opens bays before drain → AllPairs SameAny before after → IfBoth (RanDrain s clock) drain ran
@@ -186,6 +186,7 @@ module _ {S R K : Type 0} (s : sinks.Ghosts S) (clock : clocks.Ghosts K) (opens 
     drain_is = e;
     tries = x.tries;
     told = x.told;
+    count = m;
     queued = q;
     accepted = λ bay. subst (λ z. IfSome (slice_get after bay) (ToldQueued s capacity allots bay z)) (x.bays bay) (t.told bay);
     others = λ bay lt.
@@ -197,14 +198,14 @@ module _ {S R K : Type 0} (s : sinks.Ghosts S) (clock : clocks.Ghosts K) (opens 
     each = x.each;
     written_is = x.written_is;
     lost_is = x.lost_is;
+    faults_are = x.faults_are;
+    refusals_are = x.refusals_are;
     cause = x.cause;
     fulls_are = x.fulls_are ∙ ap (λ n. min n (2 ^ 64 - 1)) (sym (fulls_in s after q));
     noted = subst (λ (z : List Line → List ℕ). All (IsNoted z) x.tries) (sent.text_is ∙ (t.sent.text_is ∙ new.text_is)) x.noted;
-    sent = sent_all laws opens sink (s.tells left.sink) new (join sink (drain_state s r).sink (s.tells left.sink) t.sent sent);
-    full = λ soon.
-        subst (λ (z : Limits). FullButLast z x.tries) t.limits_are
-        (x.full (subst (λ (z : Limits). left.ended - left.began < z.wait) (sym t.limits_are) soon));
-    timed = timed t.timed;
+    sent = sent_all laws opens sink (s.tells left.sink) new (join sink (drain_state s clock r).sink (s.tells left.sink) t.sent sent);
+    in_time = subst (λ (z : Limits). EndsInTime z left.began left.ended (clock.given left.clock) x.tries) t.limits_are x.in_time;
+    timed = timed;
   }
 
   batch_served : (bays capacity : ℕ) (allots : List ℕ) (limits : Limits) (before after : List (AnyLane S R)) (drain ran : Option (QueueDrain S R K)) (end : SinkEnd S K)

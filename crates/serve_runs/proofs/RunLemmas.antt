@@ -99,7 +99,7 @@ abbrev Unoffered : {S R : Type 0} → sinks.Ghosts S → SinkOpens → AnyLane S
 Unoffered s opens lane = IsUnoffered opens (any_tells s lane)
 
 off_fresh : {S R : Type 0} (s : sinks.Ghosts S) (opens : SinkOpens) (l : AnyLane S R) → IsOff l → Unoffered s opens l
-off_fresh s opens (lane.Off n) h = record { none_accepted = refl; none_tried = tt; new = tt }
+off_fresh s opens (lane.Off n) h = record { none_accepted = refl; none_tried = tt; no_full = refl; no_fault = h; new = tt }
 off_fresh s opens (lane.Queue l) h = absurd h
 off_fresh s opens (lane.Own l) h = absurd h
 
@@ -113,6 +113,8 @@ queue_fresh : {S R : Type 0} (s : sinks.Ghosts S) (opens : SinkOpens) (outlet : 
 queue_fresh s opens outlet k l n = record {
   none_accepted = subst (λ (t : LaneTells). IfSome t.accepted (λ xs. xs ≡ [])) (sym n.tells) refl;
   none_tried = subst (λ (t : LaneTells). IfSome t.tried (λ xs. xs ≡ [])) (sym n.tells) refl;
+  no_full = ap (λ (t : LaneTells). t.fulls) n.tells;
+  no_fault = refl;
   new = subst (λ (t : LaneTells). IfSome t.sink (IsNewSink opens)) (sym n.tells) tt;
 }
 
@@ -131,7 +133,7 @@ own_fresh : {S : Type 0} (R : Type 0) (s : sinks.Ghosts S) (opens : SinkOpens) (
     → Unoffered {R = R} s opens (own_lane sink)
 own_fresh R s opens sink n =
     let t = tries_fresh (s.tells sink).tries n.no_try in
-    record { none_accepted = t.0; none_tried = t.1; new = n }
+    record { none_accepted = t.0; none_tried = t.1; no_full = refl; no_fault = omega (arith, n.no_fault, n.no_refusal); new = n }
 
 owns_fresh : {S : Type 0} (R : Type 0) (s : sinks.Ghosts S) (opens : SinkOpens) (own : List S) (k : ℕ)
     → All (λ sink. IsNewSink opens (s.tells sink)) own → IfSome (slice_get (map own_lane own) k) (Unoffered {R = R} s opens)

@@ -16,7 +16,7 @@ module _ {R L N W H T K Y D C : Type 0} (h : BayHandles R L N W H K Y D C) where
   abbrev pub CanEndLog : List (BayRole R L W H T K Y D) → Option (QueueDrain W T K) → Type 0
   CanEndLog bays log =
       (ran : List (BayRole R L W H T K Y D)) (drain : Option (QueueDrain W T K)) → AllPairs (RanBay h) bays ran → IfBoth (RanDrain h.log h.clock) log drain
-      → CanEnd h.log (queued_parts (map log_lane ran)) drain
+      → CanEnd h.log h.clock (queued_parts (map log_lane ran)) drain
 
   -- Each bay and each drainer ran. The ends are those of these bays, the log is put, and the lanes of the webhook are still there
   pub record RanToEnd (roles : Roles (BayRole R L W H T K Y D) (QueueDrain W T K) (QueueDrain H T K)) (left : LogEnded R L W H T K Y D)

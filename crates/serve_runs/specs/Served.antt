@@ -24,6 +24,8 @@ use Rattle.truncate_backend.specs.Lanes.{LaneTells}
 pub record IsUnoffered (opens : SinkOpens) (tells : LaneTells) : Type 0 where
   pub none_accepted : IfSome tells.accepted (λ lines. lines ≡ [])
   pub none_tried : IfSome tells.tried (λ lines. lines ≡ [])
+  pub no_full : tells.fulls ≡ 0
+  pub no_fault : tells.faults ≡ 0
   pub new : IfSome tells.sink (IsNewSink opens)
 
 -- a bay that served nothing yet, and its door

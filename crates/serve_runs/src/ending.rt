@@ -39,7 +39,7 @@ pub(crate) fn end_log<
 ) -> LogEnded<R, L, W, H, T, K, Y, D>
     requires room { length bays.items ≤ bay_rooms.room_for room }
     requires log_room { length bays.items ≤ sink_rooms.room_for log_room }
-    requires queue { sink_ends.CanEnd W.BatchSink (sink_ends.queued_parts (map bay_ends.log_lane bays.items)) log }
+    requires queue { sink_ends.CanEnd W.BatchSink K.Clock (sink_ends.queued_parts (map bay_ends.log_lane bays.items)) log }
     ensures bays { result.bays.items ≡ map bay_ends.bay_end bays.items }
     ensures hooks { result.hooks.items ≡ map bay_ends.hook_lane bays.items }
     ensures own { result.log.own.items ≡ sink_ends.own_parts (map bay_ends.log_lane bays.items) }

@@ -12,7 +12,7 @@ end_lanes-log-requires-clause-room g c =
 
 pub end_lanes-log-requires-clause-queue : goal.end_lanes-log-requires-clause-queue
 end_lanes-log-requires-clause-queue g c =
-    subst (λ z. CanEnd g.W.BatchSink (queued_parts z) c.args.log) (sym c.end_bays-ends.ensures.logs) c.requires.queue
+    subst (λ z. CanEnd g.W.BatchSink g.K.Clock (queued_parts z) c.args.log) (sym c.end_bays-ends.ensures.logs) c.requires.queue
 
 pub returns-clause-own : goal.returns-clause-own
 returns-clause-own g c = c.end_lanes-log.ensures.own ∙ ap own_parts c.end_bays-ends.ensures.logs
