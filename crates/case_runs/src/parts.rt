@@ -125,7 +125,7 @@ pub fn parts_of(alloc: Global, world: &World) -> MemParts
         logs: logs_of(alloc, world.log_fails),
         hooks: one_dial(alloc, webhook_of(alloc, world.posts)),
         start: Moment::new(START).unwrap_or(Moment::epoch()),
-        step: 0,
+        step: world.step,
         room: NotesRoom {
             notes: 100,
             lines: 1_000,

@@ -7,6 +7,8 @@ pub struct World<'a> {
     pub requests: &'a str,
     /// How many lines the buffer of a sink takes over the whole run.
     pub allotment: u64,
+    /// By how many microseconds each clock goes on at each call.
+    pub step: u64,
     /// The numbers of the log's writes that fail, from 1, with blanks between them.
     pub log_fails: &'a str,
     /// What becomes of each post of the webhook, with blanks between these words: `dial` and `write` fail there, `bad` is an answer that

@@ -247,8 +247,8 @@ MOST = 2  # lines of a batch
 class Sink:
     """A sink: its mode, which of its tries fail and how, what it was tried with, and what came of its lines."""
 
-    def __init__(self, name, mode, allotment, outcome):
-        self.name, self.mode, self.allotment, self.outcome = name, mode, allotment, outcome
+    def __init__(self, name, mode, allotment, outcome, most):
+        self.name, self.mode, self.allotment, self.outcome, self.most = name, mode, allotment, outcome, most
         self.tries, self.waiting, self.untaken = [], [], []
         self.offered = self.accepted = self.written = self.failed = self.lost = self.full = 0
 
@@ -268,7 +268,7 @@ class Sink:
                 return False
             self.accepted += 1
             self.waiting.append((name, line))
-            if len(self.waiting) == MOST:
+            if len(self.waiting) == self.most:
                 self.put()
             return False
         if self.attempt([(name, line)]):
@@ -305,8 +305,9 @@ def post_outcome(words):
     return lambda at: known.get(words[at], ('Done', True))
 
 
-def run(log_mode, hook_mode, allotment, fails, words, sums):
-    sinks = [Sink(name, mode, allotment, outcome) for name, mode, outcome in
+def run(log_mode, hook_mode, allotment, fails, words, sums, step):
+    # Where the clock passes the wait between two pumps, each line is put before the next one is taken.
+    sinks = [Sink(name, mode, allotment, outcome, 1 if step else MOST) for name, mode, outcome in
              (('Log', log_mode, log_outcome(fails)), ('Webhook', hook_mode, post_outcome(words))) if mode]
     links = [r.reply for r in REQUESTS if r.reply]
     codes = []
@@ -330,7 +331,7 @@ def run(log_mode, hook_mode, allotment, fails, words, sums):
 
 
 MODES = ['blocking', 'blocking-strict', 'batch']
-RUNS = []  # what, log mode, webhook mode, buffer, allotment, failing writes, posts, sums
+RUNS = []  # what, log mode, webhook mode, buffer, allotment, failing writes, posts, sums, and the clock's step where it has one
 for mode in MODES:
     RUNS.append((f'a log in mode {mode}', mode, None, None, 1000, [], '', False))
 for mode, fails in (('blocking', [2, 3]), ('blocking-strict', [2, 5]), ('batch', [2])):
@@ -348,6 +349,8 @@ RUNS += [
     ('a buffer of three lines beside a webhook in mode blocking-strict, with faults', 'batch', 'blocking-strict', 3, 3, [2],
      '200 200 200 200 200 200 200', False),
     ('two buffers of one line, which are full at any turns', 'batch', 'batch', 1, 1000, [], '200 200 200 200', True),
+    ('a log and a webhook in mode batch, where each line is put for its age', 'batch', 'batch', None, 1000, [3], '200 200 503 200 200 200 200',
+     False, 1_000_000),
 ]
 
 
@@ -357,16 +360,18 @@ def sinks():
           '# A secret is made, health is asked for, a pod is made, and pods are watched. A row has a request, and the reply of its backend.\n'
           + ''.join(r.row() + '\n' for r in REQUESTS))
     rows = ('# What a run is, its options, how many lines a buffer takes over the whole run, the numbers of the log\'s writes that fail, what becomes of\n'
-            '# the webhook\'s posts, and `sums` where the rest depends on turns.\n')
+            '# the webhook\'s posts, `sums` where the rest depends on turns, and by how many microseconds clocks go on at each call, if they do.\n')
     out = ''
-    for what, log_mode, hook_mode, buffer, allotment, fails, posts, sums in RUNS:
+    for what, log_mode, hook_mode, buffer, allotment, fails, posts, sums, *step in RUNS:
         options = f'--audit-policy-file=policy.json --audit-log-path=log --audit-log-mode={log_mode} --batch-max-size={MOST}'
         if hook_mode:
             options += f' --audit-webhook-url=http://127.0.0.1:9400/ --audit-webhook-mode={hook_mode}'
         if buffer:
             options += f' --batch-buffer={buffer}'
-        rows += f'{what} | {options} | {allotment} | {" ".join(map(str, fails)) or "none"} | {posts or "200"} | {"sums" if sums else "all"}\n'
-        out += f'== {what}\n' + run(log_mode, hook_mode, allotment, fails, posts.split(' '), sums)
+        if step:
+            options += f' --batch-max-wait-ms={step[0] // 1000}'
+        rows += f'{what} | {options} | {allotment} | {" ".join(map(str, fails)) or "none"} | {posts or "200"} | {"sums" if sums else "all"}{"".join(f" | {s}" for s in step)}\n'
+        out += f'== {what}\n' + run(log_mode, hook_mode, allotment, fails, posts.split(' '), sums, step)
     write('cases_modes', 'data/runs.txt', rows)
     write('cases_modes', 'stdout', out)
 

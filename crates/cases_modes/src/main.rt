@@ -1,5 +1,6 @@
 //! Whole runs of `serve` over a plant in memory with a log in each mode, alone and beside a webhook in each mode, with tries that fail at told
-//! numbers, and with buffers that are full. Each row of `runs.txt` is a run, and all have the requests of `requests.txt`.
+//! numbers, with buffers that are full, and with clocks that pass the wait of a batch. Each row of `runs.txt` is a run, and all have the
+//! requests of `requests.txt`.
 //!
 //! Of each run its status is printed, the status of each client's reply, the tries of each sink with their lines, the lines that were not
 //! taken, and what came of all lines.
@@ -30,6 +31,7 @@ fn world_of<'a>(requests: &'a str, row: &'a str) -> World<'a> {
         options: field(row, 1),
         requests,
         allotment: field(row, 2).parse().unwrap_or(0),
+        step: field(row, 6).parse().unwrap_or(0),
         log_fails: field(row, 3),
         posts: field(row, 4),
     }

@@ -59,6 +59,7 @@ pub fn run_file<R: Threads + Wait + Copy + Send + Sync + Drop>(
         options: options.as_str(),
         requests: requests.as_str(),
         allotment: 1_000,
+        step: 0,
         log_fails: "",
         posts: "200 200 200 200 200 200 200 200",
     };
