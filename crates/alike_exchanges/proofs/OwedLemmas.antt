@@ -1,11 +1,16 @@
 -- Alike exchanges owe the same events.
-use Rattle.std.proofs.Common.{◌≡◌, ◌≢◌, List, [], ◌∷◌, ◌++◌, length, take, map, refl, ap, ap₂, sym, ◌∙◌}
-use Rattle.alike_exchanges.specs.Alike.{AlikeExchanges}
-use Rattle.audit_core.specs.Offers.{offers_due}
+use Rattle.std.proofs.Common.{◌≡◌, ◌≢◌, ℕ, suc, Bool, true, false, cond, List, [], ◌∷◌, ◌++◌, ◌+◌, length, take, map, refl, ap, ap₂, sym, ◌∙◌}
+use Rattle.alike_exchanges.specs.Alike.{AlikeExchanges, fate_of, fates}
+use Rattle.audit_core.specs.Offers.{Due, offers_due}
 use Rattle.audit_core.specs.Owed.{owed, owed_at, stages_due}
 use Rattle.audit_core.specs.declared.offers.OfferNote.{OfferNote}
+use Rattle.audit_core.specs.declared.offers.Outcome.{Outcome}
+use Rattle.audit_core.specs.declared.offers.Outcome.TheVariants as outcome
 use Rattle.audit_core.specs.declared.settings.Settings.{Settings}
+use Rattle.audit_core.specs.declared.sinks.Sink.{Sink}
 use Rattle.connection_laws.specs.Whole.{due_in, offered_in, offers_in}
+use Rattle.event_offers.specs.Taken.{count_in, is_for, is_taken, is_tried, kept_line, line_in, lines_for}
+use Rattle.front_base.specs.Line.{Line}
 use Rattle.front_base.specs.declared.level.Level.{Level}
 use Rattle.front_base.specs.declared.level.Level.TheVariants as level
 use Rattle.policy_rules.specs.declared.decision.Decision.{Decision}
@@ -17,6 +22,8 @@ use Rattle.stage_event.specs.Views.{view, with_bodies}
 use Rattle.stage_event.specs.declared.event.Event.{Event}
 use Rattle.stage_event.specs.declared.facts.Facts.{Facts}
 use Rattle.stage_event.specs.declared.facts.Kept.{Kept}
+use Rattle.truncate_backend.specs.declared.fitted.Fit.{Fit}
+use Rattle.truncate_backend.specs.declared.fitted.Fit.TheVariants as fit
 
 -- the events of what is recorded
 events_of : Level → Omit → Facts → List Event
@@ -40,27 +47,98 @@ same_due set [] (y ∷ ys) h = absurd h
 same_due set (x ∷ xs) [] h = absurd h
 same_due set (x ∷ xs) (y ∷ ys) h = ap₂ (λ own rest. offers_due set own ++ rest) (same_owed x y h.0) (same_due set xs ys h.1)
 
+as_many : (these those : List OfferNote) → fates these ≡ fates those → length these ≡ length those
+as_many [] [] e = refl
+as_many [] (b ∷ those) e = absurd cc
+as_many (a ∷ these) [] e = absurd cc
+as_many (a ∷ these) (b ∷ those) e = let rest : fates these ≡ fates those = cc in ap suc (as_many these those rest)
+
 pub same_offered : (set : Settings) (xs ys : List Exchange) → AllPairs AlikeExchanges xs ys → offered_in set xs ≡ offered_in set ys
 same_offered set [] [] h = refl
 same_offered set [] (y ∷ ys) h = absurd h
 same_offered set (x ∷ xs) [] h = absurd h
 same_offered set (x ∷ xs) (y ∷ ys) h =
     ap₂ (λ own rest. own ++ rest)
-    (ap₂ (λ (notes : List OfferNote) own. take (length notes) (offers_due set own)) h.0.offers (same_owed x y h.0))
+    (ap₂ (λ (n : ℕ) own. take n (offers_due set own)) (as_many x.offers y.offers h.0.offers) (same_owed x y h.0))
     (same_offered set xs ys h.1)
 
-pub same_offers : (xs ys : List Exchange) → AllPairs AlikeExchanges xs ys → offers_in xs ≡ offers_in ys
-same_offers [] [] h = refl
-same_offers [] (y ∷ ys) h = absurd h
-same_offers (x ∷ xs) [] h = absurd h
-same_offers (x ∷ xs) (y ∷ ys) h = ap₂ (λ own rest. own ++ rest) h.0.offers (same_offers xs ys h.1)
+-- ---- the lines of what was offered
+
+by_map : (these those : List OfferNote) → fates (these ++ those) ≡ fates these ++ fates those
+by_map [] those = refl
+by_map (a ∷ these) those = ap (λ (l : List Outcome). fate_of a.outcome ∷ l) (by_map these those)
+
+same_fates : (xs ys : List Exchange) → AllPairs AlikeExchanges xs ys → fates (offers_in xs) ≡ fates (offers_in ys)
+same_fates [] [] h = refl
+same_fates [] (y ∷ ys) h = absurd h
+same_fates (x ∷ xs) [] h = absurd h
+same_fates (x ∷ xs) (y ∷ ys) h =
+    by_map x.offers (offers_in xs)
+    ∙ (ap₂ (λ own rest. own ++ rest) h.0.offers (same_fates xs ys h.1) ∙ sym (by_map y.offers (offers_in ys)))
+
+-- a test that looks at no size
+abbrev IsOfFate : (Outcome → Bool) → Type 0
+IsOfFate keeps = (own : Outcome) → keeps (fate_of own) ≡ keeps own
+
+taken_of_fate : IsOfFate is_taken
+taken_of_fate outcome.Taken = refl
+taken_of_fate outcome.Full = refl
+taken_of_fate outcome.Failed = refl
+taken_of_fate (outcome.TooLarge size) = refl
+
+tried_of_fate : IsOfFate is_tried
+tried_of_fate outcome.Taken = refl
+tried_of_fate outcome.Full = refl
+tried_of_fate outcome.Failed = refl
+tried_of_fate (outcome.TooLarge size) = refl
+
+same_line : (keeps : Outcome → Bool) (bay before : ℕ) (written : Fit) (own other : Outcome) → keeps own ≡ keeps other
+    → line_in keeps bay before written own ≡ line_in keeps bay before written other
+same_line keeps bay before (fit.Whole bytes) own other e = ap (λ b. kept_line b (record { bay = bay; number = before; bytes = bytes })) e
+same_line keeps bay before (fit.Stripped bytes) own other e = ap (λ b. kept_line b (record { bay = bay; number = before; bytes = bytes })) e
+same_line keeps bay before (fit.TooLarge size) own other e = refl
+
+by_sink : (b : Bool) (own its rest more there others : List Line) → own ≡ its → rest ≡ more → there ≡ others
+    → cond b (own ++ rest) there ≡ cond b (its ++ more) others
+by_sink true own its rest more there others e f g = ap₂ (λ a b. a ++ b) e f
+by_sink false own its rest more there others e f g = g
+
+same_kept : (keeps : Outcome → Bool) → IsOfFate keeps → (sink : Sink) (bay before : ℕ) (dues : List Due) (these those : List OfferNote)
+    → fates these ≡ fates those → lines_for keeps sink bay before dues these ≡ lines_for keeps sink bay before dues those
+same_kept keeps f sink bay before [] these those e = refl
+same_kept keeps f sink bay before (due ∷ dues) [] [] e = refl
+same_kept keeps f sink bay before (due ∷ dues) [] (b ∷ those) e = absurd cc
+same_kept keeps f sink bay before (due ∷ dues) (a ∷ these) [] e = absurd cc
+same_kept keeps f sink bay before (due ∷ dues) (a ∷ these) (b ∷ those) e =
+    let first : fate_of a.outcome ≡ fate_of b.outcome = cc in
+    let rest : fates these ≡ fates those = cc in
+    by_sink (is_for sink due.sink) (line_in keeps bay before due.fit a.outcome) (line_in keeps bay before due.fit b.outcome)
+    (lines_for keeps sink bay (before + count_in due.fit) dues these) (lines_for keeps sink bay (before + count_in due.fit) dues those)
+    (lines_for keeps sink bay before dues these) (lines_for keeps sink bay before dues those)
+    (same_line keeps bay before due.fit a.outcome b.outcome (sym (f a.outcome) ∙ (ap keeps first ∙ f b.outcome)))
+    (same_kept keeps f sink bay (before + count_in due.fit) dues these those rest)
+    (same_kept keeps f sink bay before dues these those rest)
+
+lines_alike : (keeps : Outcome → Bool) → IsOfFate keeps → (set : Settings) (sink : Sink) (bay : ℕ) (xs ys : List Exchange) → AllPairs AlikeExchanges xs ys
+    → lines_for keeps sink bay 0 (offered_in set xs) (offers_in xs) ≡ lines_for keeps sink bay 0 (offered_in set ys) (offers_in ys)
+lines_alike keeps f set sink bay xs ys h =
+    ap (λ (dues : List Due). lines_for keeps sink bay 0 dues (offers_in xs)) (same_offered set xs ys h)
+    ∙ same_kept keeps f sink bay 0 (offered_in set ys) (offers_in xs) (offers_in ys) (same_fates xs ys h)
+
+pub same_taken : (set : Settings) (sink : Sink) (bay : ℕ) (xs ys : List Exchange) → AllPairs AlikeExchanges xs ys
+    → lines_for is_taken sink bay 0 (offered_in set xs) (offers_in xs) ≡ lines_for is_taken sink bay 0 (offered_in set ys) (offers_in ys)
+same_taken = lines_alike is_taken taken_of_fate
+
+pub same_tried : (set : Settings) (sink : Sink) (bay : ℕ) (xs ys : List Exchange) → AllPairs AlikeExchanges xs ys
+    → lines_for is_tried sink bay 0 (offered_in set xs) (offers_in xs) ≡ lines_for is_tried sink bay 0 (offered_in set ys) (offers_in ys)
+same_tried = lines_alike is_tried tried_of_fate
 
 -- ---- what looks alike, and what doesn't
 
 pub alike_itself : (x : Exchange) → AlikeExchanges x x
 alike_itself x = record { level = refl; omit = λ other. refl; view = λ other. refl; offers = refl }
 
-pub alike_at_none : (x y : Exchange) → x.decision.level ≡ level.None → y.decision.level ≡ level.None → y.offers ≡ x.offers → AlikeExchanges x y
+pub alike_at_none : (x y : Exchange) → x.decision.level ≡ level.None → y.decision.level ≡ level.None → fates y.offers ≡ fates x.offers → AlikeExchanges x y
 alike_at_none x y e f o = record {
   level = e ∙ sym f;
   omit = λ other. absurd (other e);
@@ -75,7 +153,7 @@ same_view level.Request request reply f e = absurd cc
 same_view level.RequestResponse request reply f e = absurd cc
 
 pub alike_but_for_bodies : (x y : Exchange) (request reply : Kept) → x.decision.level ≡ level.Metadata → y.decision ≡ x.decision
-    → y.facts ≡ with_bodies request reply x.facts → y.offers ≡ x.offers → AlikeExchanges x y
+    → y.facts ≡ with_bodies request reply x.facts → fates y.offers ≡ fates x.offers → AlikeExchanges x y
 alike_but_for_bodies x y request reply l d f o = record {
   level = ap (λ (own : Decision). own.level) (sym d);
   omit = λ other. ap (λ (own : Decision). own.omit) (sym d);

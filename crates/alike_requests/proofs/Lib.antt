@@ -1,3 +1,5 @@
 mod ManagedLemmas
+mod OfferLemmas
+mod ReplyLemmas
 mod RequestLemmas
 mod SeenLemmas

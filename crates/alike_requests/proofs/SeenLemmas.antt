@@ -3,7 +3,9 @@ use Rattle.std.proofs.Common.{◌≡◌, ℕ, List, [], ◌∷◌, ◌++◌, Opt
 use Rattle.alike_exchanges.specs.Alike.{AlikeExchanges}
 use Rattle.alike_requests.specs.Alike.{AlikeSeen}
 use Rattle.alike_requests.specs.Seen.{AreNoted, Seen, broken_seen, door_seen, halts_seen, noted_by, ran_seen, seen_of, serves_seen}
-use Rattle.alike_requests.proofs.RequestLemmas.{OneKept, halted_noted, one_alike, one_noted}
+use Rattle.alike_requests.proofs.OfferLemmas.{DueParts, OwedParts}
+use Rattle.alike_requests.proofs.ReplyLemmas.{OneKept}
+use Rattle.alike_requests.proofs.RequestLemmas.{OwedAlike, halted_noted, one_alike, one_noted}
 use Rattle.audit_core.specs.declared.settings.Settings.{Settings}
 use Rattle.bay_runs.specs.Runs.{ConnTells, ServedConn, Ran as RanDoor, exchanges_of}
 use Rattle.front_ports.specs.Cause.{Rose}
@@ -118,9 +120,10 @@ door_noted tells set m (s ∷ more) n r =
 
 -- ---- two doors
 
-pub seen_alike_noted : OneKept → (set : Settings) (these those : List Seen) → AreNoted set these → AreNoted set those → AllPairs (AlikeSeen set) these those
-    → AllPairs AlikeExchanges (noted_by these) (noted_by those)
-seen_alike_noted one set [] [] g h a = tt
-seen_alike_noted one set [] (t ∷ those) g h a = absurd a
-seen_alike_noted one set (s ∷ these) [] g h a = absurd a
-seen_alike_noted one set (s ∷ these) (t ∷ those) g h a = (one_alike one set s t g.0 h.0 a.0, seen_alike_noted one set these those g.1 h.1 a.1)
+pub seen_alike_noted : OneKept → OwedParts → DueParts → OwedAlike → (set : Settings) (these those : List Seen) → AreNoted set these → AreNoted set those
+    → AllPairs (AlikeSeen set) these those → AllPairs AlikeExchanges (noted_by these) (noted_by those)
+seen_alike_noted one parts dues alike set [] [] g h a = tt
+seen_alike_noted one parts dues alike set [] (t ∷ those) g h a = absurd a
+seen_alike_noted one parts dues alike set (s ∷ these) [] g h a = absurd a
+seen_alike_noted one parts dues alike set (s ∷ these) (t ∷ those) g h a =
+    (one_alike one parts dues alike set s t g.0 h.0 a.0, seen_alike_noted one parts dues alike set these those g.1 h.1 a.1)

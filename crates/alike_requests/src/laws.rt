@@ -1,6 +1,6 @@
 ghost use Rattle.std.specs.Prelude.{◌≡◌, ◌≤◌, List, length, true};
 ghost use Rattle.alike_exchanges.specs.Alike.{AlikeExchanges};
-ghost use Rattle.alike_requests.specs.Alike.{AlikeSeen, SettledAlike};
+ghost use Rattle.alike_requests.specs.Alike.{AlikeSeen, OfferedAlike, SettledAlike};
 ghost use Rattle.alike_requests.specs.Seen.{AreNoted, Seen, door_seen, noted_by};
 ghost use Rattle.audit_core.specs.Exchange.{KeepsRequest, decision_in};
 ghost use Rattle.audit_core.specs.declared.attributes.Attributes.{Attributes};
@@ -16,6 +16,8 @@ ghost use Rattle.session_core.specs.Bays.{BayState};
 ghost use Rattle.stage_event.specs.declared.facts.Kept.{Kept};
 ghost use Rattle.stage_event.specs.declared.keeping.TheConstants.{MOST_KEPT_BYTES};
 
+use alike_exchanges::alike_exchanges_owe_alike;
+use event_offers::stages_make_up_what_is_owed;
 use json_span::one_value;
 use stage_event::one_kept;
 
@@ -34,16 +36,18 @@ pub fn alike_requests_are_noted_alike()
         → AllPairs AlikeExchanges (noted_by these) (noted_by those) }
 {
     one_kept();
+    alike_exchanges_owe_alike();
+    stages_make_up_what_is_owed();
 }
 
 /// Which requests look alike: at level None any two; at Metadata two with one head, at the same moments, whatever their bodies and
 /// the bodies of their replies are, where their answers gave the same status.
 pub fn what_requests_are_alike()
     ensures none { (set : Settings) (s t : Seen) → (decision_in set s.request).level ≡ level.None → (decision_in set t.request).level ≡ level.None
-        → s.exchange.offers ≡ t.exchange.offers → AlikeSeen set s t }
+        → AlikeSeen set s t }
     ensures metadata { (set : Settings) (s t : Seen) → (decision_in set s.request).level ≡ level.Metadata
         → s.request.head ≡ t.request.head → s.stamp ≡ t.stamp → SettledAlike set s t s.settled t.settled
-        → s.exchange.offers ≡ t.exchange.offers → AlikeSeen set s t }
+        → OfferedAlike s.exchange.offers t.exchange.offers → AlikeSeen set s t }
 {}
 
 /// Bodies that differ in managed fields alone look alike where managed fields are omitted: the same is kept of both.

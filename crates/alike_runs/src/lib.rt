@@ -13,6 +13,6 @@
 mod laws;
 
 pub use laws::{
-    alike_requests_leave_the_same_audit, alike_requests_make_alike_bays, same_audit,
-    same_audit_at_once,
+    alike_requests_leave_the_same_audit, alike_requests_leave_the_same_lines,
+    alike_requests_make_alike_bays, same_audit, same_audit_at_once,
 };

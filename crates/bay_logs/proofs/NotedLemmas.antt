@@ -98,27 +98,30 @@ reply_of_stopped set r m n w0 w rose stamp due x (inr (inr h)) = reply_stopped s
 
 -- ---- one exchange
 
+-- the request that was recorded is that of the exchange
+of_own : (set : Settings) (stamp : Stamp) (r : Request) (x : Exchange) → x.request ≡ r → IsRecorded set stamp r x.decision x.facts
+    → IsRecorded set stamp x.request x.decision x.facts
+of_own set stamp r x e h = subst (λ (own : Request). IsRecorded set stamp own x.decision x.facts) (sym e) h
+
 exchange_noted : (set : Settings) (peer : List ℕ) (r : Request) (m : BayState) (text : List ℕ) (n : BayState) (end : Relayed) (x : Exchange)
     → ExchangedTo set peer r m text n end x → IsNoted set m.boot m.lanes.bay m.number x
 exchange_noted set peer r m text n end x h = record {
-  request = r;
   stamp = h.stamp;
   id_is = h.id_is;
-  recorded = answer_recorded set h.stamp r x.handling (answered_of x) h.came end h.answered;
+  recorded = of_own set h.stamp r x h.request_is (answer_recorded set h.stamp r x.handling (answered_of x) h.came end h.answered);
 }
 
 halted_noted : (set : Settings) (peer : List ℕ) (r : Request) (m n : BayState) (w0 w : Option (List ℕ)) (rose : Type 0) (x : Exchange)
     → Halted set peer r m n w0 w rose x → IsNoted set m.boot m.lanes.bay m.number x
 halted_noted set peer r m n w0 w rose x h = record {
-  request = r;
   stamp = h.begun.stamp;
   id_is = h.begun.id_is;
-  recorded = record {
+  recorded = of_own set h.begun.stamp r x h.request_is (record {
     decision_is = h.begun.decision_is;
     request_is = h.begun.request_is;
     reply_is = reply_of_stopped set r m n w0 w rose h.begun.stamp h.due x h.stopped;
     facts_are = h.begun.facts_are;
-  };
+  });
 }
 
 -- ---- the number of a bay

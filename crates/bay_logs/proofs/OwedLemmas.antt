@@ -76,7 +76,7 @@ module _ (one : OneEvent) (conform : LinesConform) (own : LinesAreOwn) (set : Se
 
   own_of : (number : ℕ) (x : Exchange) → IsNoted set boot bay number x → AreInRange x.facts
       → AllByRecursion (IsLineOf x.facts.id) (fitted_lines set.max_event (owed x.decision x.facts))
-  own_of number x h range = own set h.stamp h.request x.decision x.facts set.max_event tokens h.recorded range
+  own_of number x h range = own set h.stamp x.request x.decision x.facts set.max_event tokens h.recorded range
 
   owed_after : (number : ℕ) (xs : List Exchange) (before : List (List ℕ)) → AreNoted set boot bay number xs → AllInRange xs → AreBefore before number
       → AllConform set.policy before (all_texts set xs)
@@ -85,7 +85,7 @@ module _ (one : OneEvent) (conform : LinesConform) (own : LinesAreOwn) (set : Se
       let mine = fitted_lines set.max_event (owed x.decision x.facts) in
       let h = noted.0 in
       both_conform set.policy before mine (all_texts set xs)
-      (conform set h.stamp h.request x.decision x.facts set.max_event before tokens h.recorded range.0
+      (conform set h.stamp x.request x.decision x.facts set.max_event before tokens h.recorded range.0
       (λ stage has. never x.facts.id.number number (number_of number x h) (low x.facts.id stage has)))
       (owed_after (number + 1) xs (before ++ mine) noted.1 range.1
       (next_before number x.facts.id before mine low (own_of number x h range.0) (number_of number x h)))

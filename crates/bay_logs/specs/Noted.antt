@@ -4,15 +4,13 @@ use Rattle.std.specs.List.{AllByRecursion}
 use Rattle.audit_check.specs.OwnLines.{AreInRange, IsRecorded}
 use Rattle.audit_core.specs.declared.settings.Settings.{Settings}
 use Rattle.audit_core.specs.declared.stamp.Stamp.{Stamp}
-use Rattle.http_edge.specs.declared.request.Request.{Request}
 use Rattle.session_core.specs.declared.exchange.Exchange.{Exchange}
 
--- it is of some request, which was recorded under the audit ID of that word, bay and number
+-- the request that it answered was recorded under the audit ID of that word, bay and number
 pub record IsNoted (set : Settings) (boot bay number : ℕ) (x : Exchange) : Type 0 where
-  pub request : Request
   pub stamp : Stamp
   pub id_is : stamp.id ≡ record { boot = boot; bay = bay; number = number }
-  pub recorded : IsRecorded set stamp request x.decision x.facts
+  pub recorded : IsRecorded set stamp x.request x.decision x.facts
 
 -- and so is each of these, with numbers that go up by one from this one
 abbrev pub AreNoted : Settings → ℕ → ℕ → ℕ → List Exchange → Type 0

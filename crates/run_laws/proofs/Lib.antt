@@ -9,7 +9,8 @@ mod LinkLemmas
 mod NumberLemmas
 mod RecordLemmas
 mod ShareLemmas
+pub mod SinkLemmas
 mod StatusLemmas
 mod TellLemmas
+mod TryLemmas
 mod WrittenLemmas
-pub mod SinkLemmas

@@ -69,6 +69,12 @@ pub record BatchesTell {R L N W H K Y D C S : Type 0} (h : BayHandles R L N W H 
   pub fulls_are : drain.fulls ≡ min (fulls_from sink xs 0 options.bays) (2 ^ 64 - 1)
   pub timed : EndsTimed h.clock drain
 
+-- the same with these tries
+pub record BatchesAre {R L N W H K Y D C S : Type 0} (h : BayHandles R L N W H K Y D C) (s : sinks.Ghosts S) (opens : SinkOpens) (set : Settings) (sink : Sink)
+    (options : RunOptions) (allots : List ℕ) (xs : ℕ → List Exchange) (bays : List (BayEnd R L K Y D)) (end : SinkEnd S K) (tries : List Try) : Type 0 where
+  pub told : BatchesTell h s opens set sink options allots xs bays end
+  pub tries_are : told.tries ≡ tries
+
 -- ---- a sink that is written to at once
 
 -- Of a bay with these exchanges: the tries of its own sink have one line each of its offers that were taken or failed, in order; and what

@@ -7,8 +7,8 @@ ghost use Rattle.front_plants.specs.Plants.{PlantTells};
 ghost use Rattle.serve_bays.specs.declared.options.RunOptions.{RunOptions};
 ghost use Rattle.serve_bays.specs.Sides.{side_opens};
 ghost use Rattle.run_laws.specs.Record.{AreGiven, audit_bytes, bytes_for, run_record, sinks_of};
-ghost use Rattle.run_laws.specs.Sides.{side_allots, side_end, side_sink};
-ghost use Rattle.run_laws.specs.Told.{BatchesTell, TriesTell};
+ghost use Rattle.run_laws.specs.Sides.{run_tries, side_allots, side_end, side_sink};
+ghost use Rattle.run_laws.specs.Told.{BatchesAre, BatchesTell, TriesTell};
 ghost use Rattle.serve_roles.specs.Doors.{bay_handles};
 ghost use Rattle.serve_runs.specs.Served.{RunServed, run_exchanges};
 ghost use Rattle.serve_runs.specs.declared.ended.Ended.{Ended};
@@ -31,6 +31,22 @@ pub fn accepted_lines_are_batched<P: Plant, R: Routes>()
         → mode_of set sink ≡ Batch
         → BatchesTell h (side_sink h sink) (side_opens P.opens options sink) set sink options (side_allots served sink) (run_exchanges served)
         ended.bays.items (side_end ended sink) }
+{
+    each_lane_gets_its_lines();
+    refusals_are_counted();
+}
+
+/// The same of the tries that the contract of the run speaks of, `run_tries`: those of the sink's drainer, whether its sink tells them
+/// or not.
+pub fn drained_tries_are_batched<P: Plant, R: Routes>()
+    ensures { let h = bay_handles R.Routes P.L.Dial P.W.BatchSink P.H.BatchSink P.K.Clock P.Y.Diary P.D.Door
+        P.D.C.Source P.D.C.ByteSink P.D.C.Conn.own in
+        (sink : Sink) (set : Settings) (options : RunOptions) (before after : PlantTells P.D.C) (tables : List R)
+        (ended : Ended R P.L P.W P.H P.K P.Y P.D)
+        (served : RunServed h P.Rt set options P.opens before after tables ended)
+        → mode_of set sink ≡ Batch
+        → BatchesAre h (side_sink h sink) (side_opens P.opens options sink) set sink options (side_allots served sink) (run_exchanges served)
+        ended.bays.items (side_end ended sink) (run_tries served sink) }
 {
     each_lane_gets_its_lines();
     refusals_are_counted();

@@ -1,7 +1,8 @@
 //! What an auditor relies on of a whole run: laws over the contract of `serve_runs::run_serve`.
 //!
 //! `accepted_lines_are_batched` says of a sink in batch mode that its batches have, of each bay, the lines of the events that the bay's
-//! requests owed and the sink's buffer took, in order, each once, and no other line; and why a line was not taken.
+//! requests owed and the sink's buffer took, in order, each once, and no other line; and why a line was not taken. By
+//! `drained_tries_are_batched` the same holds of the tries that a drainer made where its sink tells none.
 //! `tried_lines_are_those_offered` says of a sink that is written to at once that its tries are one line each of those events. The
 //! requests are those of the bay's connections (`run_exchanges`), whatever the diary tells. `sent_bytes_are_those_of_the_record`
 //! says of a sink whose port tells its bytes that they are worked out from these, from whose turn each line was, and from the notes of
@@ -24,7 +25,8 @@ mod laws;
 mod losses;
 
 pub use laws::{
-    accepted_lines_are_batched, sent_bytes_are_those_of_the_record, tried_lines_are_those_offered,
+    accepted_lines_are_batched, drained_tries_are_batched, sent_bytes_are_those_of_the_record,
+    tried_lines_are_those_offered,
 };
 pub use losses::{
     a_run_without_faults_is_done, failed_links_are_counted, nothing_is_lost_at_once,

@@ -1,4 +1,4 @@
-use Rattle.alike_exchanges.proofs.OwedLemmas.{same_due, same_offered, same_offers, same_owed}
+use Rattle.alike_exchanges.proofs.OwedLemmas.{same_due, same_offered, same_owed, same_taken, same_tried}
 use Rattle.alike_exchanges.proofs.laws.alike_exchanges_owe_alike.Goals as goal
 
 pub returns-clause-owed : goal.returns-clause-owed
@@ -10,5 +10,8 @@ returns-clause-due c = same_due
 pub returns-clause-offered : goal.returns-clause-offered
 returns-clause-offered c = same_offered
 
-pub returns-clause-offers : goal.returns-clause-offers
-returns-clause-offers c = same_offers
+pub returns-clause-taken : goal.returns-clause-taken
+returns-clause-taken c = same_taken
+
+pub returns-clause-tried : goal.returns-clause-tried
+returns-clause-tried c = same_tried

@@ -25,7 +25,7 @@ returns g c Log set options one other runs mode opened alike cut =
     let h = bay_handles g.R.Routes g.P.L.Dial g.P.W.BatchSink g.P.H.BatchSink g.P.K.Clock g.P.Y.Diary g.P.D.Door
     g.P.D.C.Source g.P.D.C.ByteSink g.P.D.C.Conn in
     same_own h set g.P.W.BatchSink (log_opens g.P.Plant.opens) Log options (run_exchanges runs.ran) (run_exchanges runs.also) one.bays.items other.bays.items one.log other.log
-    c.alike_exchanges_owe_alike.ensures.offered c.alike_exchanges_owe_alike.ensures.offers c.cut_alike_sent_alike.ensures opened runs.ran.count runs.also.count alike
+    runs.ran.count runs.also.count alike c.alike_exchanges_owe_alike.ensures.tried c.cut_alike_sent_alike.ensures c.cuts_part_lines.ensures.single opened
     (are_own g.P.W.BatchSink g.P.K.Clock (log_opens g.P.Plant.opens) set.log options runs.ran.log_allots runs.ran.logs one.log mode runs.ran.log).count
     (are_own g.P.W.BatchSink g.P.K.Clock (log_opens g.P.Plant.opens) set.log options runs.also.log_allots runs.also.logs other.log mode runs.also.log).count
     (c.tried_lines_are_those_offered.ensures Log set options runs.before runs.after runs.tables one runs.ran mode)
@@ -35,7 +35,7 @@ returns g c Webhook set options one other runs mode opened alike cut =
     let h = bay_handles g.R.Routes g.P.L.Dial g.P.W.BatchSink g.P.H.BatchSink g.P.K.Clock g.P.Y.Diary g.P.D.Door
     g.P.D.C.Source g.P.D.C.ByteSink g.P.D.C.Conn in
     same_own h set g.P.H.BatchSink (hook_opens g.P.Plant.opens options.hook_url) Webhook options (run_exchanges runs.ran) (run_exchanges runs.also) one.bays.items other.bays.items one.hook other.hook
-    c.alike_exchanges_owe_alike.ensures.offered c.alike_exchanges_owe_alike.ensures.offers c.cut_alike_sent_alike.ensures opened runs.ran.count runs.also.count alike
+    runs.ran.count runs.also.count alike c.alike_exchanges_owe_alike.ensures.tried c.cut_alike_sent_alike.ensures c.cuts_part_lines.ensures.single opened
     (are_own g.P.H.BatchSink g.P.K.Clock (hook_opens g.P.Plant.opens options.hook_url) set.hook options runs.ran.hook_allots runs.ran.hooks one.hook mode runs.ran.hook).count
     (are_own g.P.H.BatchSink g.P.K.Clock (hook_opens g.P.Plant.opens options.hook_url) set.hook options runs.also.hook_allots runs.also.hooks other.hook mode runs.also.hook).count
     (c.tried_lines_are_those_offered.ensures Webhook set options runs.before runs.after runs.tables one runs.ran mode)
