@@ -22,7 +22,7 @@ use Rattle.front_ports.specs.Told.{Grows}
 use Rattle.front_ports.specs.declared.clock.Clock as clocks
 use Rattle.serve_bays.specs.Served.{IsDrained, IsOwn, SinkServed}
 use Rattle.serve_bays.specs.declared.options.RunOptions.{RunOptions}
-use Rattle.run_laws.specs.Told.{BatchedLines, BatchesTell, TriedLines, TriesTell}
+use Rattle.run_laws.specs.Told.{BatchedLines, BatchesAre, BatchesTell, TriedLines, TriesTell}
 use Rattle.run_laws.proofs.FullLemmas.{all_fulls, both_none}
 use Rattle.run_laws.proofs.SinkLemmas.{NewSends, Stays, all_stays, own_sent, own_single}
 use Rattle.run_laws.proofs.TellLemmas.{bay_told}
@@ -220,6 +220,20 @@ module _ {R L N W H T K Y D C : Type 0} (h : BayHandles R L N W H K Y D C) (set 
         (λ k. hook_fulls fills k (slice_get bays k) (served k) (both_none bays hooks k (d.count ∙ sym count)));
     timed = d.timed;
   }
+
+  pub log_batches_are : (accepts : Accepts) (fills : Fills) (options : RunOptions) (allots : List ℕ) (bays : List (BayEnd R L K Y D)) (end : SinkEnd W K)
+      (served : (k : ℕ) → IfSome (slice_get bays k) (BayServed h set log_new hook_new boot due tables logs hooks k))
+      → (d : IsDrained h.log h.clock log_new options.bays options.buffer allots options.limits logs end)
+      → BatchesAre h h.log log_new set Log options allots (exchanges_by bays served) bays end d.tries
+  unfolding log_batches
+  log_batches_are accepts fills options allots bays end served d = record { told = log_batches accepts fills options allots bays end served d; tries_are = refl }
+
+  pub hook_batches_are : (accepts : Accepts) (fills : Fills) (options : RunOptions) (allots : List ℕ) (bays : List (BayEnd R L K Y D)) (end : SinkEnd H K)
+      (served : (k : ℕ) → IfSome (slice_get bays k) (BayServed h set log_new hook_new boot due tables logs hooks k))
+      → (d : IsDrained h.hook h.clock hook_new options.bays options.buffer allots options.limits hooks end)
+      → BatchesAre h h.hook hook_new set Webhook options allots (exchanges_by bays served) bays end d.tries
+  unfolding hook_batches
+  hook_batches_are accepts fills options allots bays end served d = record { told = hook_batches accepts fills options allots bays end served d; tries_are = refl }
 
   -- ---- tries of a bay's own sink
 
