@@ -48,16 +48,18 @@ none_read rs e = subst (AllByRecursion WasRead) (sym e) tt
 first_read : (bytes : List ℕ) (rs : List Request) → FirstOf bytes rs → AreRead rs
 unfolding AreRead
 first_read bytes [] h = tt
-first_read bytes (r ∷ rs) h =
-    (record { bytes = bytes; after = h.0; starts = h.1 },
-    by_asks (asks r) (rs ≡ []) (FirstOf h.0 rs) (AllByRecursion WasRead rs) h.2 (none_read rs) (first_read h.0 rs))
+first_read bytes (r ∷ rs) h = (
+  record { bytes = bytes; after = h.0; starts = h.1 },
+  by_asks (asks r) (rs ≡ []) (FirstOf h.0 rs) (AllByRecursion WasRead rs) h.2 (none_read rs) (first_read h.0 rs),
+)
 
 all_read : (bytes : List ℕ) (rs : List Request) (end : End) → IsRequests bytes rs end → AreRead rs
 unfolding AreRead
 all_read bytes [] end h = tt
-all_read bytes (r ∷ rs) end h =
-    (record { bytes = bytes; after = h.0; starts = h.1 },
-    by_asks (asks r) ((rs ≡ []) × (end ≡ Asked)) (IsRequests h.0 rs end) (AllByRecursion WasRead rs) h.2 (λ last. none_read rs last.0) (all_read h.0 rs end))
+all_read bytes (r ∷ rs) end h = (
+  record { bytes = bytes; after = h.0; starts = h.1 },
+  by_asks (asks r) ((rs ≡ []) × (end ≡ Asked)) (IsRequests h.0 rs end) (AllByRecursion WasRead rs) h.2 (λ last. none_read rs last.0) (all_read h.0 rs end),
+)
 
 whole_read : (bytes : List ℕ) (rs : List Request) (rest : List ℕ) → ReadsTo bytes rs rest → AreRead rs
 unfolding AreRead
