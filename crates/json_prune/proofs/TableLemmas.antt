@@ -207,9 +207,9 @@ both_ways false false f g = refl
 
 pub found_table : (whole slice : List ℕ) (span : ℕ × ℕ) (same : Bool) (v : Value) → Some span ≡ member_span (codes "kind") v → whole ≡ flat v
     → slice ≡ take (span.1 - span.0) (drop span.0 whole) → (same ≡ true → slice ≡ table) → (slice ≡ table → same ≡ true) → same ≡ is_table v
-found_table whole slice span same v found is cut yes only =
+found_table whole slice span same v found is cut when only =
     let test : same ≡ bytes_eq slice table =
-    both_ways same (bytes_eq slice table) (λ t. (bytes_eq-Decides slice table).1 (yes t)) (λ t. only ((bytes_eq-Decides slice table).0 t)) in
+    both_ways same (bytes_eq slice table) (λ t. (bytes_eq-Decides slice table).1 (when t)) (λ t. only ((bytes_eq-Decides slice table).0 t)) in
     test
     ∙ ap (λ (l : List ℕ). bytes_eq l table) (cut ∙ ap (λ (l : List ℕ). take (span.1 - span.0) (drop span.0 l)) is)
     ∙ ap (says (flat v)) found
