@@ -1,7 +1,7 @@
 use Rattle.std.proofs.Common.{◌≡◌, cond, sym, ap, ◌∙◌, subst}
 use Rattle.std.specs.Prelude.{IfOk}
 use Rattle.json_span.specs.Value.{flat, StandsFor}
-use Rattle.json_prune.specs.Prune.{prune, fields_of_rows, is_table}
+use Rattle.json_prune.specs.Prune.{prune, fields_of_rows}
 use Rattle.json_prune.proofs.TokenLemmas.{has_tokens}
 use Rattle.json_prune.proofs.kept.without_rows.Goals as goal
 
