@@ -1,0 +1,2 @@
+mod BayLemmas
+mod StepLemmas
