@@ -97,10 +97,10 @@ module _ (ends : List Endpoint) (opening : List Row) (seen : List Change) (own :
         unchanged
         (errand.Serve local Look) _ later
         (ap (λ x. served x change) h.0 ∙ ap (served (local_reply (after opening now) local Look)) h.1) refl h.2
-    served_so (Tabulate moment) reply change h =
+    served_so (Tabulate include moment) reply change h =
         unchanged
-        (errand.Serve local (Tabulate moment)) _ later
-        (ap (λ x. served x change) h.0 ∙ ap (served (local_reply (after opening now) local (Tabulate moment))) h.1) refl h.2
+        (errand.Serve local (Tabulate include moment)) _ later
+        (ap (λ x. served x change) h.0 ∙ ap (served (local_reply (after opening now) local (Tabulate include moment))) h.1) refl h.2
     served_so (Write asked) reply change h = changed_so asked reply change h
     served_so (Try asked) reply change h =
         unchanged

@@ -20,7 +20,7 @@ local_none : (rows : List Row) (own : LocalErrand) → ((change : Change) → ow
 local_none rows (Deny code) h = refl
 local_none rows (Conflict name) h = refl
 local_none rows Look h = refl
-local_none rows (Tabulate moment) h = refl
+local_none rows (Tabulate include moment) h = refl
 local_none rows (Write change) h = absurd (h change refl)
 local_none rows (Try change) h = refl
 

@@ -60,7 +60,7 @@ abbrev pub local_made : List Row → LocalErrand → Option Change
 local_made rows (Deny code) = None
 local_made rows (Conflict name) = None
 local_made rows Look = None
-local_made rows (Tabulate moment) = None
+local_made rows (Tabulate include moment) = None
 local_made rows (Write change) = made_by change (table.refusal rows change)
 local_made rows (Try change) = None
 

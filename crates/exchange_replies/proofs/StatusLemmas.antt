@@ -25,7 +25,7 @@ use Rattle.front_base.specs.declared.user.User.{User}
 use Rattle.http_edge.specs.declared.request.Request.{Request}
 use Rattle.http_head.specs.Name.{first_value}
 use Rattle.http_head.specs.declared.request.Head.{Head}
-use Rattle.local_replies.specs.Errand.{asked_errand, asks_table, local_errand, look_services, looks, by_master, delete, is_directed, is_master, is_patch, create, patch, replace, row_in, list_errand, name_errand, seen_as, served_patch, tried_if}
+use Rattle.local_replies.specs.Errand.{asked_errand, asks_table, local_errand, look_services, looks, by_master, delete, is_directed, is_master, is_patch, create, patch, replace, row_in, list_errand, name_errand, seen_as, served_patch, table_for, table_with, tried_if}
 use Rattle.local_replies.specs.Looked.{looked, found}
 use Rattle.local_replies.specs.Serve.{local_reply, change_reply, done, refused}
 use Rattle.local_replies.specs.Tabulated.{one_table, tabulated}
@@ -33,9 +33,12 @@ use Rattle.local_replies.specs.declared.errand.LocalErrand.{LocalErrand}
 use Rattle.local_replies.specs.declared.errand.LocalErrand.TheVariants.{Deny, Conflict, Look, Tabulate, Write, Try}
 use Rattle.local_replies.specs.declared.local.Local.{Local}
 use Rattle.local_replies.specs.declared.local.Local.TheVariants.{Health, GroupList, OneGroup, ResourceList, AllServices, OneService, ServicesNamed, Unserved}
+use Rattle.request_info.specs.Query.{query_value}
 use Rattle.request_info.specs.Selection.{asks_trial}
 use Rattle.service_endpoints.specs.Find.{endpoint_of, others_of}
 use Rattle.service_endpoints.specs.declared.endpoint.Endpoint.{Endpoint}
+use Rattle.service_tables.specs.Include.{include_object}
+use Rattle.service_tables.specs.declared.include.IncludeObject.{IncludeObject}
 use Rattle.token_users.specs.declared.acting.Act.{Act}
 use Rattle.token_users.specs.declared.acting.Act.TheVariants.{Own, As, Unserved, Bad, Forbidden}
 use Rattle.write_bodies.specs.Deletion.{deletion_of}
@@ -48,12 +51,18 @@ look_by : (b : Bool) → IsFinalLocal (if b then Look else Deny 405)
 look_by true = tt
 look_by false = (omega arith, omega arith)
 
-seen_if : (b : Bool) (moment : ℕ) → IsFinalLocal (if b then Tabulate moment else Look)
-seen_if true moment = tt
-seen_if false moment = tt
+table_by : (include : Option IncludeObject) (moment : ℕ) → IsFinalLocal (table_with include moment)
+table_by None moment = (omega arith, omega arith)
+table_by (Some include) moment = tt
+
+seen_if : (b : Bool) (table : LocalErrand) → IsFinalLocal table → IsFinalLocal (if b then table else Look)
+seen_if true table h = h
+seen_if false table h = tt
 
 seen_by : (head : Head) (moment : ℕ) → IsFinalLocal (seen_as head moment)
-seen_by head moment = seen_if (asks_table (first_value (codes "accept") head.headers)) moment
+seen_by head moment =
+    seen_if (asks_table (first_value (codes "accept") head.headers)) (table_for head.target moment)
+    (table_by (include_object (query_value (codes "includeObject") head.target)) moment)
 
 master_by : (b : Bool) (own : LocalErrand) → IsFinalLocal own → IsFinalLocal (if b then own else Deny 403)
 master_by true own h = h
@@ -128,7 +137,7 @@ tried_by false own h = h
 tried_by true (Deny code) h = h
 tried_by true (Conflict name) h = h
 tried_by true Look h = h
-tried_by true (Tabulate moment) h = h
+tried_by true (Tabulate include moment) h = h
 tried_by true (Write change) h = h
 tried_by true (Try change) h = h
 
@@ -180,19 +189,19 @@ looked_by (OneService name) rows = found_by (object_named name rows)
 looked_by (ServicesNamed name) rows = (omega arith, omega arith)
 looked_by Unserved rows = (omega arith, omega arith)
 
-one_by : (moment : ℕ) (own : Option Row) → IsStatus (one_table moment own).status
-one_by moment None = (omega arith, omega arith)
-one_by moment (Some own) = (omega arith, omega arith)
+one_by : (include : IncludeObject) (moment : ℕ) (own : Option Row) → IsStatus (one_table include moment own).status
+one_by include moment None = (omega arith, omega arith)
+one_by include moment (Some own) = (omega arith, omega arith)
 
-tabulated_by : (local : Local) (moment : ℕ) (rows : List Row) → IsStatus (tabulated local moment rows).status
-tabulated_by Health moment rows = looked_by Health rows
-tabulated_by GroupList moment rows = looked_by GroupList rows
-tabulated_by (OneGroup name) moment rows = looked_by (OneGroup name) rows
-tabulated_by ResourceList moment rows = looked_by ResourceList rows
-tabulated_by AllServices moment rows = (omega arith, omega arith)
-tabulated_by (OneService name) moment rows = one_by moment (row_named name rows)
-tabulated_by (ServicesNamed name) moment rows = (omega arith, omega arith)
-tabulated_by Unserved moment rows = looked_by Unserved rows
+tabulated_by : (local : Local) (include : IncludeObject) (moment : ℕ) (rows : List Row) → IsStatus (tabulated local include moment rows).status
+tabulated_by Health include moment rows = looked_by Health rows
+tabulated_by GroupList include moment rows = looked_by GroupList rows
+tabulated_by (OneGroup name) include moment rows = looked_by (OneGroup name) rows
+tabulated_by ResourceList include moment rows = looked_by ResourceList rows
+tabulated_by AllServices include moment rows = (omega arith, omega arith)
+tabulated_by (OneService name) include moment rows = one_by include moment (row_named name rows)
+tabulated_by (ServicesNamed name) include moment rows = (omega arith, omega arith)
+tabulated_by Unserved include moment rows = looked_by Unserved rows
 
 done_by : (change : Change) (left : Option (List ℕ)) → IsStatus (done change left).status
 done_by (Create row) left = (omega arith, omega arith)
@@ -215,7 +224,7 @@ reply_by : (rows : List Row) (local : Local) (own : LocalErrand) → IsFinalLoca
 reply_by rows local (Deny code) h = h
 reply_by rows local (Conflict name) h = (omega arith, omega arith)
 reply_by rows local Look h = looked_by local rows
-reply_by rows local (Tabulate moment) h = tabulated_by local moment rows
+reply_by rows local (Tabulate include moment) h = tabulated_by local include moment rows
 reply_by rows local (Write change) h = change_by rows change (table.refusal rows change)
 reply_by rows local (Try change) h = change_by rows change (table.refusal rows change)
 

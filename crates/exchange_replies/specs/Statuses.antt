@@ -17,7 +17,7 @@ abbrev pub IsFinalLocal : LocalErrand → Type 0
 IsFinalLocal (Deny code) = IsStatus code
 IsFinalLocal (Conflict name) = ⊤
 IsFinalLocal Look = ⊤
-IsFinalLocal (Tabulate moment) = ⊤
+IsFinalLocal (Tabulate include moment) = ⊤
 IsFinalLocal (Write change) = ⊤
 IsFinalLocal (Try change) = ⊤
 

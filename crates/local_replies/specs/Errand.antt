@@ -18,7 +18,10 @@ use Rattle.local_replies.specs.declared.errand.LocalErrand.{LocalErrand}
 use Rattle.local_replies.specs.declared.errand.LocalErrand.TheVariants.{Deny, Conflict, Look, Tabulate, Write, Try}
 use Rattle.local_replies.specs.declared.local.Local.{Local}
 use Rattle.local_replies.specs.declared.local.Local.TheVariants.{Health, GroupList, OneGroup, ResourceList, AllServices, OneService, ServicesNamed, Unserved}
+use Rattle.request_info.specs.Query.{query_value}
 use Rattle.request_info.specs.Selection.{asks_trial}
+use Rattle.service_tables.specs.Include.{include_object}
+use Rattle.service_tables.specs.declared.include.IncludeObject.{IncludeObject}
 use Rattle.write_bodies.specs.Deletion.{deletion_of}
 use Rattle.write_bodies.specs.Directives.{directives_in}
 use Rattle.write_bodies.specs.declared.deletion.Deletion.{Deletion}
@@ -37,9 +40,18 @@ abbrev pub asks_table : Option (List ℕ) → Bool
 asks_table None = false
 asks_table (Some value) = asks_for_table value
 
+-- a Table whose rows carry that of their objects, and the refusal where what is asked for names no policy
+abbrev pub table_with : Option IncludeObject → ℕ → LocalErrand
+table_with None moment = Deny 400
+table_with (Some include) moment = Tabulate include moment
+
+-- a Table at that moment, by the first `includeObject` of the target's query
+abbrev pub table_for : List ℕ → ℕ → LocalErrand
+table_for target moment = table_with (include_object (query_value (codes "includeObject") target)) moment
+
 -- a look at APIServices in the form that is asked for: as a Table at that moment, or as they are stored
 abbrev pub seen_as : Head → ℕ → LocalErrand
-seen_as head moment = if asks_table (first_value (codes "accept") head.headers) then Tabulate moment else Look
+seen_as head moment = if asks_table (first_value (codes "accept") head.headers) then table_for head.target moment else Look
 
 -- such a look, and no other method
 abbrev pub look_services : Head → ℕ → LocalErrand
@@ -152,7 +164,7 @@ abbrev pub tried : LocalErrand → LocalErrand
 tried (Deny code) = Deny code
 tried (Conflict name) = Conflict name
 tried Look = Look
-tried (Tabulate moment) = Tabulate moment
+tried (Tabulate include moment) = Tabulate include moment
 tried (Write change) = Try change
 tried (Try change) = Try change
 

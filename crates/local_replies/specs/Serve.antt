@@ -50,7 +50,7 @@ abbrev pub local_reply : List Row → Local → LocalErrand → LocalReply
 local_reply rows local (Deny code) = refusal code
 local_reply rows local (Conflict name) = conflict name
 local_reply rows local Look = looked local rows
-local_reply rows local (Tabulate moment) = tabulated local moment rows
+local_reply rows local (Tabulate include moment) = tabulated local include moment rows
 local_reply rows local (Write change) = change_reply rows change (table.refusal rows change)
 local_reply rows local (Try change) = change_reply rows change (table.refusal rows change)
 
@@ -59,7 +59,7 @@ abbrev pub rows_after : List Row → LocalErrand → List Row
 rows_after rows (Deny code) = rows
 rows_after rows (Conflict name) = rows
 rows_after rows Look = rows
-rows_after rows (Tabulate moment) = rows
+rows_after rows (Tabulate include moment) = rows
 rows_after rows (Write change) = rows_with rows change (table.refusal rows change)
 rows_after rows (Try change) = rows
 
@@ -82,8 +82,8 @@ IsServed local (Conflict name) opening seen own new_seen new_own reply change =
     (reply ≡ conflict name) × (change ≡ None) × (new_seen ≡ seen) × (new_own ≡ own)
 IsServed local Look opening seen own new_seen new_own reply change =
     (reply ≡ looked local (after opening new_seen)) × (change ≡ None) × (new_own ≡ own)
-IsServed local (Tabulate moment) opening seen own new_seen new_own reply change =
-    (reply ≡ tabulated local moment (after opening new_seen)) × (change ≡ None) × (new_own ≡ own)
+IsServed local (Tabulate include moment) opening seen own new_seen new_own reply change =
+    (reply ≡ tabulated local include moment (after opening new_seen)) × (change ≡ None) × (new_own ≡ own)
 IsServed local (Write asked) opening seen own new_seen new_own reply change =
     IsDecided asked opening seen own new_seen new_own reply change
 IsServed local (Try asked) opening seen own new_seen new_own reply change =

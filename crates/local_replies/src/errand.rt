@@ -2,6 +2,7 @@
 ghost use Rattle.std.specs.Prelude.{◌≡◌, IfOk, codes, option_map};
 ghost use Rattle.http_head.specs.Name.{first_value};
 ghost use Rattle.local_replies.specs.Errand as spec;
+ghost use Rattle.service_tables.specs.Include.{include_object};
 ghost use Rattle.write_bodies.specs.Deletion.{deletion_of};
 
 use crate::local::Local;
@@ -10,7 +11,8 @@ use apiservice_rows::{Row, RowFault, read_row};
 use apiservice_table::Change;
 use front_base::{Bytes, Info, Moment, NoMemory, Text, User};
 use http_head::{Head, has_only};
-use request_info::asks_trial;
+use request_info::{asks_trial, query_value};
+use service_tables::{IncludeObject, include_object};
 use std::alloc::Global;
 use write_bodies::{Deletion, deletion_of, has_directives};
 
@@ -23,8 +25,8 @@ pub enum LocalErrand {
     Conflict(Text),
     /// What the path names is looked up.
     Look,
-    /// The APIServices that the path names are looked up, as a Table at that moment.
-    Tabulate(Moment),
+    /// The APIServices that the path names are looked up, as a Table at that moment whose rows carry so much of their objects.
+    Tabulate(IncludeObject, Moment),
     /// A change of the table of APIs, which the user may make.
     Write(Change),
     /// A change that the user may make, and that is tried only: a dry run.
@@ -56,24 +58,52 @@ fn asks_table(head: &Head) -> bool
     }
 }
 
-// A look at APIServices, in the form that is asked for.
-fn seen_as(head: &Head, moment: Moment) -> LocalErrand
-    ensures { result ≡ spec.seen_as head.now moment }
+fn included(value: &Option<Text>) -> Option<IncludeObject>
+    ensures { result ≡ include_object value.now }
 {
-    if asks_table(head) {
-        LocalErrand::Tabulate(moment)
-    } else {
-        LocalErrand::Look
+    match value {
+        Some(name) => include_object(Some(name.as_str())),
+        None => include_object(None),
     }
 }
 
-fn look_services(head: &Head, moment: Moment) -> LocalErrand
-    ensures { result ≡ spec.look_services head.now moment }
+fn table_with(include: Option<IncludeObject>, moment: Moment) -> LocalErrand
+    ensures { result ≡ spec.table_with include moment }
+{
+    match include {
+        Some(include) => LocalErrand::Tabulate(include, moment),
+        None => LocalErrand::Deny(400),
+    }
+}
+
+// A look at APIServices as a Table, whose rows carry of their objects what the query asks for.
+fn table_for(alloc: Global, target: &str, moment: Moment) -> Result<LocalErrand, NoMemory>
+    ensures { IfOk result (λ errand. errand ≡ spec.table_for target.now moment) }
+{
+    let value = query_value(alloc, "includeObject", target)?;
+    let include = included(&value);
+    drop(value);
+    Ok(table_with(include, moment))
+}
+
+// A look at APIServices, in the form that is asked for.
+fn seen_as(alloc: Global, head: &Head, moment: Moment) -> Result<LocalErrand, NoMemory>
+    ensures { IfOk result (λ errand. errand ≡ spec.seen_as head.now moment) }
+{
+    if asks_table(head) {
+        table_for(alloc, head.target.as_str(), moment)
+    } else {
+        Ok(LocalErrand::Look)
+    }
+}
+
+fn look_services(alloc: Global, head: &Head, moment: Moment) -> Result<LocalErrand, NoMemory>
+    ensures { IfOk result (λ errand. errand ≡ spec.look_services head.now moment) }
 {
     if looks(head.method.as_str()) {
-        seen_as(head, moment)
+        seen_as(alloc, head, moment)
     } else {
-        LocalErrand::Deny(405)
+        Ok(LocalErrand::Deny(405))
     }
 }
 
@@ -261,7 +291,7 @@ fn list_errand(
     }
     match head.method.as_str() {
         "POST" => create(alloc, body, user),
-        _ => Ok(look_services(head, moment)),
+        _ => look_services(alloc, head, moment),
     }
 }
 
@@ -281,21 +311,26 @@ fn name_errand(
         "PUT" => replace(alloc, name.as_str(), body, user),
         "DELETE" => delete(alloc, name, body, user),
         "PATCH" => patch(alloc, name, head, body, user),
-        _ => Ok(look_services(head, moment)),
+        _ => look_services(alloc, head, moment),
     }
 }
 
 // What is wanted of the list of one APIService. A selector is read of looks alone.
-fn listed_errand(info: &Info, head: &Head, moment: Moment) -> LocalErrand
-    ensures { result ≡ spec.listed_errand info.now head.now moment }
+fn listed_errand(
+    alloc: Global,
+    info: &Info,
+    head: &Head,
+    moment: Moment,
+) -> Result<LocalErrand, NoMemory>
+    ensures { IfOk result (λ errand. errand ≡ spec.listed_errand info.now head.now moment) }
 {
     let watches = info.verb.as_str() == "watch";
     if watches {
-        LocalErrand::Deny(405)
+        Ok(LocalErrand::Deny(405))
     } else if looks(head.method.as_str()) {
-        seen_as(head, moment)
+        seen_as(alloc, head, moment)
     } else {
-        LocalErrand::Deny(400)
+        Ok(LocalErrand::Deny(400))
     }
 }
 
@@ -318,7 +353,7 @@ fn asked_errand(
         }
         Local::AllServices => list_errand(alloc, info, head, moment, body, user),
         Local::OneService(name) => name_errand(alloc, name, head, moment, body, user),
-        Local::ServicesNamed(_) => Ok(listed_errand(info, head, moment)),
+        Local::ServicesNamed(_) => listed_errand(alloc, info, head, moment),
         Local::Unserved => Ok(LocalErrand::Deny(404)),
     }
 }
@@ -331,17 +366,18 @@ fn tried(errand: LocalErrand) -> LocalErrand
         LocalErrand::Deny(code) => LocalErrand::Deny(code),
         LocalErrand::Conflict(name) => LocalErrand::Conflict(name),
         LocalErrand::Look => LocalErrand::Look,
-        LocalErrand::Tabulate(moment) => LocalErrand::Tabulate(moment),
+        LocalErrand::Tabulate(include, moment) => LocalErrand::Tabulate(include, moment),
         LocalErrand::Write(change) => LocalErrand::Try(change),
         LocalErrand::Try(change) => LocalErrand::Try(change),
     }
 }
 
-/// What a request on a local path wants, which was read at that moment: the ages in a Table count to it. A refusal by the method (404 where the path isn't served, 405, and 400 where
-/// a selector is no part of it) and by the type of a patch (415) comes before one by the user (403), and that before one by the
-/// body: 422, of a DELETE 400 and 409, and 415 of a strategic merge patch with directives. What a patch makes of an object is
-/// read where the change is made. A change is tried only where the query has `dryRun`, whatever its value is, or the options of
-/// a DELETE ask for it.
+/// What a request on a local path wants, which was read at that moment: the ages in a Table count to it. A refusal by the path
+/// (404) or by the method (405, and 400 where a selector is no part of it), and one by the type of a patch (415), comes before one
+/// by the user (403). At last come those by the body: 422, of a DELETE 400 and 409, and 415 of a strategic merge patch with
+/// directives. What a patch makes of an object is read where the change is made. A look that asks for a Table is refused with 400
+/// where its `includeObject` names no policy. A change is tried only where the query has `dryRun`, whatever its value is, or the
+/// options of a DELETE ask for it.
 pub fn local_errand(
     alloc: Global,
     local: &Local,

@@ -19,6 +19,7 @@ ghost use Rattle.local_replies.specs.declared.errand.LocalErrand.TheVariants as 
 ghost use Rattle.local_replies.specs.declared.local.Local.{Local};
 ghost use Rattle.local_replies.specs.declared.local.Local.TheVariants as local;
 ghost use Rattle.local_replies.specs.declared.reply.LocalReply.{LocalReply};
+ghost use Rattle.request_info.specs.Query.{query_value};
 ghost use Rattle.request_info.specs.Selection.{asks_trial};
 ghost use Rattle.write_bodies.specs.Deletion.{deletion_of};
 ghost use Rattle.write_bodies.specs.declared.deletion.Deletion.TheVariants as deletion;
@@ -61,7 +62,9 @@ pub fn dry_runs_change_nothing()
         → head.method ≡ codes "DELETE" → deletion_of body ≡ Some deletion.Trial
         → local_errand local info head moment body user ≡ errand.Write change → ⊥ }
     ensures wants { (local : Local) (info : Info) (head plain : Head) (moment : ℕ) (body : List ℕ) (user : User)
-        → head.method ≡ plain.method → head.headers ≡ plain.headers → asks_trial head.target ≡ true → asks_trial plain.target ≡ false
+        → head.method ≡ plain.method → head.headers ≡ plain.headers
+        → query_value (codes "includeObject") head.target ≡ query_value (codes "includeObject") plain.target
+        → asks_trial head.target ≡ true → asks_trial plain.target ≡ false
         → local_errand local info head moment body user ≡ tried (local_errand local info plain moment body user) }
     ensures reply { (rows : List Row) (local : Local) (own : LocalErrand) → local_reply rows local (tried own) ≡ local_reply rows local own }
     ensures rows { (rows : List Row) (own : LocalErrand) → rows_after rows (tried own) ≡ rows }

@@ -215,7 +215,9 @@ pub fn serve_errand<R: Routes>(
         LocalErrand::Deny(code) => Ok((refusal(alloc, code)?, None)),
         LocalErrand::Conflict(name) => Ok((conflict(alloc, name.as_str())?, None)),
         LocalErrand::Look => Ok((look(alloc, local, routes)?, None)),
-        LocalErrand::Tabulate(moment) => Ok((tabulate(alloc, local, moment, routes)?, None)),
+        LocalErrand::Tabulate(include, moment) => {
+            Ok((tabulate(alloc, local, include, moment, routes)?, None))
+        }
         LocalErrand::Write(change) => write(alloc, change, routes),
         LocalErrand::Try(change) => {
             let tried = try_out(alloc, &change, routes);

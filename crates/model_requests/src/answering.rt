@@ -64,7 +64,7 @@ fn copy_own(alloc: Global, own: &LocalErrand) -> Result<LocalErrand, NoMemory>
         LocalErrand::Deny(code) => Ok(LocalErrand::Deny(*code)),
         LocalErrand::Conflict(name) => Ok(LocalErrand::Conflict(name.copy(alloc)?)),
         LocalErrand::Look => Ok(LocalErrand::Look),
-        LocalErrand::Tabulate(moment) => Ok(LocalErrand::Tabulate(*moment)),
+        LocalErrand::Tabulate(include, moment) => Ok(LocalErrand::Tabulate(*include, *moment)),
         LocalErrand::Write(change) => Ok(LocalErrand::Write(change.copy(alloc)?)),
         LocalErrand::Try(change) => Ok(LocalErrand::Try(change.copy(alloc)?)),
     }

@@ -30,7 +30,7 @@ fn asked_by(alloc: Global, errand: &Errand) -> Result<Option<Change>, NoMemory>
         Errand::Serve(_, LocalErrand::Deny(_)) => Ok(None),
         Errand::Serve(_, LocalErrand::Conflict(_)) => Ok(None),
         Errand::Serve(_, LocalErrand::Look) => Ok(None),
-        Errand::Serve(_, LocalErrand::Tabulate(_)) => Ok(None),
+        Errand::Serve(_, LocalErrand::Tabulate(_, _)) => Ok(None),
         Errand::Serve(_, LocalErrand::Try(_)) => Ok(None),
         Errand::Refuse(_) => Ok(None),
         Errand::Route { .. } => Ok(None),

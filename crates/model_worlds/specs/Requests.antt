@@ -22,7 +22,7 @@ abbrev pub local_asked : LocalErrand → Option Change
 local_asked (Deny code) = None
 local_asked (Conflict name) = None
 local_asked Look = None
-local_asked (Tabulate moment) = None
+local_asked (Tabulate include moment) = None
 local_asked (Write change) = Some change
 local_asked (Try change) = None
 

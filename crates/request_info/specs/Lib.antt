@@ -1,5 +1,6 @@
 pub mod Forms
 pub mod Parts
+pub mod Query
 pub mod Request
 pub mod Resource
 pub mod Selection

@@ -10,6 +10,7 @@
 mod fault;
 mod laws;
 mod parts;
+mod query;
 mod request;
 mod resource;
 mod running;
@@ -26,6 +27,7 @@ pub use laws::{
     the_method_gives_the_verb_alone,
 };
 pub use parts::{parts_of, split};
+pub use query::query_value;
 pub use request::{audit_info, info};
 pub use running::long_running;
 pub use selection::{asks_else, asks_selection, asks_trial, selected_name};

@@ -1,4 +1,4 @@
-use Rattle.std.proofs.Common.{◌≡◌, ℕ, Bool, true, false, List, [], Some, refl, sym, ap, subst, ◌∙◌}
+use Rattle.std.proofs.Common.{◌≡◌, ℕ, Bool, true, false, List, Option, None, Some, refl, sym, ap, subst, ◌∙◌}
 use Rattle.std.specs.Prelude.{if◌then◌else◌, codes, ⊤}
 use Rattle.std.specs.Str.{bytes_eq}
 use Rattle.apiservice_rows.specs.Row.{Row}
@@ -8,13 +8,16 @@ use Rattle.front_base.specs.declared.user.User.{User}
 use Rattle.http_head.specs.Name.{first_value}
 use Rattle.http_head.specs.declared.header.Header.{Header}
 use Rattle.http_head.specs.declared.request.Head.{Head}
-use Rattle.local_replies.specs.Errand.{asked_errand, asks_table, by_master, delete, is_master, list_errand, look_services, looks, name_errand, seen_as, tried, tried_if}
+use Rattle.local_replies.specs.Errand.{asked_errand, asks_table, by_master, create, delete, is_directed, is_master, is_patch, list_errand, look_services, looks, name_errand, patch, replace, row_in, seen_as, table_for, table_with, tried, tried_if}
 use Rattle.local_replies.specs.Serve.{local_reply, rows_after}
 use Rattle.local_replies.specs.declared.errand.LocalErrand.{LocalErrand}
 use Rattle.local_replies.specs.declared.errand.LocalErrand.TheVariants.{Deny, Conflict, Look, Tabulate, Write, Try}
 use Rattle.local_replies.specs.declared.local.Local.{Local}
 use Rattle.local_replies.specs.declared.local.Local.TheVariants.{Health, GroupList, OneGroup, ResourceList, AllServices, OneService, ServicesNamed, Unserved}
+use Rattle.request_info.specs.Query.{query_value}
 use Rattle.request_info.specs.Selection.{asks_trial}
+use Rattle.service_tables.specs.Include.{include_object}
+use Rattle.service_tables.specs.declared.include.IncludeObject.{IncludeObject}
 use Rattle.write_bodies.specs.Deletion.{deletion_of}
 use Rattle.write_bodies.specs.declared.deletion.Deletion.TheVariants.{Trial}
 use Rattle.local_replies.proofs.laws.dry_runs_change_nothing.Goals as goal
@@ -25,7 +28,7 @@ abbrev IsNoWrite : LocalErrand → Type 0
 IsNoWrite (Deny code) = ⊤
 IsNoWrite (Conflict name) = ⊤
 IsNoWrite Look = ⊤
-IsNoWrite (Tabulate moment) = ⊤
+IsNoWrite (Tabulate include moment) = ⊤
 IsNoWrite (Write change) = ⊥
 IsNoWrite (Try change) = ⊤
 
@@ -33,7 +36,7 @@ tried_writes_not : (own : LocalErrand) → IsNoWrite (tried own)
 tried_writes_not (Deny code) = tt
 tried_writes_not (Conflict name) = tt
 tried_writes_not Look = tt
-tried_writes_not (Tabulate moment) = tt
+tried_writes_not (Tabulate include moment) = tt
 tried_writes_not (Write change) = tt
 tried_writes_not (Try change) = tt
 
@@ -45,8 +48,14 @@ either : (b : Bool) (x y : LocalErrand) → IsNoWrite x → IsNoWrite y → IsNo
 either true x y h k = h
 either false x y h k = k
 
+table : (include : Option IncludeObject) (moment : ℕ) → IsNoWrite (table_with include moment)
+table None moment = tt
+table (Some include) moment = tt
+
 seen : (head : Head) (moment : ℕ) → IsNoWrite (seen_as head moment)
-seen head moment = either (asks_table (first_value (codes "accept") head.headers)) (Tabulate moment) Look tt tt
+seen head moment =
+    either (asks_table (first_value (codes "accept") head.headers)) (table_for head.target moment) Look
+    (table (include_object (query_value (codes "includeObject") head.target)) moment) tt
 
 services : (head : Head) (moment : ℕ) → IsNoWrite (look_services head moment)
 services head moment = either (looks head.method) (seen_as head moment) (Deny 405) (seen head moment) tt
@@ -90,31 +99,53 @@ module _ (info : Info) (head : Head) (moment : ℕ) (body : List ℕ) (user : Us
       (either (looks head.method) (seen_as head moment) (Deny 400) (seen head moment) tt)
   writes_not Unserved = tt
 
--- ---- what is wanted goes by the method and the headers
-
-abbrev bare : List ℕ → List Header → Head
-bare method headers = record { method = method; target = []; minor = 0; headers = headers }
+-- ---- what is wanted goes by the method, the headers and what a Table is to include
 
 module _ (info : Info) (moment : ℕ) (body : List ℕ) (user : User) where
-  bare_same : (local : Local) (head : Head) → asked_errand local info head moment body user
-      ≡ asked_errand local info (bare head.method head.headers) moment body user
-  unfolding list_errand name_errand
-  bare_same Health head = refl
-  bare_same GroupList head = refl
-  bare_same (OneGroup name) head = refl
-  bare_same ResourceList head = refl
-  bare_same AllServices head = refl
-  bare_same (OneService name) head = refl
-  bare_same (ServicesNamed name) head = refl
-  bare_same Unserved head = refl
+  abbrev list_with : List ℕ → LocalErrand → LocalErrand
+  list_with method look =
+      if bytes_eq info.verb (codes "watch") then Deny 405
+      else if bytes_eq method (codes "POST") then by_master user (create (row_in body)) else look
 
-  alike : (local : Local) (head plain : Head) → head.method ≡ plain.method → head.headers ≡ plain.headers
-      → asked_errand local info head moment body user ≡ asked_errand local info plain moment body user
-  alike local head plain method headers =
-      bare_same local head
-      ∙ ap (λ (m : List ℕ). asked_errand local info (bare m head.headers) moment body user) method
-      ∙ ap (λ (hs : List Header). asked_errand local info (bare plain.method hs) moment body user) headers
-      ∙ sym (bare_same local plain)
+  abbrev name_with : List ℕ → List ℕ → List Header → LocalErrand → LocalErrand
+  name_with name method headers look =
+      if bytes_eq method (codes "PUT") then by_master user (replace name (row_in body))
+      else if bytes_eq method (codes "DELETE") then by_master user (delete name (deletion_of body))
+      else if bytes_eq method (codes "PATCH") then
+      patch (is_patch (first_value (codes "content-type") headers)) (is_directed (first_value (codes "content-type") headers) body) name body user
+      else look
+
+  abbrev looks_with : List ℕ → LocalErrand → LocalErrand → LocalErrand
+  looks_with method look other = if looks method then look else other
+
+  module _ (head plain : Head) (method : head.method ≡ plain.method) (headers : head.headers ≡ plain.headers)
+      (includes : query_value (codes "includeObject") head.target ≡ query_value (codes "includeObject") plain.target) where
+    same_seen : seen_as head moment ≡ seen_as plain moment
+    same_seen =
+        ap (λ (hs : List Header). if asks_table (first_value (codes "accept") hs) then table_for head.target moment else Look) headers
+        ∙ ap (λ (value : Option (List ℕ)). if asks_table (first_value (codes "accept") plain.headers) then table_with (include_object value) moment else Look) includes
+
+    same_look : (other : LocalErrand) → looks_with head.method (seen_as head moment) other ≡ looks_with plain.method (seen_as plain moment) other
+    same_look other =
+        ap (λ (m : List ℕ). looks_with m (seen_as head moment) other) method
+        ∙ ap (λ (look : LocalErrand). looks_with plain.method look other) same_seen
+
+    alike : (local : Local) → asked_errand local info head moment body user ≡ asked_errand local info plain moment body user
+    unfolding list_errand name_errand
+    alike Health = ap (λ (m : List ℕ). looks_with m Look (Deny 405)) method
+    alike GroupList = ap (λ (m : List ℕ). looks_with m Look (Deny 405)) method
+    alike (OneGroup name) = ap (λ (m : List ℕ). looks_with m Look (Deny 405)) method
+    alike ResourceList = ap (λ (m : List ℕ). looks_with m Look (Deny 405)) method
+    alike AllServices =
+        ap (λ (m : List ℕ). list_with m (look_services head moment)) method
+        ∙ ap (λ (look : LocalErrand). list_with plain.method look) (same_look (Deny 405))
+    alike (OneService name) =
+        ap (λ (m : List ℕ). name_with name m head.headers (look_services head moment)) method
+        ∙ ap (λ (hs : List Header). name_with name plain.method hs (look_services head moment)) headers
+        ∙ ap (λ (look : LocalErrand). name_with name plain.method plain.headers look) (same_look (Deny 405))
+    alike (ServicesNamed name) =
+        ap (λ (look : LocalErrand). if bytes_eq info.verb (codes "watch") then Deny 405 else look) (same_look (Deny 400))
+    alike Unserved = refl
 
 -- ---- the reply, and the rows
 
@@ -122,7 +153,7 @@ same_reply : (rows : List Row) (local : Local) (own : LocalErrand) → local_rep
 same_reply rows local (Deny code) = refl
 same_reply rows local (Conflict name) = refl
 same_reply rows local Look = refl
-same_reply rows local (Tabulate moment) = refl
+same_reply rows local (Tabulate include moment) = refl
 same_reply rows local (Write change) = refl
 same_reply rows local (Try change) = refl
 
@@ -130,7 +161,7 @@ same_rows : (rows : List Row) (own : LocalErrand) → rows_after rows (tried own
 same_rows rows (Deny code) = refl
 same_rows rows (Conflict name) = refl
 same_rows rows Look = refl
-same_rows rows (Tabulate moment) = refl
+same_rows rows (Tabulate include moment) = refl
 same_rows rows (Write change) = refl
 same_rows rows (Try change) = refl
 
@@ -146,10 +177,10 @@ returns-clause-options c = λ local info head moment body user change method ask
     (writes_not info head moment body user method asks local))
 
 pub returns-clause-wants : goal.returns-clause-wants
-returns-clause-wants c = λ local info head plain moment body user method headers asks none.
+returns-clause-wants c = λ local info head plain moment body user method headers includes asks none.
     let own : LocalErrand = asked_errand local info plain moment body user in
     ap (λ (b : Bool). tried_if b (asked_errand local info head moment body user)) asks
-    ∙ ap tried (alike info moment body user local head plain method headers)
+    ∙ ap tried (alike info moment body user head plain method headers includes local)
     ∙ sym (ap (λ (b : Bool). tried (tried_if b own)) none)
 
 pub returns-clause-reply : goal.returns-clause-reply

@@ -5,9 +5,9 @@ use Rattle.front_base.specs.declared.info.Info.{Info}
 use Rattle.front_base.specs.declared.user.User.{User}
 use Rattle.http_head.specs.Name.{first_value}
 use Rattle.http_head.specs.declared.request.Head.{Head}
-use Rattle.local_replies.specs.Errand.{asks_table, asked_errand, by_master, create, delete, is_directed, is_patch, list_errand, looks, name_errand, patch, replace, row_in, seen_as, tried_if}
+use Rattle.local_replies.specs.Errand.{asks_table, asked_errand, by_master, create, delete, is_directed, is_patch, list_errand, looks, name_errand, patch, replace, row_in, seen_as, table_for, tried_if}
 use Rattle.local_replies.specs.declared.errand.LocalErrand.{LocalErrand}
-use Rattle.local_replies.specs.declared.errand.LocalErrand.TheVariants.{Deny, Look, Tabulate}
+use Rattle.local_replies.specs.declared.errand.LocalErrand.TheVariants.{Deny, Look}
 use Rattle.local_replies.specs.declared.local.Local.{Local}
 use Rattle.local_replies.specs.declared.local.Local.TheVariants.{Health, GroupList, OneGroup, ResourceList, AllServices, OneService, ServicesNamed, Unserved}
 use Rattle.request_info.specs.Selection.{asks_trial}
@@ -18,7 +18,8 @@ module _ (info : Info) (head : Head) (moment other : ℕ) (body : List ℕ) (use
     (none : asks_table (first_value (codes "accept") head.headers) ≡ false) where
   same : seen_as head moment ≡ seen_as head other
   same =
-      ap (λ (b : Bool). if b then Tabulate moment else Look) none ∙ sym (ap (λ (b : Bool). if b then Tabulate other else Look) none)
+      ap (λ (b : Bool). if b then table_for head.target moment else Look) none
+      ∙ sym (ap (λ (b : Bool). if b then table_for head.target other else Look) none)
 
   -- what a look is answered by, where it is one
   looked_so : (refused : LocalErrand) → (if looks head.method then seen_as head moment else refused)

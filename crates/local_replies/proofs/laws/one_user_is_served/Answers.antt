@@ -43,8 +43,8 @@ module _ (stands : Stands) (takes : Takes) (local : Local) (old new : Story) (re
   served (Conflict name) change h = (h.0, stands old new later fixed h.3)
   served Look change h =
       (h.0 ∙ ap (looked local) (same_then h.2), stands old new later fixed h.2)
-  served (Tabulate moment) change h =
-      (h.0 ∙ ap (tabulated local moment) (same_then h.2), stands old new later fixed h.2)
+  served (Tabulate include moment) change h =
+      (h.0 ∙ ap (tabulated local include moment) (same_then h.2), stands old new later fixed h.2)
   served (Try c) change h = (
     h.0 ∙ ap (λ (rows : List Row). change_reply rows c (table.refusal rows c)) (same_then h.2),
     stands old new later fixed h.2,

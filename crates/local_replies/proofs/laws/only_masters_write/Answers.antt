@@ -1,16 +1,19 @@
-use Rattle.std.proofs.Common.{◌≡◌, ℕ, Bool, true, false, List, subst}
+use Rattle.std.proofs.Common.{◌≡◌, ℕ, Bool, true, false, List, Option, None, Some, subst}
 use Rattle.std.specs.Prelude.{if◌then◌else◌, codes, ⊤}
 use Rattle.std.specs.Str.{bytes_eq}
 use Rattle.front_base.specs.declared.info.Info.{Info}
 use Rattle.front_base.specs.declared.user.User.{User}
 use Rattle.http_head.specs.Name.{first_value}
 use Rattle.http_head.specs.declared.request.Head.{Head}
-use Rattle.local_replies.specs.Errand.{asked_errand, asks_table, by_master, create, delete, is_directed, is_master, is_patch, list_errand, local_errand, look_only, look_services, looks, name_errand, patch, replace, row_in, seen_as, served_patch, tried_if}
+use Rattle.local_replies.specs.Errand.{asked_errand, asks_table, by_master, create, delete, is_directed, is_master, is_patch, list_errand, local_errand, look_only, look_services, looks, name_errand, patch, replace, row_in, seen_as, served_patch, table_for, table_with, tried_if}
 use Rattle.local_replies.specs.declared.errand.LocalErrand.{LocalErrand}
 use Rattle.local_replies.specs.declared.errand.LocalErrand.TheVariants.{Deny, Conflict, Look, Tabulate, Write, Try}
 use Rattle.local_replies.specs.declared.local.Local.{Local}
 use Rattle.local_replies.specs.declared.local.Local.TheVariants.{Health, GroupList, OneGroup, ResourceList, AllServices, OneService, ServicesNamed, Unserved}
+use Rattle.request_info.specs.Query.{query_value}
 use Rattle.request_info.specs.Selection.{asks_trial}
+use Rattle.service_tables.specs.Include.{include_object}
+use Rattle.service_tables.specs.declared.include.IncludeObject.{IncludeObject}
 use Rattle.write_bodies.specs.Deletion.{deletion_of}
 use Rattle.local_replies.proofs.laws.only_masters_write.Goals as goal
 
@@ -19,7 +22,7 @@ abbrev IsNoWrite : LocalErrand → Type 0
 IsNoWrite (Deny code) = ⊤
 IsNoWrite (Conflict name) = ⊤
 IsNoWrite Look = ⊤
-IsNoWrite (Tabulate moment) = ⊤
+IsNoWrite (Tabulate include moment) = ⊤
 IsNoWrite (Write change) = ⊥
 IsNoWrite (Try change) = ⊥
 
@@ -30,8 +33,14 @@ either false x y h k = k
 only_look : (method : List ℕ) → IsNoWrite (look_only method)
 only_look method = either (looks method) Look (Deny 405) tt tt
 
+table : (include : Option IncludeObject) (moment : ℕ) → IsNoWrite (table_with include moment)
+table None moment = tt
+table (Some include) moment = tt
+
 seen : (head : Head) (moment : ℕ) → IsNoWrite (seen_as head moment)
-seen head moment = either (asks_table (first_value (codes "accept") head.headers)) (Tabulate moment) Look tt tt
+seen head moment =
+    either (asks_table (first_value (codes "accept") head.headers)) (table_for head.target moment) Look
+    (table (include_object (query_value (codes "includeObject") head.target)) moment) tt
 
 services : (head : Head) (moment : ℕ) → IsNoWrite (look_services head moment)
 services head moment = either (looks head.method) (seen_as head moment) (Deny 405) (seen head moment) tt
@@ -85,7 +94,7 @@ tried_too false own h = h
 tried_too true (Deny code) h = h
 tried_too true (Conflict name) h = h
 tried_too true Look h = h
-tried_too true (Tabulate moment) h = h
+tried_too true (Tabulate include moment) h = h
 tried_too true (Write change) h = h
 tried_too true (Try change) h = h
 

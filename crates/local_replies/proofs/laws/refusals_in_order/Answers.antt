@@ -9,12 +9,15 @@ use Rattle.front_base.specs.declared.info.Info.{Info}
 use Rattle.front_base.specs.declared.user.User.{User}
 use Rattle.http_head.specs.Name.{first_value}
 use Rattle.http_head.specs.declared.request.Head.{Head}
-use Rattle.local_replies.specs.Errand.{asked_errand, asks_table, create, delete, is_directed, is_master, is_patch, list_errand, listed_errand, look_only, look_services, looks, name_errand, patch, replace, row_in, seen_as, served_patch, tried, tried_if}
+use Rattle.local_replies.specs.Errand.{asked_errand, asks_table, create, delete, is_directed, is_master, is_patch, list_errand, listed_errand, look_only, look_services, looks, name_errand, patch, replace, row_in, seen_as, served_patch, table_for, table_with, tried, tried_if}
 use Rattle.local_replies.specs.declared.errand.LocalErrand.{LocalErrand}
 use Rattle.local_replies.specs.declared.errand.LocalErrand.TheVariants.{Deny, Conflict, Look, Tabulate, Write, Try}
 use Rattle.local_replies.specs.declared.local.Local.{Local}
 use Rattle.local_replies.specs.declared.local.Local.TheVariants.{Health, GroupList, OneGroup, ResourceList, AllServices, OneService, ServicesNamed, Unserved}
+use Rattle.request_info.specs.Query.{query_value}
 use Rattle.request_info.specs.Selection.{asks_trial}
+use Rattle.service_tables.specs.Include.{include_object}
+use Rattle.service_tables.specs.declared.include.IncludeObject.{IncludeObject}
 use Rattle.write_bodies.specs.Deletion.{deletion_of}
 use Rattle.write_bodies.specs.declared.deletion.Deletion.{Deletion}
 use Rattle.write_bodies.specs.declared.deletion.Deletion.TheVariants.{Plain, Trial, Conditional}
@@ -28,7 +31,7 @@ abbrev code_of : LocalErrand → ℕ
 code_of (Deny code) = code
 code_of (Conflict name) = 0
 code_of Look = 0
-code_of (Tabulate moment) = 0
+code_of (Tabulate include moment) = 0
 code_of (Write change) = 0
 code_of (Try change) = 0
 
@@ -51,26 +54,30 @@ look_422 method = either (looks method)
     either true e = cc e
     either false e = apart _ _ refl e
 
+table_passes : (code : ℕ) (include : Option IncludeObject) (moment : ℕ) → (400 == code) ≡ false → Passes code (table_with include moment)
+table_passes code None moment differ e = apart _ _ differ e
+table_passes code (Some include) moment differ e = cc e
+
 -- a look at APIServices, in whatever form
-seen_passes : (code : ℕ) (head : Head) (moment : ℕ) → Passes code (seen_as head moment)
-seen_passes code head moment = either (asks_table (first_value (codes "accept") head.headers))
+seen_passes : (code : ℕ) (head : Head) (moment : ℕ) → (400 == code) ≡ false → Passes code (seen_as head moment)
+seen_passes code head moment differ = either (asks_table (first_value (codes "accept") head.headers))
   where
-    either : (b : Bool) → Passes code (if b then Tabulate moment else Look)
-    either true e = cc e
+    either : (b : Bool) → Passes code (if b then table_for head.target moment else Look)
+    either true e = table_passes code (include_object (query_value (codes "includeObject") head.target)) moment differ e
     either false e = cc e
 
 services_403 : (head : Head) (moment : ℕ) → Passes 403 (look_services head moment)
 services_403 head moment = either (looks head.method)
   where
     either : (b : Bool) → Passes 403 (if b then seen_as head moment else Deny 405)
-    either true e = seen_passes 403 head moment e
+    either true e = seen_passes 403 head moment refl e
     either false e = apart _ _ refl e
 
 services_422 : (head : Head) (moment : ℕ) → Passes 422 (look_services head moment)
 services_422 head moment = either (looks head.method)
   where
     either : (b : Bool) → Passes 422 (if b then seen_as head moment else Deny 405)
-    either true e = seen_passes 422 head moment e
+    either true e = seen_passes 422 head moment refl e
     either false e = apart _ _ refl e
 
 listed_403 : (info : Info) (head : Head) (moment : ℕ) → Passes 403 (listed_errand info head moment)
@@ -78,7 +85,7 @@ listed_403 info head moment = either (bytes_eq info.verb (codes "watch")) (looks
   where
     either : (w b : Bool) → Passes 403 (if w then Deny 405 else if b then seen_as head moment else Deny 400)
     either true b e = apart _ _ refl e
-    either false true e = seen_passes 403 head moment e
+    either false true e = seen_passes 403 head moment refl e
     either false false e = apart _ _ refl e
 
 listed_422 : (info : Info) (head : Head) (moment : ℕ) → Passes 422 (listed_errand info head moment)
@@ -86,7 +93,7 @@ listed_422 info head moment = either (bytes_eq info.verb (codes "watch")) (looks
   where
     either : (w b : Bool) → Passes 422 (if w then Deny 405 else if b then seen_as head moment else Deny 400)
     either true b e = apart _ _ refl e
-    either false true e = seen_passes 422 head moment e
+    either false true e = seen_passes 422 head moment refl e
     either false false e = apart _ _ refl e
 
 create_403 : (row : Option Row) → Passes 403 (create row)
@@ -317,7 +324,7 @@ back false own code e = e
 back true (Deny other) code e = e
 back true (Conflict name) code e = absurd (cc e)
 back true Look code e = absurd (cc e)
-back true (Tabulate moment) code e = absurd (cc e)
+back true (Tabulate include moment) code e = absurd (cc e)
 back true (Write change) code e = absurd (cc e)
 back true (Try change) code e = absurd (cc e)
 
