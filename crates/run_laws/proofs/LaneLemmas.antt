@@ -222,18 +222,24 @@ module _ {R L N W H T K Y D C : Type 0} (h : BayHandles R L N W H K Y D C) (set 
   }
 
   pub log_batches_are : (accepts : Accepts) (fills : Fills) (options : RunOptions) (allots : List ℕ) (bays : List (BayEnd R L K Y D)) (end : SinkEnd W K)
-      (served : (k : ℕ) → IfSome (slice_get bays k) (BayServed h set log_new hook_new boot due tables logs hooks k))
+      (count : length bays ≡ options.bays) (served : (k : ℕ) → IfSome (slice_get bays k) (BayServed h set log_new hook_new boot due tables logs hooks k))
       → (d : IsDrained h.log h.clock log_new options.bays options.buffer allots options.limits logs end)
       → BatchesAre h h.log log_new set Log options allots (exchanges_by bays served) bays end d.tries
   unfolding log_batches
-  log_batches_are accepts fills options allots bays end served d = record { told = log_batches accepts fills options allots bays end served d; tries_are = refl }
+  log_batches_are accepts fills options allots bays end count served d = record {
+    told = log_batches accepts fills options allots bays end count served d;
+    tries_are = refl;
+  }
 
   pub hook_batches_are : (accepts : Accepts) (fills : Fills) (options : RunOptions) (allots : List ℕ) (bays : List (BayEnd R L K Y D)) (end : SinkEnd H K)
-      (served : (k : ℕ) → IfSome (slice_get bays k) (BayServed h set log_new hook_new boot due tables logs hooks k))
+      (count : length bays ≡ options.bays) (served : (k : ℕ) → IfSome (slice_get bays k) (BayServed h set log_new hook_new boot due tables logs hooks k))
       → (d : IsDrained h.hook h.clock hook_new options.bays options.buffer allots options.limits hooks end)
       → BatchesAre h h.hook hook_new set Webhook options allots (exchanges_by bays served) bays end d.tries
   unfolding hook_batches
-  hook_batches_are accepts fills options allots bays end served d = record { told = hook_batches accepts fills options allots bays end served d; tries_are = refl }
+  hook_batches_are accepts fills options allots bays end count served d = record {
+    told = hook_batches accepts fills options allots bays end count served d;
+    tries_are = refl;
+  }
 
   -- ---- tries of a bay's own sink
 
