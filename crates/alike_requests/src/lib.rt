@@ -2,8 +2,8 @@
 //!
 //! `door_seen` lists what the connections of a door asked for, each request with its moments and with what it was answered by, and
 //! `a_door_notes_its_requests` says that their exchanges are these and no other. `AlikeSeen` is what two of them must have in common:
-//! at level None nothing but what became of their events; above None what was asked, by whom and as whom, and when, an answer with
-//! the same status, and as much of the bodies as the level shows. `alike_requests_are_noted_alike` is the law, and
+//! at None their level alone; above None what was asked, by whom and as whom, and when, an answer with the same status, as much of
+//! the bodies as the level shows, and what became of each event that fits in a line. `alike_requests_are_noted_alike` is the law, and
 //! `managed_fields_are_not_seen` says that bodies which differ in managed fields alone are kept alike where these are omitted.
 //!
 //! Nothing runs here: these are laws of definitions.

@@ -77,7 +77,7 @@ pub fn alike_requests_make_alike_bays<P: Plant, R: Routes>()
 }
 
 /// From the requests to the bytes: two runs whose bays served requests that look alike, with the same drops and failures, sent each
-/// sink the same bytes, where its tries were cut alike. What lies below the recorded level of a request reaches no sink.
+/// sink the same bytes, where its tries were cut alike. There what lies below the recorded level of a request shows in no sink's bytes.
 pub fn alike_requests_leave_the_same_audit<P: Plant, R: Routes>()
     ensures batch { let h = bay_handles R.Routes P.L.Dial P.W.BatchSink P.H.BatchSink P.K.Clock P.Y.Diary P.D.Door
         P.D.C.Source P.D.C.ByteSink P.D.C.Conn.own in

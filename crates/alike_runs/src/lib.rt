@@ -5,9 +5,11 @@
 //! tries were cut alike, and a sink that all bays share has the lines of the same bays in the same order. Then each sink was sent
 //! the same bytes. `same_audit` and `same_audit_at_once` say it of the exchanges that bays had.
 //!
-//! These laws speak of plants that tell: whose ports have what they were given. Over TCP ports tell nothing, and so do these laws.
-//! Equal drops and equal cuts are premises; that a schedule gives them is said of steps
-//! alone, by `two_worlds`.
+//! `alike_requests_leave_the_same_lines` speaks of the lines that a sink in mode batch was tried with, and has no premise of what ports
+//! record: so it speaks of runs over TCP, too. Of each bay these lines are the same.
+//!
+//! The laws of bytes speak of plants whose ports record what they were given. Over TCP none does, and these laws say nothing.
+//! Equal drops are premises of all laws, equal cuts of those of bytes. That a schedule gives them is said of steps alone, by `two_worlds`.
 #![tactic(auto)]
 
 mod laws;

@@ -24,8 +24,8 @@ pub fn parts_conform()
         → AllConform policy [] (texts (done_of tries)) }
 {}
 
-/// Each exchange of a door's connections is recorded as a request of its own, whatever came of it, under audit IDs with the bay's word
-/// and number, whose numbers go up by one.
+/// Each exchange of a door's connections is recorded as the request that it answered, whatever came of it, under audit IDs with the
+/// bay's word and number, whose numbers go up by one.
 pub fn exchanges_are_recorded<C>()
     ensures { (tells : C → ConnTells) (set : Settings) (m n : BayState) (all : List (ServedConn C))
         → Ran tells set m all n → AreNoted set m.boot m.lanes.bay m.number (exchanges_of all) }

@@ -1,6 +1,7 @@
 -- How many events of a run of `explain` are too large.
 use Rattle.std.proofs.Common.{◌≡◌, ◌≤◌, ◌<◌, ◌+◌, ◌*◌, ◌^◌, ℕ, Bool, true, false, cond, if◌then◌else◌, List, [], ◌∷◌, ◌++◌, length, Option, inl, inr, refl, ap, ap₂, sym, ◌∙◌, subst, arith, lit≤}
 use Rattle.std.proofs.lemmas.List.Elements.{All-from_recursion}
+use Rattle.std.proofs.lemmas.List.Sums.{sum_by-cons}
 use Rattle.std.specs.List.{AllByRecursion}
 use Rattle.apiservice_rows.specs.Row.{Row}
 use Rattle.audit_core.specs.Answer.{status_of}
@@ -111,7 +112,9 @@ not_large (fit.TooLarge size) h = absurd h
 
 none_large : (max : ℕ) (events : List Event) → AllByRecursion (λ (e : Event). IsWritten (fitted e max)) events → too_large max events ≡ 0
 none_large max [] h = refl
-none_large max (e ∷ events) h = ap₂ (λ own rest. own + rest) (not_large (fitted e max) h.0) (none_large max events h.1)
+none_large max (e ∷ events) h =
+    sum_by-cons (λ (own : Event). cond (is_too_large (fitted own max)) 1 0) e events
+    ∙ ap₂ (λ own rest. own + rest) (not_large (fitted e max) h.0) (none_large max events h.1)
 
 none_unless : (routes : Bool) (n : ℕ) → n ≡ 0 → (if routes then 0 else n) ≡ 0
 none_unless true n e = refl
