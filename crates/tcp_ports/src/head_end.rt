@@ -1,4 +1,7 @@
 // Where the head of a message ends, as its bytes alone show: at its first empty line.
+ghost use Rattle.std.specs.Prelude.{◌≤◌, length};
+
+use memchr::memchr;
 
 /// Where the bytes of a message stand.
 #[derive(Clone, Copy)]
@@ -19,5 +22,15 @@ pub(crate) fn place_after(place: Place, byte: u8) -> Place {
         (_, b'\n') => Place::LineEnd,
         (Place::LineEnd, b'\r') => Place::CarriageReturn,
         _ => Place::InLine,
+    }
+}
+
+/// How many bytes stand before the first line feed: all, where there is none.
+pub(crate) fn line_len(bytes: &[u8]) -> usize
+    ensures { result ≤ length bytes.now }
+{
+    match memchr(b'\n', bytes) {
+        Some(len) => len,
+        None => bytes.len(),
     }
 }

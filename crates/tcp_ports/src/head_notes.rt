@@ -1,5 +1,5 @@
 // What the lines of a request's head say of its body.
-use crate::head_line::HeadLine;
+use crate::head_line::{CONTENT_LENGTH, EXPECT, HeadLine, TRANSFER_ENCODING};
 use body_frames::Frame;
 use front_base::number_of;
 
@@ -43,16 +43,16 @@ impl HeadNotes {
         if !self.begun {
             self.begun = true;
             self.is_1_1 = line.ends_in_one();
-        } else if let Some(value) = line.value_of(b"content-length") {
+        } else if let Some(value) = line.value_of(CONTENT_LENGTH) {
             self.frame_by(length_frame(value));
-        } else if let Some(value) = line.value_of(b"transfer-encoding") {
+        } else if let Some(value) = line.value_of(TRANSFER_ENCODING) {
             let chunked = self.is_1_1 && value.eq_ignore_ascii_case(b"chunked");
             self.frame_by(if chunked {
                 Frame::Chunked
             } else {
                 Frame::Close
             });
-        } else if let Some(value) = line.value_of(b"expect") {
+        } else if let Some(value) = line.value_of(EXPECT) {
             self.expects |= self.is_1_1 && value.eq_ignore_ascii_case(b"100-continue");
         }
     }

@@ -1,4 +1,4 @@
-use crate::head_end::{Place, place_after};
+use crate::head_end::{Place, line_len, place_after};
 use crate::limits::TcpLimits;
 use crate::pace::Pace;
 
@@ -28,12 +28,29 @@ impl ReplyScan {
         }
     }
 
-    fn take(&mut self, bytes: &[u8]) {
-        let mut place = self.place;
-        for byte in bytes {
-            place = place_after(place, *byte);
+    // Takes the first bytes of a head, and answers how many these are: no byte behind its end is looked at.
+    fn take_some(&mut self, bytes: &[u8]) -> usize {
+        let Some(byte) = bytes.first() else {
+            return 0;
+        };
+        self.place = place_after(self.place, *byte);
+        match self.place {
+            Place::InLine => line_len(bytes),
+            Place::Body => bytes.len(),
+            Place::Start | Place::LineEnd | Place::CarriageReturn => 1,
         }
-        self.place = place;
+    }
+
+    fn take(&mut self, bytes: &[u8]) {
+        let mut rest = bytes;
+        // Each turn takes one byte at least.
+        for _ in 0..bytes.len() {
+            let taken = self.take_some(rest);
+            if rest.len() <= taken {
+                return;
+            }
+            rest = &rest[taken..];
+        }
     }
 
     /// A read waited so many milliseconds for so many bytes of the body. Whether none has come for so long.

@@ -1,4 +1,4 @@
-use crate::head_end::{Place, place_after};
+use crate::head_end::{Place, line_len, place_after};
 use crate::head_line::HeadLine;
 use crate::head_notes::HeadNotes;
 use crate::limits::TcpLimits;
@@ -78,11 +78,18 @@ impl RequestScan {
         }
     }
 
-    // A byte of a head, or before one.
-    fn take_byte(&mut self, byte: u8) {
-        self.place = place_after(self.place, byte);
+    // Bytes of a head, or before one, and how many of them were taken: those of one line, or one.
+    fn take_head(&mut self, bytes: &[u8]) -> usize {
+        let Some(byte) = bytes.first() else {
+            return 0;
+        };
+        self.place = place_after(self.place, *byte);
         match self.place {
-            Place::InLine => self.line.put(byte),
+            Place::InLine => {
+                let len = line_len(bytes);
+                self.line.put(&bytes[..len]);
+                return len;
+            }
             Place::LineEnd => {
                 self.head.note(&self.line);
                 self.line = HeadLine::new();
@@ -90,6 +97,7 @@ impl RequestScan {
             Place::Body => self.end_head(),
             Place::Start | Place::CarriageReturn => {}
         }
+        1
     }
 
     // Bytes of a body, and how many of them are its own.
@@ -112,12 +120,10 @@ impl RequestScan {
     // Takes the first bytes, and answers how many these are.
     fn take_some(&mut self, bytes: &[u8]) -> usize {
         if self.is_in_body() {
-            return self.take_body(bytes);
+            self.take_body(bytes)
+        } else {
+            self.take_head(bytes)
         }
-        if let Some(byte) = bytes.first() {
-            self.take_byte(*byte);
-        }
-        1
     }
 
     fn take(&mut self, bytes: &[u8]) {
