@@ -1,0 +1,2 @@
+pub use Rattle.event_members.specs.Ranges
+pub mod InRange
