@@ -41,8 +41,9 @@ use Rattle.audit_reader.specs.Plain.{Fits, IsPlain, IsBody, IsKeptJson, named_or
 use Rattle.audit_check.specs.Agreement.{info_of, IsInPlace, IsDecided, decision_on, is_answered, is_complete, user_in_place, acting_in_place}
 use Rattle.audit_check.specs.Conforms.{AllConform}
 use Rattle.audit_check.specs.Lines.{IsLine, HasStage, rank}
-use Rattle.audit_check.specs.OwnLines.{AreInRange, AreOfOthers, IsKeptOfAny, IsLineOf}
+use Rattle.audit_check.specs.OwnLines.{AreOfOthers, IsKeptOfAny, IsLineOf}
 use Rattle.audit_check.proofs.LineLemmas.{OneEvent, IsNew, more_cases}
+use Rattle.fact_ranges.specs.InRange.{AreInRange}
 
 -- ---- what an event of the exchange is
 

@@ -1,18 +1,15 @@
--- What the facts of an exchange meet by the types of their fields, since contracts see texts and numbers without these bounds; and what is
--- known of those that are recorded.
-use Rattle.std.specs.Prelude.{◌≡◌, ◌⊎◌, ℕ, ◌<◌, ◌^◌, List, [], None, IfSome, Ok}
+-- What is known of the facts of an exchange that is recorded, and of its lines.
+use Rattle.std.specs.Prelude.{◌≡◌, ◌⊎◌, ℕ, List, [], None, Ok}
 use Rattle.audit_core.specs.Errand.{attributes_in, info_in}
 use Rattle.audit_core.specs.Exchange.{KeepsRequest, decision_in, facts_by}
 use Rattle.audit_core.specs.declared.settings.Settings.{Settings}
 use Rattle.audit_core.specs.declared.stamp.Stamp.{Stamp}
 use Rattle.audit_check.specs.Lines.{IsLast, IsLine}
-use Rattle.audit_reader.specs.Ranges.{IsUtf8, IsUser, IsPeer, IsReference}
 use Rattle.front_base.specs.AuditId.{AuditId}
-use Rattle.front_base.specs.declared.moment.TheConstants.{MOMENT_END}
 use Rattle.http_edge.specs.declared.request.Request.{Request}
 use Rattle.policy_rules.specs.declared.decision.Decision.{Decision}
 use Rattle.stage_event.specs.Due.{reply_show}
-use Rattle.stage_event.specs.Events.{object, reference}
+use Rattle.stage_event.specs.Events.{object}
 use Rattle.stage_event.specs.Kept.{IsKeptAs}
 use Rattle.stage_event.specs.declared.event.Event.{Event}
 use Rattle.stage_event.specs.declared.facts.Facts.{Facts}
@@ -20,22 +17,6 @@ use Rattle.stage_event.specs.declared.facts.Kept.{Kept}
 use Rattle.stage_event.specs.declared.show.Show.{Show}
 use Rattle.token_users.specs.File.{file_records}
 use Rattle.token_users.specs.declared.record.Record.{Record}
-
-pub record AreInRange (facts : Facts) : Type 0 where
-  pub boot : facts.id.boot < 2 ^ 64
-  pub bay : facts.id.bay < 2 ^ 16
-  pub number : facts.id.number < 2 ^ 48
-  pub target : IsUtf8 facts.target
-  pub verb : IsUtf8 facts.info.verb
-  pub named : IsReference (reference facts.info)
-  pub user : IsUser facts.user
-  pub acting : IfSome facts.acting IsUser
-  pub peer : IsPeer facts.peer
-  pub agent : IsUtf8 facts.agent
-  pub status : facts.status < 65536
-  pub received : facts.received < MOMENT_END
-  pub started : facts.started < MOMENT_END
-  pub complete : facts.complete < MOMENT_END
 
 -- there are no tokens, or they are those of a token file that is accepted
 abbrev pub AreOfFile : List Record → Type 0

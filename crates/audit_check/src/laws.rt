@@ -7,6 +7,7 @@ ghost use Rattle.audit_core.specs.declared.link_note.LinkNote.{LinkNote};
 ghost use Rattle.audit_core.specs.declared.routed.Handling.{Handling};
 ghost use Rattle.audit_core.specs.declared.settings.Settings.{Settings};
 ghost use Rattle.audit_core.specs.declared.stamp.Stamp.{Stamp};
+ghost use Rattle.fact_ranges.specs.InRange.{AreInRange};
 ghost use Rattle.policy_rules.specs.declared.decision.Decision.{Decision};
 ghost use Rattle.policy_rules.specs.declared.policy.Policy.{Policy};
 ghost use Rattle.http_edge.specs.declared.request.Request.{Request};
@@ -14,7 +15,7 @@ ghost use Rattle.stage_event.specs.declared.facts.Facts.{Facts};
 ghost use Rattle.audit_check.specs.Conforms.{AllConform, IsKnown, Judges};
 ghost use Rattle.audit_check.specs.declared.fault.LineFault.{LineFault};
 ghost use Rattle.audit_check.specs.Logs.{MayStand, StagesRise};
-ghost use Rattle.audit_check.specs.OwnLines.{AreInRange, AreOfFile, AreOfOthers, IsLineOf, IsRecorded};
+ghost use Rattle.audit_check.specs.OwnLines.{AreOfFile, AreOfOthers, IsLineOf, IsRecorded};
 
 use audit_reader::reads_back;
 use json_prune::{kept_is_json, mended_once};

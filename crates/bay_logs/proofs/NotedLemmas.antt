@@ -109,6 +109,7 @@ exchange_noted set peer r m text n end x h = record {
   stamp = h.stamp;
   id_is = h.id_is;
   recorded = of_own set h.stamp r x h.request_is (answer_recorded set h.stamp r x.handling (answered_of x) h.came end h.answered);
+  in_range = h.in_range;
 }
 
 halted_noted : (set : Settings) (peer : List ℕ) (r : Request) (m n : BayState) (w0 w : Option (List ℕ)) (rose : Type 0) (x : Exchange)
@@ -122,6 +123,7 @@ halted_noted set peer r m n w0 w rose x h = record {
     reply_is = reply_of_stopped set r m n w0 w rose h.begun.stamp h.due x h.stopped;
     facts_are = h.begun.facts_are;
   });
+  in_range = h.in_range;
 }
 
 -- ---- the number of a bay

@@ -4,7 +4,7 @@ ghost use Rattle.audit_check.specs.OwnLines.{AreOfFile};
 ghost use Rattle.audit_core.specs.declared.offers.Outcome.{Outcome};
 ghost use Rattle.audit_core.specs.declared.settings.Settings.{Settings};
 ghost use Rattle.audit_core.specs.declared.sinks.Sink.{Sink};
-ghost use Rattle.bay_logs.specs.Noted.{AllInRange, AreNoted};
+ghost use Rattle.bay_logs.specs.Noted.{AreNoted};
 ghost use Rattle.bay_logs.specs.Woven.{AreWoven, IsPart, texts};
 ghost use Rattle.bay_runs.specs.Runs.{ConnTells, Ran, ServedConn, exchanges_of};
 ghost use Rattle.front_base.specs.Line.{Line};
@@ -24,8 +24,8 @@ pub fn parts_conform()
         → AllConform policy [] (texts (done_of tries)) }
 {}
 
-/// Each exchange of a door's connections is recorded as the request that it answered, whatever came of it, under audit IDs with the
-/// bay's word and number, whose numbers go up by one.
+/// Each exchange of a door's connections is recorded as the request that it answered, whatever came of it, with facts in the range of
+/// their types. Its audit ID has the bay's word and number, and numbers go up by one.
 pub fn exchanges_are_recorded<C>()
     ensures { (tells : C → ConnTells) (set : Settings) (m n : BayState) (all : List (ServedConn C))
         → Ran tells set m all n → AreNoted set m.boot m.lanes.bay m.number (exchanges_of all) }
@@ -35,7 +35,7 @@ pub fn exchanges_are_recorded<C>()
 /// of their offers were taken, where the known tokens are those of a token file, or none.
 pub fn woven_lines_conform()
     ensures { (set : Settings) (boot : ℕ) (keeps : Outcome → Bool) (sink : Sink) (xs : ℕ → List Exchange) (lines : List Line)
-        → AreOfFile set.tokens → ((bay : ℕ) → AreNoted set boot bay 0 (xs bay)) → ((bay : ℕ) → AllInRange (xs bay)) → AreWoven keeps set sink xs lines
+        → AreOfFile set.tokens → ((bay : ℕ) → AreNoted set boot bay 0 (xs bay)) → AreWoven keeps set sink xs lines
         → AllConform set.policy [] (texts lines) }
 {
     recorded_lines();

@@ -5,8 +5,7 @@
 //! audit ID of the bay, also one whose reply was cut, and one that memory stopped. `parts_conform` says that some of the lines of
 //! a log that conforms, in their order, conform too.
 //!
-//! Not promised: that facts are in the range of their types, which is a premise. Contracts see numbers and texts without these ranges.
-//! Another premise is met by what `front_config` reads: the known tokens are those of a token file, or there are none.
+//! A premise is met by what `front_config` reads: the known tokens are those of a token file, or there are none.
 //!
 //! Nothing runs here: these are laws of definitions.
 #![tactic(auto)]

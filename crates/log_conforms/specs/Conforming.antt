@@ -3,7 +3,6 @@ use Rattle.std.specs.Prelude.{◌≡◌, ℕ, List, [], slice_get, Option, Some,
 use Rattle.audit_check.specs.Conforms.{AllConform}
 use Rattle.audit_core.specs.declared.settings.Settings.{Settings}
 use Rattle.audit_core.specs.declared.sinks.Sink.{Sink}
-use Rattle.bay_logs.specs.Noted.{AllInRange}
 use Rattle.bay_logs.specs.Woven.{texts}
 use Rattle.front_base.specs.Line.{Line}
 use Rattle.front_plants.specs.Fresh.{SinkOpens}
@@ -17,10 +16,6 @@ use Rattle.shared_queue.specs.Bays.{of_bay}
 use Rattle.sink_lanes.specs.declared.ending.SinkEnd.{SinkEnd}
 use Rattle.truncate_backend.specs.Tries.{Try, done_of, lines_of}
 use Rattle.truncate_backend.specs.declared.sink.BatchSink as sinks
-
--- the facts of all exchanges of each bay are in the range of their types, as every value of these types is
-abbrev pub BaysInRange : (ℕ → List Exchange) → Type 0
-BaysInRange xs = (bay : ℕ) → AllInRange (xs bay)
 
 -- the lines of these tries, joined, conform to the policy, and so do those that were written
 pub record TriesConform (policy : Policy) (tries : List Try) : Type 0 where

@@ -9,7 +9,7 @@ ghost use Rattle.audit_core.specs.declared.sinks.SinkMode.TheVariants.{Batch, Bl
 ghost use Rattle.bay_logs.specs.Woven.{AreWoven, texts};
 ghost use Rattle.front_base.specs.Line.{Line};
 ghost use Rattle.front_plants.specs.Plants.{PlantTells};
-ghost use Rattle.log_conforms.specs.Conforming.{AreTriedByBays, BatchesConform, BaysInRange};
+ghost use Rattle.log_conforms.specs.Conforming.{AreTriedByBays, BatchesConform};
 ghost use Rattle.run_laws.specs.Sides.{side_allots, side_end, side_sink};
 ghost use Rattle.serve_bays.specs.declared.options.RunOptions.{RunOptions};
 ghost use Rattle.serve_bays.specs.Sides.{side_opens};
@@ -30,7 +30,7 @@ pub fn lines_of_a_run_conform<P: Plant, R: Routes>()
         (ended : Ended R P.L P.W P.H P.K P.Y P.D)
         (served : RunServed (bay_handles R.Routes P.L.Dial P.W.BatchSink P.H.BatchSink P.K.Clock P.Y.Diary P.D.Door
         P.D.C.Source P.D.C.ByteSink P.D.C.Conn.own) P.Rt set options P.opens before after tables ended)
-        → AreOfFile set.tokens → BaysInRange (run_exchanges served)
+        → AreOfFile set.tokens
         → (keeps : Outcome → Bool) (sink : Sink) (lines : List Line) → AreWoven keeps set sink (run_exchanges served) lines
         → AllConform set.policy [] (texts lines) }
 {
@@ -45,7 +45,7 @@ pub fn batched_logs_conform<P: Plant, R: Routes>()
         (sink : Sink) (set : Settings) (options : RunOptions) (before after : PlantTells P.D.C) (tables : List R)
         (ended : Ended R P.L P.W P.H P.K P.Y P.D)
         (served : RunServed h P.Rt set options P.opens before after tables ended)
-        → AreOfFile set.tokens → BaysInRange (run_exchanges served)
+        → AreOfFile set.tokens
         → mode_of set sink ≡ Batch
         → BatchesConform h (side_sink h sink) (side_opens P.opens options sink) set sink options (side_allots served sink) (run_exchanges served)
         ended.bays.items (side_end ended sink) }
@@ -63,7 +63,7 @@ pub fn logs_at_once_conform<P: Plant, R: Routes>()
         (sink : Sink) (set : Settings) (options : RunOptions) (before after : PlantTells P.D.C) (tables : List R)
         (ended : Ended R P.L P.W P.H P.K P.Y P.D)
         (served : RunServed h P.Rt set options P.opens before after tables ended)
-        → AreOfFile set.tokens → BaysInRange (run_exchanges served)
+        → AreOfFile set.tokens
         → (mode_of set sink ≡ Blocking) ⊎ (mode_of set sink ≡ Strict) → (lines : List Line)
         → AreTriedByBays (side_sink h sink) (side_end ended sink).own.items lines → AllConform set.policy [] (texts lines) }
 {

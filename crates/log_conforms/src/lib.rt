@@ -6,9 +6,8 @@
 //! whichever order the bays did. Both rest on `lines_of_a_run_conform`, which speaks of the lines of any such offers of a run, whatever
 //! its sinks tell. None leaves out a line: those of a request whose reply was cut, and of one that memory stopped, are among them.
 //!
-//! Not promised: that facts are in the range of their types, which is a premise (`BaysInRange`); that a line has no line feed; and that a
-//! log has lines at all, of which `run_laws::nothing_is_lost_in_batches` speaks. That the known tokens are those of a token file is a premise
-//! too, which `front_config` meets.
+//! Not promised: that a line has no line feed; and that a log has lines at all, of which `run_laws::nothing_is_lost_in_batches` speaks. That
+//! the known tokens are those of a token file is a premise, which `front_config` meets.
 //!
 //! Nothing runs here: these are laws of definitions.
 #![tactic(auto)]

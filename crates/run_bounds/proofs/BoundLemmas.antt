@@ -1,5 +1,6 @@
 -- Events of exchanges that were read fit a line of `line_limit` bytes.
 use Rattle.std.proofs.Common.{◌≡◌, ℕ, ◌<◌, ◌≤◌, ◌^◌, Bool, false, List, [], ◌∷◌, ◌++◌, map, refl, ap, sym, ◌∙◌, subst}
+use Rattle.std.proofs.lemmas.List.Elements.{All-cons, All-nil}
 use Rattle.std.specs.List.{AllByRecursion}
 use Rattle.alike_requests.specs.Seen.{AreNoted, AreNotesOfFirst, Becomes, IsNoted, Seen, is_too_large, noted_by}
 use Rattle.audit_core.specs.Errand.{attributes_in}
@@ -12,6 +13,8 @@ use Rattle.audit_core.specs.declared.offers.Outcome.TheVariants as outcome
 use Rattle.audit_core.specs.declared.settings.Settings.{Settings}
 use Rattle.audit_core.specs.declared.sinks.Sink.{Sink}
 use Rattle.audit_core.specs.declared.stamp.Stamp.{Stamp}
+use Rattle.fact_ranges.specs.InRange.{AreInRange}
+use Rattle.fact_ranges.specs.Ranges.{IsPeer}
 use Rattle.front_base.specs.declared.level.Level.{Level}
 use Rattle.front_base.specs.declared.level.Level.TheVariants as levels
 use Rattle.front_base.specs.declared.moment.TheConstants.{MOMENT_END}
@@ -21,8 +24,8 @@ use Rattle.http_edge.specs.declared.request.Request.{Request}
 use Rattle.line_bounds.specs.Bounds.{IsAddress}
 use Rattle.policy_rules.specs.declared.omit.Omit.{Omit}
 use Rattle.request_bounds.specs.Bounds.{IsOffered, IsStamp, IsWritten, line_limit}
-use Rattle.run_bounds.specs.Bounds.{AllFit, AllInRange, AllRead, Fits, IsInRange, WasRead}
-use Rattle.run_bounds.proofs.ReadLemmas.{all_join}
+use Rattle.run_bounds.specs.Bounds.{AllFit, Fits}
+use Rattle.run_bounds.proofs.KnownLemmas.{AllKnown, IsKnown, all_join}
 use Rattle.session_core.specs.declared.exchange.Exchange.{Exchange}
 use Rattle.stage_event.specs.Events.{event}
 use Rattle.stage_event.specs.declared.event.Event.{Event}
@@ -53,21 +56,37 @@ all_owed P levels.Request omit facts h = all_map P (λ stage. event stage levels
 all_owed P levels.RequestResponse omit facts h =
     all_map P (λ stage. event stage levels.RequestResponse facts) (stages_due omit facts.info) (λ stage. h stage levels.RequestResponse)
 
+abbrev is_byte : ℕ → Type 0
+is_byte b = b < 256
+
+address_of : (ip : List ℕ) → IsPeer ip → IsAddress ip
+address_of [] h = absurd h
+address_of (a ∷ []) h = absurd h
+address_of (a ∷ b ∷ []) h = absurd h
+address_of (a ∷ b ∷ c ∷ []) h = absurd h
+address_of (a ∷ b ∷ c ∷ d ∷ []) h = (
+  refl,
+  All-cons is_byte a (b ∷ c ∷ d ∷ []) h.0
+      (All-cons is_byte b (c ∷ d ∷ []) h.1 (All-cons is_byte c (d ∷ []) h.2 (All-cons is_byte d [] h.3 (All-nil is_byte)))),
+)
+address_of (a ∷ b ∷ c ∷ d ∷ e ∷ more) h = absurd h
+
 -- what is noted of a stamp is in the range of its types
-stamp_in_range : (set : Settings) (s : Seen) → IsNoted set s → IsInRange s.exchange → IsStamp s.stamp
+stamp_in_range : (set : Settings) (s : Seen) → IsNoted set s → AreInRange s.exchange.facts → IsStamp s.stamp
 stamp_in_range set s g range = record {
-  peer = subst IsAddress (ap (λ (f : Facts). f.peer) g.facts_are) range.peer;
+  peer = subst IsAddress (ap (λ (f : Facts). f.peer) g.facts_are) (address_of s.exchange.facts.peer range.peer);
   received = subst (λ (n : ℕ). n < MOMENT_END) (ap (λ (f : Facts). f.received) g.facts_are) range.received;
   started = subst (λ (n : ℕ). n < MOMENT_END) (ap (λ (f : Facts). f.started) g.facts_are) range.started;
   complete = subst (λ (n : ℕ). n < MOMENT_END) (ap (λ (f : Facts). f.complete) g.facts_are) range.complete;
 }
 
-event_fits : EventsFit → (set : Settings) (s : Seen) → IsNoted set s → WasRead s.exchange.request → IsInRange s.exchange → line_limit set.tokens ≤ set.max_event
+event_fits : EventsFit → (set : Settings) (s : Seen) → IsNoted set s → IsKnown s.exchange → line_limit set.tokens ≤ set.max_event
     → (stage : Stage) (level : Level) → IsWritten (fitted (event stage level s.exchange.facts) set.max_event)
-event_fits fits set s g read range limit stage level =
+event_fits fits set s g known limit stage level =
     subst (λ (f : Facts). IsWritten (fitted (event stage level f) set.max_event)) (sym g.facts_are)
-    (fits set s.stamp s.request s.exchange.facts.status s.exchange.facts.request s.exchange.facts.reply stage level read.bytes read.after set.max_event
-    (subst (λ (r : Request). StartsWith read.bytes r read.after) g.asked read.starts) (stamp_in_range set s g range) range.status limit)
+    (fits set s.stamp s.request s.exchange.facts.status s.exchange.facts.request s.exchange.facts.reply stage level known.read.bytes known.read.after set.max_event
+    (subst (λ (r : Request). StartsWith known.read.bytes r known.read.after) g.asked known.read.starts) (stamp_in_range set s g known.in_range)
+    known.in_range.status limit)
 
 -- ---- its notes
 
@@ -97,11 +116,11 @@ all_notes (note ∷ notes) (due ∷ dues) w h = (written_offered due.fit note.ou
 
 -- ---- all of it
 
-one_fits : EventsFit → (set : Settings) (s : Seen) → IsNoted set s → WasRead s.exchange.request → IsInRange s.exchange → line_limit set.tokens ≤ set.max_event
+one_fits : EventsFit → (set : Settings) (s : Seen) → IsNoted set s → IsKnown s.exchange → line_limit set.tokens ≤ set.max_event
     → Fits set s.exchange
-one_fits fits set s g read range limit =
+one_fits fits set s g known limit =
     let events = all_owed (λ (e : Event). IsWritten (fitted e set.max_event)) s.exchange.decision.level s.exchange.decision.omit s.exchange.facts
-    (event_fits fits set s g read range limit) in
+    (event_fits fits set s g known limit) in
     record {
       events = events;
       offers = all_notes s.exchange.offers (offers_due set (owed s.exchange.decision s.exchange.facts))
@@ -109,7 +128,6 @@ one_fits fits set s g read range limit =
     }
 
 pub all_fit : EventsFit → (set : Settings) → line_limit set.tokens ≤ set.max_event → (all : List Seen) → AreNoted set all
-    → AllRead (noted_by all) → AllInRange (noted_by all) → AllFit set (noted_by all)
-all_fit fits set limit [] g read range = tt
-all_fit fits set limit (s ∷ all) g read range =
-    (one_fits fits set s g.0 read.0 range.0 limit, all_fit fits set limit all g.1 read.1 range.1)
+    → AllKnown (noted_by all) → AllFit set (noted_by all)
+all_fit fits set limit [] g known = tt
+all_fit fits set limit (s ∷ all) g known = (one_fits fits set s g.0 known.0 limit, all_fit fits set limit all g.1 known.1)

@@ -1,3 +1,3 @@
 mod BoundLemmas
 mod EndLemmas
-mod ReadLemmas
+mod KnownLemmas

@@ -3,9 +3,8 @@
 //! `no_event_of_a_run_is_too_large` says it of runs whose limit of a line is `request_bounds::line_limit` of their token file, or more.
 //! It holds of each exchange of each bay, also of one whose reply was cut and of one that memory stopped.
 //!
-//! Two premises: that each request was read from some bytes, and that the numbers of an exchange are in the range of their types.
-//! `requests_of_a_run_were_read` gives the first one for connections that ended after their last request or as a read failed. For the
-//! others it gives it where the bytes of the connection are observable, as in memory and not over TCP. No theorem gives the second one.
+//! `requests_of_a_run_were_read` says of each of these exchanges that its request was read from bytes that begin with it. Not promised: that
+//! these bytes are those of its connection, of which the contract of `session_core::serve_connection` speaks.
 //!
 //! Nothing runs here: these are laws of definitions.
 #![tactic(auto)]

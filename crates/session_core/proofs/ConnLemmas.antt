@@ -24,7 +24,7 @@ use Rattle.session_core.specs.Bays.{BayState}
 use Rattle.session_core.specs.Closing.{MayWish, NoneWished, closes, wishes_of}
 use Rattle.session_core.specs.Connection.{AreServed, ConnState, MayWishAt, Ran, FirstOf, refusal_of, WritesRefusal, ServedAll, ServedTaken, ServedCut, ServedBroken, ServedMost, ServedFirst, HaltsAt, Serves}
 use Rattle.session_core.specs.Ends.{Refuses, RefusesAt, ServesNext, ServesOne, SoFar, end_after, end_of_stop}
-use Rattle.session_core.specs.Exchange.{Exchanged, ExchangedTo, Halted, ReplyStopped, StoppedAt, StopsAtEnd, StopsBeforeEnd, Unbegun}
+use Rattle.session_core.specs.Exchange.{Exchanged, ExchangedTo, Halted, ReplyStopped, StoppedAt, StopsAtEnd, StopsBeforeEnd, Unbegun, WasRead}
 use Rattle.session_core.specs.Parts.{Outcomes}
 use Rattle.session_core.specs.declared.conn_end.ConnEnd.{ConnEnd}
 use Rattle.session_core.specs.declared.exchange.Exchange.{Exchange}
@@ -93,7 +93,9 @@ module _ (set : Settings) (peer : List ℕ) (r : Request) (m n : BayState) (w0 w
   halted_later : Halted set peer r m n w0 w rose x → Halted set peer r m n w0 w later x
   halted_later h = record {
     request_is = h.request_is;
+    read = h.read;
     begun = h.begun;
+    in_range = h.in_range;
     due = h.due;
     rest = h.rest;
     due_is = h.due_is;
@@ -525,6 +527,9 @@ mark_kept a b e = ap (λ (s : Side). s.mark) e
 
 pub wishes_kept : (a b : Side) → a ≡ b → a.wishes ≡ b.wishes
 wishes_kept a b e = ap (λ (s : Side). s.wishes) e
+
+pub was_read : (left0 left : Option (List ℕ)) (held0 held : List ℕ) (r : Request) → GotRequest left0 left held0 held r → WasRead r
+was_read left0 left held0 held r got = record { bytes = got.bytes; after = held; starts = got.starts }
 
 -- what was read first, and then written
 module _ (set : Settings) (peer : List ℕ) (m n : BayState) (x y : List ℕ) (left0 left1 left2 written0 written1 written2 : Option (List ℕ))

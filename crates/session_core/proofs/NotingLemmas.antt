@@ -23,6 +23,7 @@ use Rattle.event_offers.specs.Lanes.{LanesState}
 use Rattle.event_offers.specs.Offering.{Noted, OffersAll, stage_events, started_events, events_by}
 use Rattle.exchange_replies.specs.Sent.{is_head, DialState}
 use Rattle.exchange_replies.specs.Streams.{Came, once, streamed, link_of, Comes, IsKeptBy, WritesPart, WritesTo}
+use Rattle.fact_ranges.specs.InRange.{AreInRange}
 use Rattle.front_base.specs.AuditId.{AuditId}
 use Rattle.front_base.specs.declared.level.Level.{Level}
 use Rattle.front_base.specs.declared.memory.NoMemory.{NoMemory}
@@ -35,7 +36,7 @@ use Rattle.http_head.specs.declared.reply.ReplyHead.{ReplyHead}
 use Rattle.policy_rules.specs.declared.decision.Decision.{Decision}
 use Rattle.session_core.specs.Bays.{BayState, Recording, next_id}
 use Rattle.session_core.specs.Closing.{MayWish, closes, tag_by}
-use Rattle.session_core.specs.Exchange.{ExchangedTo, AnsweredBy, Halted, IsTimed, IsTimedSoFar, arrival_due, answered_of, errand_after, is_long, moments_by, unrouted}
+use Rattle.session_core.specs.Exchange.{ExchangedTo, AnsweredBy, Halted, IsTimed, IsTimedSoFar, WasRead, arrival_due, answered_of, errand_after, is_long, moments_by, unrouted}
 use Rattle.session_core.specs.Parts.{AnsweredTo, AnswerHalts, AnswerHaltsAt, Handled, HandleHalts, HaltsAtEnd, HaltsBeforeEnd, IsStartedBy, IsTimedBy, Outcomes, SendHalts, StageOffered, end_due, known_facts, later_moments, object_show, outcome_of, ReplyHaltsAt, sending, start_due}
 use Rattle.session_core.specs.Steps.{Arrived, WorkState, exchange_of, first_facts, first_work, linked, stamp_at, with_start}
 use Rattle.session_core.specs.declared.begun.Begun.{Begun}
@@ -149,7 +150,7 @@ module _ (m : BayState) (id : AuditId) (peer : List ℕ) (last : ℕ) (given : O
 module _ (join : Join) (hides : HidesLater) (stages : Stages) (both : DueOfBoth) (set : Settings) (peer : List ℕ) (r : Request) (m : BayState)
     (last : ℕ) (given : Option (List ℕ)) (kept : Kept) (kept_is : KeepsRequest (decision_in set r) (attributes_in set r) r kept)
     (grows : Grows m.given given (last ∷ [])) (le : m.last ≤ last)
-    (op : List Row) (seen : List Change) (own : List (ℕ × Change)) (l1 : LanesState) (nn : Option (List Exchange)) (op_is : op ≡ m.opening) where
+    (op : List Row) (seen : List Change) (own : List (ℕ × Change)) (l1 : LanesState) (nn : Option (List Exchange)) (op_is : op ≡ m.opening) (read : WasRead r) where
   -- what it began with
   abbrev pub w : WorkState
   w = first_work (decision_in set r) (first_facts set (stamp_at peer m last) r kept)
@@ -240,7 +241,10 @@ module _ (join : Join) (hides : HidesLater) (stages : Stages) (both : DueOfBoth)
   -- ---- it was answered
 
   module _ (routed : Routed) (a v : WorkState) (h : Handles a routed) (dial : DialState) (b : Recording) (w0 w1 : Option (List ℕ)) (rose : Type 0)
-      (adds : Adds m.notes nn (exchange_of r routed v ∷ [])) where
+      (adds : Adds m.notes nn (exchange_of r routed v ∷ [])) (range : AreInRange v.facts) where
+    in_range_by : (t : WorkState) → v ≡ t → AreInRange t.facts
+    in_range_by t e = subst (λ (own : WorkState). AreInRange own.facts) e range
+
     decides_by : has_refused set v.notes ≡ has_refused set a.notes
         → Decides set.endpoints (errand_after set v.notes (errand_in set r last)) m.opening m.seen m.own seen own routed
     decides_by e =
@@ -277,6 +281,7 @@ module _ (join : Join) (hides : HidesLater) (stages : Stages) (both : DueOfBoth)
           x,
           record {
             request_is = refl;
+            read = read;
             routed = decides_by s.refuses;
             came = s.came;
             sent = s.comes;
@@ -286,6 +291,7 @@ module _ (join : Join) (hides : HidesLater) (stages : Stages) (both : DueOfBoth)
             peer_is = refl;
             timed = timed_whole m (next_id m) peer last given grows le l1 b (is_long r) s.started s.complete (bay dial b) refl refl s.timed;
             answered = answered_by routed.handling (is_long r) m.dial dial s.came end stamp (answered_of x) s.comes refl refl kept_is s.kept_is refl;
+            in_range = in_range_by (noted_as s.came s.wished facts) s.work_is;
             offered = subst (λ (l : List Due). OffersAll l m.lanes v.notes b.lanes) (sym (due_all facts))
                 (offered_all s.came facts (answer.status_of routed.handling (link_of s.came)) s.started s.complete s.kept
                 (start_due set w.decision facts ++ end_due set w.decision facts) refl s.noted);
@@ -311,7 +317,9 @@ module _ (join : Join) (hides : HidesLater) (stages : Stages) (both : DueOfBoth)
           x,
           record {
             request_is = refl;
+            read = read;
             begun = record { stamp = stamp_at peer m last; id_is = refl; peer_is = refl; decision_is = refl; request_is = kept_is; facts_are = refl };
+            in_range = in_range_by (offered a.notes) s.work_is;
             due = due;
             rest = start_due set w.decision w.facts ++ end_due set w.decision w.facts;
             due_is = due_all w.facts;
@@ -357,7 +365,9 @@ module _ (join : Join) (hides : HidesLater) (stages : Stages) (both : DueOfBoth)
             x,
             record {
               request_is = refl;
+              read = read;
               begun = record { stamp = stamp; id_is = refl; peer_is = refl; decision_is = refl; request_is = kept_is; facts_are = refl };
+              in_range = in_range_by (noted_as came wished facts) s.work_is;
               due = arrival_due set x ++ s.due;
               rest = all.0;
               due_is = due_all facts ∙ ap (λ l. arrival_due set x ++ l) all.1 ∙ sym (append_assoc (arrival_due set x) s.due all.0);
@@ -412,7 +422,9 @@ module _ (join : Join) (hides : HidesLater) (stages : Stages) (both : DueOfBoth)
             x,
             record {
               request_is = refl;
+              read = read;
               begun = record { stamp = stamp; id_is = refl; peer_is = refl; decision_is = refl; request_is = kept_is; facts_are = refl };
+              in_range = in_range_by (noted_as came wished facts) s.work_is;
               due = arrival_due set x ++ starts;
               rest = end_due set w.decision facts;
               due_is = due_all facts ∙ sym (append_assoc (arrival_due set x) starts (end_due set w.decision facts));
@@ -455,9 +467,9 @@ module _ (join : Join) (hides : HidesLater) (stages : Stages) (both : DueOfBoth)
   -- ---- memory ran out before it was handled
 
   undecided : (v : WorkState) (w0 : Option (List ℕ)) (rose : Type 0) → HandleHalts set m.seen m.own m.lanes w seen own l1 v
-      → Adds m.notes nn (exchange_of r unrouted v ∷ [])
+      → Adds m.notes nn (exchange_of r unrouted v ∷ []) → AreInRange v.facts
       → (x : Exchange) × Halted set peer r m (bay m.dial first) w0 w0 rose x × (x.wished ≡ false)
-  undecided v w0 rose s adds = by s.offered
+  undecided v w0 rose s adds range = by s.offered
     where
       by : ((l1 ≡ m.lanes) × (v ≡ w)) ⊎ StageOffered set RequestReceived m.lanes w l1 v
           → (x : Exchange) × Halted set peer r m (bay m.dial first) w0 w0 rose x × (x.wished ≡ false)
@@ -466,7 +478,9 @@ module _ (join : Join) (hides : HidesLater) (stages : Stages) (both : DueOfBoth)
             x,
             record {
               request_is = refl;
+              read = read;
               begun = record { stamp = stamp_at peer m last; id_is = refl; peer_is = refl; decision_is = refl; request_is = kept_is; facts_are = refl };
+              in_range = subst (λ (t : WorkState). AreInRange t.facts) q.1 range;
               due = [];
               rest = offers_due set (owed w.decision w.facts);
               due_is = refl;
@@ -498,7 +512,9 @@ module _ (join : Join) (hides : HidesLater) (stages : Stages) (both : DueOfBoth)
             x,
             record {
               request_is = refl;
+              read = read;
               begun = record { stamp = stamp_at peer m last; id_is = refl; peer_is = refl; decision_is = refl; request_is = kept_is; facts_are = refl };
+              in_range = subst (λ (t : WorkState). AreInRange t.facts) q.work_is range;
               due = arrival_due set x;
               rest = start_due set w.decision w.facts ++ end_due set w.decision w.facts;
               due_is = due_all w.facts;
@@ -553,17 +569,17 @@ module _ (join : Join) (hides : HidesLater) (stages : Stages) (both : DueOfBoth)
         inr (h.0, h.1, subst (MayWish v0 v1 false) (sym h.2) (subst (λ (o : Bool). MayWish v0 v1 o wished) none may))
 
   pub outcomes : (routed : Routed) (a v : WorkState) (h : Handles a routed) (dial : DialState) (b : Recording) (w0 w1 : Option (List ℕ)) (rose : Type 0)
-      (v0 v1 : Option (List Bool)) → Adds m.notes nn (exchange_of r routed v ∷ []) → (res : Result Relayed NoMemory) (closing : Bool)
+      (v0 v1 : Option (List Bool)) → Adds m.notes nn (exchange_of r routed v ∷ []) → AreInRange v.facts → (res : Result Relayed NoMemory) (closing : Bool)
       → closing ≡ closes r v.wished
       → IfOk res (AnsweredTo set r routed.handling m.dial dial first a b v w0 w1 rose)
       → OnErr res (AnswerHalts set r routed.handling m.dial dial first a b v w0 w1 rose)
       → OnOk res (GivesWish v0 v1 v.wished) → OnErr res (MayWish v0 v1 a.wished v.wished) → Ends dial b w0 w1 rose v0 v1 res closing
-  outcomes routed a v h dial b w0 w1 rose v0 v1 adds (Ok end) closing is s f g may =
-      whole dial b w0 w1 rose v0 v1 v.wished end closing is g (exchanged routed a v h dial b w0 w1 rose adds end
+  outcomes routed a v h dial b w0 w1 rose v0 v1 adds range (Ok end) closing is s f g may =
+      whole dial b w0 w1 rose v0 v1 v.wished end closing is g (exchanged routed a v h dial b w0 w1 rose adds range end
       (subst (λ (t : WorkState). AnsweredTo set r routed.handling m.dial dial first t b v w0 w1 rose end) h.offered.work_is s))
-  outcomes routed a v h dial b w0 w1 rose v0 v1 adds (Err e) closing is s f g may =
+  outcomes routed a v h dial b w0 w1 rose v0 v1 adds range (Err e) closing is s f g may =
       part dial b w0 w1 rose v0 v1 v.wished closing a.wished e (ap (λ (t : WorkState). t.wished) h.offered.work_is) may
-      (answer_halted routed a v h dial b w0 w1 rose adds
+      (answer_halted routed a v h dial b w0 w1 rose adds range
       (subst (λ (t : WorkState). AnswerHalts set r routed.handling m.dial dial first t b v w0 w1 rose) h.offered.work_is f))
 
 -- ---- by what was judged
@@ -571,7 +587,7 @@ module _ (join : Join) (hides : HidesLater) (stages : Stages) (both : DueOfBoth)
 module _ (join : Join) (hides : HidesLater) (stages : Stages) (both : DueOfBoth) (set : Settings) (peer : List ℕ) (r : Request) (begun : Begun)
     (m k : BayState) (arrived : Arrived set peer r begun m k)
     (op : List Row) (seen : List Change) (own : List (ℕ × Change)) (l1 : LanesState) (nn : Option (List Exchange)) (op_is : op ≡ k.opening)
-    (begins : WorkState) (begins_is : begins ≡ first_work begun.decision begun.facts) where
+    (begins : WorkState) (begins_is : begins ≡ first_work begun.decision begun.facts) (read : WasRead r) where
   -- the bay in the end
   abbrev pub after : BayState → DialState → Recording → BayState
   after q dial b = record {
@@ -600,13 +616,13 @@ module _ (join : Join) (hides : HidesLater) (stages : Stages) (both : DueOfBoth)
 
   pub answered_outcomes : (routed : Routed) (a v : WorkState) → Handled set begun.errand k.opening k.seen k.own k.lanes begins seen own l1 a routed
       → (dial : DialState) (b : Recording) (w0 w1 : Option (List ℕ)) (rose : Type 0) (v0 v1 : Option (List Bool))
-      → Adds k.notes nn (exchange_of r routed v ∷ [])
+      → Adds k.notes nn (exchange_of r routed v ∷ []) → AreInRange v.facts
       → (res : Result Relayed NoMemory) (closing : Bool) (ended : Outcome) → ended ≡ outcome_of res closing → closing ≡ closes r v.wished
       → IfOk res (AnsweredTo set r routed.handling k.dial dial reads a b v w0 w1 rose)
       → OnErr res (AnswerHalts set r routed.handling k.dial dial reads a b v w0 w1 rose)
       → OnOk res (GivesWish v0 v1 v.wished) → OnErr res (MayWish v0 v1 a.wished v.wished)
       → Outcomes set peer r m (after k dial b) w0 w1 rose v0 v1 ended
-  answered_outcomes routed a v h dial b w0 w1 rose v0 v1 adds res closing ended is closing_is s f g may =
+  answered_outcomes routed a v h dial b w0 w1 rose v0 v1 adds range res closing ended is closing_is s f g may =
       subst (λ (o : Outcome). Outcomes set peer r m (after k dial b) w0 w1 rose v0 v1 o) (sym is)
       (subst (λ (q : BayState). Handled set (errand_in set r k.last) q.opening q.seen q.own q.lanes judged seen own l1 a routed → Adds q.notes nn (exchange_of r routed v ∷ [])
       → op ≡ q.opening → IfOk res (AnsweredTo set r routed.handling q.dial dial reads a b v w0 w1 rose)
@@ -614,18 +630,18 @@ module _ (join : Join) (hides : HidesLater) (stages : Stages) (both : DueOfBoth)
       → Outcomes set peer r m (after q dial b) w0 w1 rose v0 v1 (outcome_of res closing))
       (sym arrived.bay_is)
       (λ h adds o s f. outcomes join hides stages both set peer r m k.last k.given arrived.is_begun.kept arrived.is_begun.kept_is arrived.given arrived.later
-      op seen own l1 nn o routed a v h dial b w0 w1 rose v0 v1 adds res closing closing_is s f g may)
+      op seen own l1 nn o read routed a v h dial b w0 w1 rose v0 v1 adds range res closing closing_is s f g may)
       (judged_by (λ e t. Handled set e k.opening k.seen k.own k.lanes t seen own l1 a routed) h) adds op_is s f)
 
   pub undecided_outcome : (v : WorkState) (w0 : Option (List ℕ)) (rose : Type 0) (v0 : Option (List Bool))
       → HandleHalts set k.seen k.own k.lanes begins seen own l1 v
-      → Adds k.notes nn (exchange_of r unrouted v ∷ []) → Outcomes set peer r m (after k k.dial reads) w0 w0 rose v0 v0 outcome.NoMemory
-  undecided_outcome v w0 rose v0 h adds =
+      → Adds k.notes nn (exchange_of r unrouted v ∷ []) → AreInRange v.facts → Outcomes set peer r m (after k k.dial reads) w0 w0 rose v0 v0 outcome.NoMemory
+  undecided_outcome v w0 rose v0 h adds range =
       subst (λ (q : BayState). HandleHalts set q.seen q.own q.lanes judged seen own l1 v → Adds q.notes nn (exchange_of r unrouted v ∷ [])
       → op ≡ q.opening → Outcomes set peer r m (after q q.dial reads) w0 w0 rose v0 v0 outcome.NoMemory)
       (sym arrived.bay_is)
       (λ h adds o.
       let all = undecided join hides stages both set peer r m k.last k.given arrived.is_begun.kept arrived.is_begun.kept_is arrived.given arrived.later
-      op seen own l1 nn o v w0 rose h adds in
+      op seen own l1 nn o read v w0 rose h adds range in
       inr (all.0, all.1, inl (refl, all.2)))
       (judged_by (λ e t. HandleHalts set k.seen k.own k.lanes t seen own l1 v) h) adds op_is

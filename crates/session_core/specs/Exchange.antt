@@ -21,10 +21,12 @@ use Rattle.audit_core.specs.declared.stamp.Stamp.{Stamp}
 use Rattle.event_offers.specs.Offering.{OffersAll, stage_events, started_events}
 use Rattle.exchange_replies.specs.Sent.{is_head, sent_on, StopsSending}
 use Rattle.exchange_replies.specs.Streams.{Came, once, streamed, link_of, reply_body, Comes, IsCutOff, Replies, WritesPart, WritesTo}
+use Rattle.fact_ranges.specs.InRange.{AreInRange}
 use Rattle.front_base.specs.Info.{is_long_running}
 use Rattle.front_base.specs.declared.stage.Stage.TheVariants as stage
 use Rattle.front_ports.specs.Cause.{Rose}
 use Rattle.front_ports.specs.Told.{Grows, Adds}
+use Rattle.http_edge.specs.Requests.{StartsWith}
 use Rattle.http_edge.specs.declared.request.Request.{Request}
 use Rattle.session_core.specs.Bays.{BayState, next_id}
 use Rattle.session_core.specs.Closing.{tag_by}
@@ -33,6 +35,12 @@ use Rattle.stage_event.specs.Due.{reply_show}
 use Rattle.stage_event.specs.declared.facts.Kept.TheVariants.{NotAsked}
 use Rattle.stream_relay.specs.declared.stream.Relayed.{Relayed}
 use Rattle.stream_relay.specs.declared.stream.Relayed.TheVariants as relayed
+
+-- some bytes begin with the request, so it is one that this server reads
+pub record WasRead (r : Request) : Type 0 where
+  pub bytes : List ℕ
+  pub after : List ℕ
+  pub starts : StartsWith bytes r after
 
 -- ---- how it is handled
 
@@ -92,6 +100,7 @@ AnsweredBy set stamp r handling (streamed head frame after) _ x =
 pub record ExchangedTo (set : Settings) (peer : List ℕ) (r : Request) (m : BayState) (text : List ℕ) (n : BayState) (end : Relayed)
     (x : Exchange) : Type 0 where
   pub request_is : x.request ≡ r
+  pub read : WasRead r
   -- the rows that were seen decide, and the change that it makes stands next
   pub routed : Decides set.endpoints (errand_after set x.offers (errand_in set r x.facts.received)) m.opening m.seen m.own n.seen n.own (routed_of x)
   -- it was sent on where it is to be, its link was handed back, and what came is what all bytes of the link say
@@ -104,6 +113,7 @@ pub record ExchangedTo (set : Settings) (peer : List ℕ) (r : Request) (m : Bay
   pub peer_is : stamp.peer ≡ peer
   pub timed : IsTimed (is_long r) m n stamp
   pub answered : AnsweredBy set stamp r x.handling came end (answered_of x)
+  pub in_range : AreInRange x.facts
   -- each event that it owes was offered to each sink that is on
   pub offered : OffersAll (offers_due set (owed x.decision x.facts)) m.lanes x.offers n.lanes
   -- the client's bytes, which say that the connection ends where the request asks so or the connection wished it
@@ -229,7 +239,9 @@ StoppedAt set r m n w0 w rose stamp due x =
 pub record Halted (set : Settings) (peer : List ℕ) (r : Request) (m n : BayState) (w0 w : Option (List ℕ)) (rose : Type 0) (x : Exchange)
     : Type 0 where
   pub request_is : x.request ≡ r
+  pub read : WasRead r
   pub begun : AreBegun set peer r m x
+  pub in_range : AreInRange x.facts
   pub due : List Due
   pub rest : List Due
   pub due_is : offers_due set (owed x.decision x.facts) ≡ due ++ rest

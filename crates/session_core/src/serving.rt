@@ -8,6 +8,7 @@ ghost use Rattle.session_core.specs.Closing.{IsAside};
 ghost use Rattle.session_core.specs.Connection.{conn_state};
 ghost use Rattle.session_core.specs.Connection as spec;
 ghost use Rattle.session_core.specs.Ends as ends;
+ghost use Rattle.session_core.specs.Exchange.{WasRead};
 ghost use Rattle.session_core.specs.declared.exchange.Exchange.{Exchange};
 
 use crate::bay::Bay;
@@ -90,6 +91,7 @@ fn serve_numbered<C: Conn, R: Routes, D: Dial, A: Lane, B: Lane, K: Clock, Y: Di
     conn: &mut C,
     request: Request,
 ) -> Option<ConnEnd>
+    requires read { WasRead request }
     requires ready { IsReady settings.now (bay_state R.Routes D.Dial A.Lane B.Lane K.Clock Y.Diary bay.old) }
     ensures serves { ends.ServesOne settings.now (C.from conn.old) request
         (bay_state R.Routes D.Dial A.Lane B.Lane K.Clock Y.Diary bay.old) (bay_state R.Routes D.Dial A.Lane B.Lane K.Clock Y.Diary bay.new)

@@ -6,6 +6,7 @@ ghost use Rattle.front_base.specs.declared.audit_id.TheConstants.{MOST_REQUESTS}
 ghost use Rattle.front_ports.specs.Cause.{Rose};
 ghost use Rattle.session_core.specs.Bays.{bay_state, BayState, CanOffer, IsReady};
 ghost use Rattle.session_core.specs.Closing.{IsAside};
+ghost use Rattle.session_core.specs.Exchange.{WasRead};
 ghost use Rattle.session_core.specs.Parts as spec;
 ghost use Rattle.session_core.specs.Steps as steps;
 
@@ -73,6 +74,7 @@ fn serve_begun<C: Conn, R: Routes, D: Dial, A: Lane, B: Lane, K: Clock, Y: Diary
 ) -> Outcome
     requires offer { CanOffer settings.now (lanes_state A.Lane B.Lane bay.old.lanes) 3 }
     requires status { IsFinalErrand begun.errand }
+    requires read { WasRead request }
     requires number { bay.old.number < MOST_REQUESTS }
     requires room { Y.has_room bay.old.diary ≡ true }
     ensures outcome { (peer : List ℕ) (m : BayState)
@@ -132,6 +134,7 @@ pub fn serve_request<C: Conn, R: Routes, D: Dial, A: Lane, B: Lane, K: Clock, Y:
 ) -> Outcome
     requires ready { IsReady settings.now (bay_state R.Routes D.Dial A.Lane B.Lane K.Clock Y.Diary bay.old) }
     requires number { bay.old.number < MOST_REQUESTS }
+    requires read { WasRead request }
     ensures outcome { spec.Outcomes settings.now (C.from conn.old) request (bay_state R.Routes D.Dial A.Lane B.Lane K.Clock Y.Diary bay.old)
         (bay_state R.Routes D.Dial A.Lane B.Lane K.Clock Y.Diary bay.new) (C.written conn.old) (C.written conn.new)
         (Rose (C.write_faults conn.old) (C.write_faults conn.new)) (C.wishes conn.old) (C.wishes conn.new) result }

@@ -1,6 +1,7 @@
 // A request while it is served.
 ghost use Rattle.std.specs.Prelude.{◌≡◌, ◌≢◌, [], OnOk, OnErr};
 ghost use Rattle.event_offers.specs.Lanes.{lanes_state};
+ghost use Rattle.fact_ranges.specs.InRange.{AreInRange};
 ghost use Rattle.session_core.specs.Bays.{CanOffer};
 ghost use Rattle.session_core.specs.Closing.{closes};
 ghost use Rattle.session_core.specs.Exchange.{errand_after, unrouted};
@@ -13,6 +14,7 @@ use audit_core::{
 };
 use event_offers::{Lanes, offer_stage};
 use exchange_replies::ReplyTag;
+use fact_ranges::facts_are_in_range;
 use front_base::{NoMemory, Stage};
 use http_edge::{Request, asks};
 use policy_rules::Decision;
@@ -106,8 +108,10 @@ impl Work {
 
     /// What is told of a request that was handled so.
     pub fn into_exchange(self, request: Request, routed: Routed) -> Exchange
-        ensures { result ≡ spec.exchange_of request routed (spec.work_state self) }
+        ensures is { result ≡ spec.exchange_of request routed (spec.work_state self) }
+        ensures in_range { AreInRange self.facts }
     {
+        facts_are_in_range(&self.facts);
         Exchange {
             request,
             row: routed.row,

@@ -4,6 +4,7 @@ use Rattle.audit_core.specs.Errand.{info_in, user_in, asker, act_in}
 use Rattle.audit_core.specs.Exchange.{decision_in}
 use Rattle.audit_core.specs.declared.settings.Settings.{Settings}
 use Rattle.audit_core.specs.declared.stamp.Stamp.{Stamp}
+use Rattle.fact_ranges.specs.InRange.{AreInRange}
 use Rattle.http_edge.specs.declared.request.Request.{Request}
 use Rattle.http_head.specs.Name.{first_value}
 use Rattle.http_head.specs.declared.request.Head.{Head}
@@ -18,7 +19,7 @@ use Rattle.token_users.specs.Who.{user_of, who}
 use Rattle.token_users.specs.declared.record.Record.{Record}
 use Rattle.audit_reader.specs.Plain.{somebody_or_none}
 use Rattle.audit_check.specs.Agreement.{acting_in_place, user_in_place}
-use Rattle.audit_check.specs.OwnLines.{AreInRange, AreOfFile, IsRecorded}
+use Rattle.audit_check.specs.OwnLines.{AreOfFile, IsRecorded}
 use Rattle.audit_check.proofs.ActLemmas.{acts_in_place, acts_somebody}
 use Rattle.audit_check.proofs.OwnLemmas.{FitLaws, KeptLaws, Recorded, shown, shown_of_any, own_conform, own_are_of}
 use Rattle.audit_check.proofs.UserLemmas.{carried_in_place, nobody_in_place}

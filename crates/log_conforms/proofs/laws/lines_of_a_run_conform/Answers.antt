@@ -6,10 +6,10 @@ use Rattle.serve_roles.specs.Doors.{bay_handles}
 use Rattle.serve_runs.specs.Served.{run_exchanges}
 
 pub returns : goal.returns
-returns g c = λ set options before after tables ended served tokens range keeps sink lines woven.
+returns g c = λ set options before after tables ended served tokens keeps sink lines woven.
     let h = bay_handles g.R.Routes g.P.L.Dial g.P.W.BatchSink g.P.H.BatchSink g.P.K.Clock g.P.Y.Diary g.P.D.Door
     g.P.D.C.Source g.P.D.C.ByteSink g.P.D.C.Conn in
     c.woven_lines_conform.ensures set served.boot keeps sink (run_exchanges served) lines tokens
     (λ bay. bay_noted h set (log_opens g.P.Plant.opens) (hook_opens g.P.Plant.opens options.hook_url) served.boot before.due tables served.logs served.hooks
     c.exchanges_are_recorded.ensures bay (slice_get ended.bays.items bay) (served.each bay))
-    range woven
+    woven

@@ -1,6 +1,9 @@
 use Rattle.std.proofs.Common.{ap, arith, refl, sym, Some, ◌∙◌}
-use Rattle.session_core.proofs.ConnLemmas.{faults_kept, mark_kept, next_none, next_read, told_kept, wishes_kept}
+use Rattle.session_core.proofs.ConnLemmas.{faults_kept, mark_kept, next_none, next_read, told_kept, was_read, wishes_kept}
 use Rattle.session_core.proofs.serving.serve_next.Goals as goal
+
+pub serve_numbered-requires-clause-read : goal.serve_numbered-requires-clause-read
+serve_numbered-requires-clause-read g c = was_read _ _ _ _ c.in-Ok.request c.in-Ok.ensures.ok
 
 pub returns-in-Ok-clause-serves : goal.returns-in-Ok-clause-serves
 returns-in-Ok-clause-serves g c =
