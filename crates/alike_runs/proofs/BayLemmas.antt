@@ -67,7 +67,14 @@ module _ {R L N W H K Y D C S : Type 0} (h : BayHandles R L N W H K Y D C) (set 
       (u : TriedLines h s opens set sink other.own.items (ys k) k y) → AlikeBreaks (s.tells t.to) (s.tells u.to)
       → SameBytes (s.tells t.to) (s.tells u.to)
   own_bytes tried sent singles opened k x y t u a =
-      same_bytes sent opens (s.tells t.to) (s.tells u.to) opened t.sent u.sent (cut_of_breaks singles (s.tells t.to) (s.tells u.to) t.single u.single a)
+      same_bytes sent opens (s.tells t.to) (s.tells u.to) opened t.sent u.sent
+      (record {
+        these = a.these;
+        those = a.those;
+        told = a.told;
+        other_told = a.other_told;
+        cut = cut_of_breaks singles (s.tells t.to) (s.tells u.to) t.single u.single a;
+      })
       (some_is (s.tells t.to).tries (λ ts. lines_of ts ≡ lines_by is_tried set sink (xs k) k) a.these t.lines a.told
       ∙ tried set sink k (xs k) (ys k) (alike k)
       ∙ sym (some_is (s.tells u.to).tries (λ ts. lines_of ts ≡ lines_by is_tried set sink (ys k) k) a.those u.lines a.other_told))

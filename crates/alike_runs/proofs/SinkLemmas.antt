@@ -39,14 +39,9 @@ same_bytes sent opens sink other o s t a e = λ these those p q.
 
 -- tries of one line each, whose ports failed alike, were cut alike
 pub cut_of_breaks : (singles : Singles) (sink other : SinkTells) → IfSome sink.tries (All IsSingle) → IfSome other.tries (All IsSingle)
-    → AlikeBreaks sink other → AlikeTries sink other
-cut_of_breaks singles sink other p q a = record {
-  these = a.these;
-  those = a.those;
-  told = a.told;
-  other_told = a.other_told;
-  cut = singles a.these a.those (of_told sink.tries (All IsSingle) a.these p a.told) (of_told other.tries (All IsSingle) a.those q a.other_told) a.broke;
-}
+    → (a : AlikeBreaks sink other) → cuts a.these ≡ cuts a.those
+cut_of_breaks singles sink other p q a =
+    singles a.these a.those (of_told sink.tries (All IsSingle) a.these p a.told) (of_told other.tries (All IsSingle) a.those q a.other_told) a.broke
 
 -- tries that are told
 pub tries_are : (told : Option (List Try)) (tries own : List Try) → IfSome told (λ these. these ≡ own) → told ≡ Some tries → tries ≡ own
