@@ -1,5 +1,5 @@
 -- How many events of a run of `explain` are too large.
-use Rattle.std.proofs.Common.{◌≡◌, ◌≤◌, ◌<◌, ◌+◌, ◌*◌, ◌^◌, ℕ, Bool, true, false, cond, if◌then◌else◌, List, [], ◌∷◌, ◌++◌, length, Option, inl, inr, refl, ap, ap₂, sym, ◌∙◌, subst, arith, lit≤}
+use Rattle.std.proofs.Common.{◌≡◌, ◌≤◌, ◌<◌, ◌+◌, ◌^◌, ℕ, Bool, true, false, cond, if◌then◌else◌, List, [], ◌∷◌, ◌++◌, Option, inl, inr, refl, ap₂, sym, ◌∙◌, subst, arith, lit≤}
 use Rattle.std.proofs.lemmas.List.Elements.{All-from_recursion}
 use Rattle.std.proofs.lemmas.List.Sums.{sum_by-cons}
 use Rattle.std.specs.List.{AllByRecursion}
@@ -21,7 +21,7 @@ use Rattle.command_ends.specs.declared.status.Status.{Status}
 use Rattle.command_ends.specs.declared.status.Status.TheVariants as stop
 use Rattle.exchange_replies.specs.Statuses.{IsFinalErrand, IsFinalHandling}
 use Rattle.explain_run.specs.Desk.{Configures, Run}
-use Rattle.explain_run.specs.Lines.{AreLines, IsLines, empty_reply, own_address, stamp_of, rows_after, too_large_of}
+use Rattle.explain_run.specs.Lines.{AreLines, IsLines, empty_reply, own_address, stamp_of, rows_after}
 use Rattle.explain_run.specs.Pushing.{is_too_large, too_large}
 use Rattle.explain_run.specs.Serving.{FirstOf, Serves}
 use Rattle.explain_run.specs.declared.setup.Setup.{Setup}

@@ -13,7 +13,6 @@ use Rattle.serve_roles.specs.Doors.{BayHandles, tells_of}
 use Rattle.serve_roles.specs.declared.bay_end.BayEnd.{BayEnd}
 use Rattle.serve_runs.specs.Served.{BayServed, exchanges_if}
 use Rattle.session_core.specs.Bays.{BayState}
-use Rattle.session_core.specs.declared.exchange.Exchange.{Exchange}
 
 -- the laws that are called
 abbrev pub Notes : Type 0 → Type 0
