@@ -105,7 +105,11 @@ final_is_short (Refused code) h = below_word code h.1
 final_is_short (Served local reply change) h = below_word reply.status h.1
 final_is_short (Proxied target) h = lit≤ tt
 
-not_large : (written : Fit) → IsWritten written → cond (is_too_large written) 1 0 ≡ 0
+-- how many events it leaves out
+abbrev left_out : Fit → ℕ
+left_out written = cond (is_too_large written) 1 0
+
+not_large : (written : Fit) → IsWritten written → left_out written ≡ 0
 not_large (fit.Whole line) h = refl
 not_large (fit.Stripped line) h = refl
 not_large (fit.TooLarge size) h = absurd h
@@ -113,8 +117,8 @@ not_large (fit.TooLarge size) h = absurd h
 none_large : (max : ℕ) (events : List Event) → AllByRecursion (λ (e : Event). IsWritten (fitted e max)) events → too_large max events ≡ 0
 none_large max [] h = refl
 none_large max (e ∷ events) h =
-    sum_by-cons (λ (own : Event). cond (is_too_large (fitted own max)) 1 0) e events
-    ∙ ap₂ (λ own rest. own + rest) (not_large (fitted e max) h.0) (none_large max events h.1)
+    sum_by-cons (λ (own : Event). left_out (fitted own max)) e events
+    ∙ ap₂ (λ (own rest : ℕ). own + rest) (not_large (fitted e max) h.0) (none_large max events h.1)
 
 none_unless : (routes : Bool) (n : ℕ) → n ≡ 0 → (if routes then 0 else n) ≡ 0
 none_unless true n e = refl
